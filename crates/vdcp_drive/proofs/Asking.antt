@@ -27,45 +27,29 @@ use Rattle.vdcp_drive.specs.declared.vacancy.Question.TheVariants as question
 use Rattle.vdcp_drive.specs.declared.vacancy.Vacancy.{Vacancy}
 use Rattle.vdcp_drive.specs.declared.vacancy.Vacancy.TheVariants as vacancy
 use Rattle.vdcp_drive.specs.declared.vacancy.Burst.TheVariants as burst
-use Rattle.vdcp_wire.specs.Wires.{Arrival, bytes, silence, close, Told, IfTold, SendsFront, adds_came, adds_drop, adds_sent, came_with, has_closed, nothing_told}
+use Rattle.vdcp_wire.specs.Wires.{Arrival, bytes, silence, close, Told, IfTold, SendsFront, adds_came, adds_drop, adds_sent, has_closed, nothing_told}
 use Rattle.vdcp_wire.specs.WireLaws.{closed_bytes, closed_silence, closed_close}
 use Rattle.vdcp_drive.proofs.Cutting.{ended_bytes, open_bytes, ended_silence, open_silence, ended_close}
 use Rattle.vdcp_drive.proofs.Coursing.{bursts_on}
 use Rattle.vdcp_drive.proofs.Firsts.{says_burst}
+use Rattle.vdcp_drive.proofs.Tracing.{places_both}
 
 -- Places of commands.
-
-pub starts_push : (unit n : ℕ) (commands : List Command) (c : Command)
-    → starts_behind unit n (commands ++ c ∷ []) ≡ starts_behind unit n commands ++ (n + length (bytes_of unit commands))
-    ∷ []
-starts_push unit n [] c = ap (λ (m : ℕ). m ∷ []) (omega arith)
-starts_push unit n (d ∷ commands) c =
-    ap (λ (l : List ℕ). n ∷ l) (starts_push unit (n + length (command_bytes unit d)) commands c
-    ∙ ap (λ (m : ℕ). starts_behind unit (n + length (command_bytes unit d)) commands ++ m ∷ []) (omega (
-      arith,
-      length-append (command_bytes unit d)
-          (bytes_of unit commands),
-    )))
 
 pub starts_of_push : (unit : ℕ) (commands : List Command) (c : Command)
     → starts_behind unit 0 (commands ++ c ∷ []) ≡ starts_behind unit 0 commands ++ length (bytes_of unit commands) ∷ []
 starts_of_push unit commands c =
-    starts_push unit 0 commands c ∙ ap (λ (m : ℕ). starts_behind unit 0 commands ++ m ∷ []) (omega arith)
+    places_both true unit 0 commands (c ∷ []) ∙ ap (λ (m : ℕ). starts_behind unit 0 commands ++ m ∷ []) (omega arith)
 
 pub bytes_push : (unit : ℕ) (commands : List Command) (c : Command)
     → bytes_of unit (commands ++ c ∷ []) ≡ bytes_of unit commands ++ command_bytes unit c
 bytes_push unit commands c = flat_map-append (command_bytes unit) commands (c ∷ [])
     ∙ ap (λ (l : List ℕ). bytes_of unit commands ++ l) (append-nil (command_bytes unit c))
 
--- what came, with one more arrival after no close
-came_open : (came : List Arrival) (a : Arrival) → has_closed came ≡ false → came_with came a ≡ came ++ a ∷ []
-came_open came a h = rw h refl
-
 pub tells_more : (t : Told) (a : Arrival) (told told' : Option Told) → told ≡ Some t → has_closed t.came ≡ false
     → told' ≡ adds_came a told
     → told' ≡ Some (record { sent = t.sent; came = t.came ++ a ∷ []; drops = t.drops })
-tells_more t a told told' is h e = e ∙ ap (adds_came a) is
-    ∙ ap (λ (c : List Arrival). Some (record { sent = t.sent; came = c; drops = t.drops })) (came_open t.came a h)
+tells_more t a told told' is h e = rw (e, is, h) refl
 
 -- ---- one burst
 
@@ -191,11 +175,9 @@ asking_push limit (x ∷ hs) h (Asks q n) = asking_push limit hs h (asking_after
 
 asked_push : (limit : ℕ) (hs : List (Option Heard)) (h : Option Heard) (asking : Asking)
     → asked_from limit (hs ++ h ∷ []) asking ≡ asked_from limit hs asking ++ asked_now (asking_from limit hs asking)
-asked_push limit [] h (Over v) = refl
-asked_push limit [] h (Asks q n) = refl
-asked_push limit (x ∷ hs) h (Over v) = refl
 asked_push limit (x ∷ hs) h (Asks q n) =
     ap (λ (l : List Question). q ∷ l) (asked_push limit hs h (asking_after limit q n x))
+asked_push limit hs h asking = refl
 
 -- how many exchanges there were at most before a question
 abbrev room : ℕ → Question → ℕ
@@ -218,15 +200,9 @@ Passed question.Status hs = (a : List (Option Heard)) × (b : List (Option Heard
 
 passed_more : (q : Question) (hs : List (Option Heard)) (h : Option Heard) → Passed q hs → Passed q (hs ++ h ∷ [])
 passed_more question.Open hs h p = tt
-passed_more question.Select hs h (a, b, e) =
-    (a, b ++ h ∷ [], ap (λ (l : List (Option Heard)). l ++ h ∷ []) e ∙ append_assoc a (granted ∷ b) (h ∷ []))
-passed_more question.Status hs h (a, b, c, e) = (
-  a,
-  b,
-  c ++ h ∷ [],
-  ap (λ (l : List (Option Heard)). l ++ h ∷ []) e ∙ append_assoc a (granted ∷ (b ++ acked ∷ c)) (h ∷ [])
-      ∙ ap (λ (l : List (Option Heard)). a ++ granted ∷ l) (append_assoc b (acked ∷ c) (h ∷ [])),
-)
+passed_more question.Select hs h (a, b, e) = (a, b ++ h ∷ [], simp append_assoc at (ap (λ (l : List (Option Heard)). l ++ h ∷ []) e))
+passed_more question.Status hs h (a, b, c, e) =
+    (a, b, c ++ h ∷ [], simp append_assoc at (ap (λ (l : List (Option Heard)). l ++ h ∷ []) e))
 
 -- what holds after one exchange more, in which this was heard
 abbrev HoldsOn : ℕ → List (Option Heard) → ℕ → Asking → Type 0
@@ -235,8 +211,7 @@ HoldsOn limit hs count (Over v) = (count ≤ 3 * limit) × IsSaid hs v
 
 within : (limit : ℕ) (q : Question) (n count : ℕ) → n < limit → count ≤ room limit q + n → count + 1 ≤ 3 * limit
 within limit question.Open n count less few = omega (arith, less, few)
-within limit question.Select n count less few = omega (arith, less, few)
-within limit question.Status n count less few = omega (arith, less, few)
+within limit q n count less few = omega (arith, less, few)
 
 missed_by : (b : Bool) (limit : ℕ) (q : Question) (n count : ℕ) (hs : List (Option Heard)) (h : Option Heard)
     → nat_lt (n + 1) limit ≡ b → n < limit → count ≤ room limit q + n → Passed q hs
@@ -264,7 +239,7 @@ replied limit question.Open n count hs (reply.Opened false) less few passed =
 replied limit question.Select n count hs reply.Ack less few (a, b, e) = (
   omega (arith, less),
   omega (arith, less, few),
-  (a, b, [], ap (λ (l : List (Option Heard)). l ++ acked ∷ []) e ∙ append_assoc a (granted ∷ b) (acked ∷ [])),
+  (a, b, [], simp append_assoc at (ap (λ (l : List (Option Heard)). l ++ acked ∷ []) e)),
 )
 replied limit question.Status n count hs (reply.State groups (Some state)) less few (a, b, c, e) =
     let h : Option Heard = Some (heard.Reply (reply.State groups (Some state))) in
@@ -273,29 +248,12 @@ replied limit question.Status n count hs (reply.State groups (Some state)) less 
       opened = b;
       selected = c;
       groups = groups;
-      parts = ap (λ (l : List (Option Heard)). l ++ h ∷ []) e ∙ append_assoc a (granted ∷ (b ++ acked ∷ c)) (h ∷ [])
-          ∙ ap (λ (l : List (Option Heard)). a ++ granted ∷ l) (append_assoc b (acked ∷ c) (h ∷ []));
+      parts = simp append_assoc at (ap (λ (l : List (Option Heard)). l ++ h ∷ []) e);
     } in
     (within limit question.Status n count less few, said_so (nat_eq state 1) state (hs ++ h ∷ []) refl said)
-replied limit question.Open n count hs reply.Ack less few passed = missed limit question.Open n count hs _ less few passed
-replied limit question.Open n count hs (reply.Nak b) less few passed = missed limit question.Open n count hs _ less few passed
-replied limit question.Open n count hs (reply.State g s) less few passed = missed limit question.Open n count hs _ less few passed
-replied limit question.Open n count hs (reply.Active id) less few passed = missed limit question.Open n count hs _ less few passed
-replied limit question.Open n count hs (reply.Present p) less few passed = missed limit question.Open n count hs _ less few passed
-replied limit question.Open n count hs (reply.Size s) less few passed = missed limit question.Open n count hs _ less few passed
-replied limit question.Select n count hs (reply.Opened given) less few passed = missed limit question.Select n count hs _ less few passed
-replied limit question.Select n count hs (reply.Nak b) less few passed = missed limit question.Select n count hs _ less few passed
-replied limit question.Select n count hs (reply.State g s) less few passed = missed limit question.Select n count hs _ less few passed
-replied limit question.Select n count hs (reply.Active id) less few passed = missed limit question.Select n count hs _ less few passed
-replied limit question.Select n count hs (reply.Present p) less few passed = missed limit question.Select n count hs _ less few passed
-replied limit question.Select n count hs (reply.Size s) less few passed = missed limit question.Select n count hs _ less few passed
-replied limit question.Status n count hs (reply.State g None) less few passed = missed limit question.Status n count hs _ less few passed
-replied limit question.Status n count hs reply.Ack less few passed = missed limit question.Status n count hs _ less few passed
-replied limit question.Status n count hs (reply.Opened given) less few passed = missed limit question.Status n count hs _ less few passed
-replied limit question.Status n count hs (reply.Nak b) less few passed = missed limit question.Status n count hs _ less few passed
-replied limit question.Status n count hs (reply.Active id) less few passed = missed limit question.Status n count hs _ less few passed
-replied limit question.Status n count hs (reply.Present p) less few passed = missed limit question.Status n count hs _ less few passed
-replied limit question.Status n count hs (reply.Size s) less few passed = missed limit question.Status n count hs _ less few passed
+replied limit question.Open n count hs r less few passed = missed limit question.Open n count hs _ less few passed
+replied limit question.Select n count hs r less few passed = missed limit question.Select n count hs _ less few passed
+replied limit question.Status n count hs r less few passed = missed limit question.Status n count hs _ less few passed
 
 holds_by : (limit : ℕ) (q : Question) (n count : ℕ) (hs : List (Option Heard)) (h : Option Heard) → n < limit
     → count ≤ room limit q + n → Passed q hs → HoldsOn limit (hs ++ h ∷ []) (count + 1) (asking_after limit q n h)
@@ -372,14 +330,11 @@ asked_so unit port limit listens left q n u told told₁ told₂ is h drops send
     let before : List Command = ended_commands unit port limit u.came in
     let more = one_command unit port limit u.came q n h.asking_is in (
       record { sent = u.sent ++ command_bytes unit c; came = u.came; drops = u.drops ++ length u.sent ∷ [] },
-      sends ∙ ap (adds_sent (command_bytes unit c)) (drops ∙ ap adds_drop is),
+      rw (sends, drops, is) refl,
       record {
         asking_is = h.asking_is;
-        sent_is = ap (λ (l : List ℕ). l ++ command_bytes unit c) h.sent_is ∙ sym (bytes_push unit before c)
-            ∙ ap (bytes_of unit) (sym more);
-        drops_are = ap₂ (λ (l : List ℕ) (m : ℕ). l ++ m ∷ []) h.drops_are (ap length h.sent_is)
-            ∙ sym (starts_of_push unit before c)
-            ∙ ap (starts_behind unit 0) (sym more);
+        sent_is = rw (more, bytes_push unit before c, h.sent_is) refl;
+        drops_are = rw (more, starts_of_push unit before c, h.drops_are, h.sent_is) refl;
         between = h.between;
         listened = h.listened;
         few = h.few;
@@ -393,14 +348,16 @@ pub partly_dropped : (unit port limit listens left : ℕ) (q : Question) (n : �
     → told ≡ Some u → AsksAt unit port limit listens left q n u → told' ≡ told
     → IfTold told' (IsPartlyAsked unit port limit)
 partly_dropped unit port limit listens left q n u told told' is h same =
-    let c : Command = question_command port q in
-    let before : List Command = ended_commands unit port limit u.came in (
+    let c : Command = question_command port q in (
       u,
       same ∙ is,
       (
         command_bytes unit c,
-        ap (bytes_of unit) (one_command unit port limit u.came q n h.asking_is) ∙ bytes_push unit before c
-            ∙ ap (λ (l : List ℕ). l ++ command_bytes unit c) (sym h.sent_is),
+        rw (
+          one_command unit port limit u.came q n h.asking_is,
+          bytes_push unit (ended_commands unit port limit u.came) c,
+          h.sent_is,
+        ) refl,
       ),
     )
 
@@ -412,12 +369,11 @@ partly_sent unit port limit listens left q n u told told₁ told' is h drops fro
     let c : Command = question_command port q in
     let before : List Command = ended_commands unit port limit u.came in (
       record { sent = u.sent ++ front.front; came = u.came; drops = u.drops ++ length u.sent ∷ [] },
-      front.told ∙ ap (adds_sent front.front) (drops ∙ ap adds_drop is),
+      rw (front.told, drops, is) refl,
       (
         front.rest,
-        ap (bytes_of unit) (one_command unit port limit u.came q n h.asking_is) ∙ bytes_push unit before c
-            ∙ ap₂ (λ (l m : List ℕ). l ++ m) (sym h.sent_is) front.parts
-            ∙ sym (append_assoc u.sent front.front front.rest),
+        rw (one_command unit port limit u.came q n h.asking_is, bytes_push unit before c, front.parts, h.sent_is)
+            (sym (append_assoc (bytes_of unit before) front.front front.rest)),
       ),
     )
 
@@ -429,8 +385,7 @@ partly_heard unit port limit listens left q n u told' h (v, is, b) = (
   is,
   (
     [],
-    ap (λ (hs : List (Option Heard)). bytes_of unit (commands_heard port limit hs)) b.heard_stays
-        ∙ sym h.sent_is ∙ sym b.sent_stays ∙ sym (append-nil v.sent),
+    rw (b.heard_stays, b.sent_stays, append-nil) (sym h.sent_is),
   ),
 )
 
@@ -458,19 +413,13 @@ after_burst unit port limit listens left left' q n h u v less a b =
     sym (length-append (ended_questions unit limit u.came) (q ∷ []))
     ∙ ap (λ (x : Asking). length (ended_questions unit limit u.came ++ asked_now x)) (sym a.asking_is)
     ∙ ap length (sym asked_is) in
-    let held = holds_by limit q n (length (ended_questions unit limit u.came)) hs h less a.few a.passed in record {
-      asking_is = ap (λ (l : List (Option Heard)). asking_from limit l first_asking) heard_is
-          ∙ asking_push limit hs h first_asking
-          ∙ ap (asking_from limit (h ∷ [])) a.asking_is;
-      sent_is = b.sent_stays ∙ a.sent_is ∙ ap (λ (qs : List Question). bytes_of unit (map (question_command port) qs))
-          (sym asked_is);
-      drops_are = b.drops_stay ∙ a.drops_are ∙ ap (λ (qs : List Question). starts_behind unit 0
-          (map (question_command port) qs)) (sym asked_is);
+    record {
+      asking_is = rw (heard_is, asking_push limit hs h first_asking, a.asking_is) refl;
+      sent_is = rw (asked_is) (b.sent_stays ∙ a.sent_is);
+      drops_are = rw (asked_is) (b.drops_stay ∙ a.drops_are);
       between = b.adds.0;
       listened = b.listened ∙ a.listened;
-      holds = subst (λ (l : List (Option Heard)). HoldsOn limit l (length (ended_questions unit limit v.came))
-          (asking_after limit q n h)) (sym heard_is)
-          (subst (λ (m : ℕ). HoldsOn limit (hs ++ h ∷ []) m (asking_after limit q n h)) counted held);
+      holds = rw (← counted, heard_is) (holds_by limit q n (length (ended_questions unit limit u.came)) hs h less a.few a.passed);
     }
 
 pub asks_on : (unit port limit listens left left' : ℕ) (q q' : Question) (n n' : ℕ) (h : Option Heard) (u : Told)
@@ -479,8 +428,7 @@ pub asks_on : (unit port limit listens left left' : ℕ) (q q' : Question) (n n'
     → IfTold told' (λ v. HearsBurst unit left left' u v (burst.Ended h))
     → asking_after limit q n h ≡ Asks q' n' → IfTold told' (AsksAt unit port limit listens left' q' n')
 asks_on unit port limit listens left left' q q' n n' h u told' less a (v, is, b) next =
-    let e = subst (λ (x : Asking). AfterBurst unit port limit listens left' x v) next
-    (after_burst unit port limit listens left left' q n h u v less a b) in (
+    let e = rw next at (after_burst unit port limit listens left left' q n h u v less a b) in (
       v,
       is,
       record {
@@ -500,19 +448,15 @@ pub asks_out : (unit port limit listens left left' : ℕ) (q : Question) (n : �
     → IfTold told' (λ v. HearsBurst unit left left' u v (burst.Ended h))
     → asking_after limit q n h ≡ Over answer → IfTold told' (λ v. HasAsked unit port limit listens left' v answer)
 asks_out unit port limit listens left left' q n h answer u told' less a (v, is, b) next =
-    let e = subst (λ (x : Asking). AfterBurst unit port limit listens left' x v) next
-    (after_burst unit port limit listens left left' q n h u v less a b) in
-    let all : ended_questions unit limit v.came ≡ questions_by unit limit v.came =
-    sym (append-nil (ended_questions unit limit v.came))
-    ∙ ap (λ (x : Asking). ended_questions unit limit v.came ++ asked_now x) (sym e.asking_is) in (
+    let e = rw next at (after_burst unit port limit listens left left' q n h u v less a b) in (
       v,
       is,
       record {
-        sent_is = e.sent_is ∙ ap (λ (qs : List Question). bytes_of unit (map (question_command port) qs)) all;
-        drops_are = e.drops_are ∙ ap (λ (qs : List Question). starts_behind unit 0 (map (question_command port) qs)) all;
-        answer_is = subst (λ (x : Asking). CameTo x v.came left' answer) (sym e.asking_is) refl;
+        sent_is = rw (e.asking_is, append-nil) e.sent_is;
+        drops_are = rw (e.asking_is, append-nil) e.drops_are;
+        answer_is = rw e.asking_is refl;
         said = e.holds.1;
-        few = subst (λ (qs : List Question). length qs ≤ 3 * limit) all e.holds.0;
+        few = rw (e.asking_is, append-nil) e.holds.0;
         listened = e.listened;
       },
     )
@@ -525,19 +469,11 @@ stops : (unit port limit listens left left' : ℕ) (q : Question) (n : ℕ) (ans
     → IsSaid (heard_of unit v.came) answer
     → HasAsked unit port limit listens left' v answer
 stops unit port limit listens left left' q n answer u v less a sent drops same listened came said = record {
-  sent_is = sent ∙ a.sent_is ∙ ap (λ (hs : List (Option Heard)). bytes_of unit (commands_heard port limit hs))
-      (sym same);
-  drops_are = drops ∙ a.drops_are ∙ ap (λ (hs : List (Option Heard)). starts_behind unit 0 (commands_heard port limit hs))
-      (sym same);
-  answer_is = subst (λ (x : Asking). CameTo x v.came left' answer)
-      (sym (ap (λ (hs : List (Option Heard)). asking_from limit hs first_asking) same ∙ a.asking_is)) came;
+  sent_is = rw same (sent ∙ a.sent_is);
+  drops_are = rw same (drops ∙ a.drops_are);
+  answer_is = rw (same, a.asking_is) came;
   said = said;
-  few = subst (λ (hs : List (Option Heard)). length
-      (asked_from limit hs first_asking ++ asked_now (asking_from limit hs first_asking)) ≤ 3 * limit)
-      (sym same)
-      (subst (λ (x : Asking). length (ended_questions unit limit u.came ++ asked_now x) ≤ 3 * limit) (sym a.asking_is)
-      (rw (length-append (ended_questions unit limit u.came) (q ∷ []))
-      (within limit q n (length (ended_questions unit limit u.came)) less a.few)));
+  few = rw (same, a.asking_is, length-append) (within limit q n (length (ended_questions unit limit u.came)) less a.few);
   listened = listened ∙ a.listened;
 }
 

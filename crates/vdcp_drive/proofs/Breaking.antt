@@ -1,6 +1,5 @@
 -- What a wire tells that failed in a run.
-use Rattle.std.proofs.Common.{ℕ, ◌≡◌, ◌⊎◌, inl, inr, ◌+◌, Bool, true, false, List, [], ◌∷◌, ◌++◌, length, map, refl, sym, ap, ap₂, subst, ◌∙◌, append_assoc, append-nil}
-use Rattle.std.proofs.lemmas.Grind.{flat_map-append}
+use Rattle.std.proofs.Common.{ℕ, ◌≡◌, ◌⊎◌, inl, inr, Bool, true, false, List, [], ◌∷◌, ◌++◌, length, map, refl, sym, ap, subst, ◌∙◌, append_assoc, append-nil}
 use Rattle.std.specs.Option.{option_to_list}
 use Rattle.std.specs.Prelude.{Option, Some, Err}
 use Rattle.vdcp_words.specs.declared.command.Command.{Command}
@@ -9,18 +8,19 @@ use Rattle.vdcp_auto.specs.State.{State}
 use Rattle.vdcp_auto.specs.Turn.{awaited, given, ticked}
 use Rattle.vdcp_auto.specs.declared.exchange.Exchange.{Exchange}
 use Rattle.vdcp_wire.specs.Wires.{Arrival, Told, IfTold, has_closed}
-use Rattle.vdcp_wire.specs.Acts.{Act, sends, fails}
+use Rattle.vdcp_wire.specs.Acts.{Act, sends}
 use Rattle.vdcp_drive.specs.Auto.{Auto, after, gives, log_of}
 use Rattle.vdcp_drive.specs.Ears.{Fold}
 use Rattle.vdcp_drive.specs.Leaves.{Ending, by_itself, in_keep, in_drop, in_send, in_listen, HasRun}
-use Rattle.vdcp_drive.specs.Steps.{Step, acts, looks, Rules, World, command_bytes, dropping, sending, given_notes, opening, steps_of}
+use Rattle.vdcp_drive.specs.Steps.{Step, Rules, World, command_bytes, dropping, given_notes, steps_of}
 use Rattle.vdcp_wire.specs.Acts.{Tells}
 use Rattle.vdcp_drive.specs.Tells.{BreaksOn, told_after_all}
-use Rattle.vdcp_drive.specs.Traces.{acts_in, kept_in, sent_in, came_in, drops_in, commands_kept, bytes_of, awaited_notes, places, until_close}
+use Rattle.vdcp_drive.specs.Traces.{acts_in, kept_in, sent_in, came_in, drops_in, commands_kept, bytes_of, places}
 use Rattle.vdcp_drive.specs.declared.keep.KeptFault.{KeptFault}
 use Rattle.vdcp_drive.specs.declared.keep.KeptFault.TheVariants as fault
+use Rattle.vdcp_drive.proofs.Keeping.{send_came, send_sent}
 use Rattle.vdcp_drive.proofs.Telling.{came_told, commands_awaited, drops_told, run_carries, sent_told, steps_commands}
-use Rattle.vdcp_drive.proofs.Tracing.{acts_both, acts_of_acts, came_both, commands_both, drops_both, gives_notes, opening_acts, places_both, sending_bytes, sending_came, sending_drops, sent_both, steps_bytes, steps_came, steps_drops}
+use Rattle.vdcp_drive.proofs.Tracing.{acts_both, acts_of_acts, commands_both, drops_both, gives_notes, places_both, sending_bytes, sending_came, sending_drops, steps_bytes, steps_came, steps_drops, traces}
 
 -- the last steps: what went out of which commands, and what of these didn't
 record Last {E : Type 0} (fold : Fold E) (plan : Plan) (unit : ℕ) (b a' : Auto E) (ys : List Act) : Type 0 where
@@ -36,77 +36,49 @@ nowhere : (first : Bool) (unit m : ℕ) → [] ≡ places first unit m []
 nowhere true unit m = refl
 nowhere false unit m = refl
 
-send_sent : (first : Bool) (front : List ℕ) → sent_in (dropping first ++ sends front ∷ []) ≡ front
-send_sent true front = append-nil front
-send_sent false front = append-nil front
-
 send_drops : (first : Bool) (unit m : ℕ) (c : Command) (front : List ℕ)
     → drops_in m (dropping first ++ sends front ∷ []) ≡ places first unit m (c ∷ [])
 send_drops true unit m c front = refl
 send_drops false unit m c front = refl
 
-send_came : (first : Bool) (front : List ℕ) → came_in (dropping first ++ sends front ∷ []) ≡ []
-send_came true front = refl
-send_came false front = refl
-
 gives_commands : (plan : Plan) (s : State) → option_to_list (awaited plan s) ++ commands_kept (given_notes (given plan s))
     ≡ option_to_list (awaited plan (ticked s))
 gives_commands plan s =
-    ap (λ (l : List Command). l ++ commands_kept (given_notes (given plan s))) (sym (commands_awaited (awaited plan s)))
-    ∙ sym (commands_both (awaited_notes plan s) (given_notes (given plan s)))
-    ∙ ap commands_kept (gives_notes plan s (given plan s) refl)
-    ∙ commands_awaited (awaited plan (ticked s))
+    simp commands_awaited (simp (commands_both, commands_awaited) at (ap commands_kept
+    (gives_notes plan s (given plan s) refl)))
 
 last_of : {E : Type 0} (fold : Fold E) (plan : Plan) (unit count : ℕ) (came : List Arrival) (b : Auto E)
     (more : List Step) (a' : Auto E) → Ending fold plan unit count came b (Err fault.Device) more a'
     → Last fold plan unit b a' (acts_in more)
 last_of fold plan unit count came b more a' (by_itself r is to none left) = cc
 last_of fold plan unit count came b more a' (in_keep c is gives_it are left) = cc
-last_of {E} fold plan unit count came b more a' (in_drop c is first gives_it are left) =
-    subst (λ (l : List Step). Last fold plan unit b a' (acts_in l)) (sym are)
-    (subst (λ (x : Auto E). Last fold plan unit b x (fails ∷ [])) (sym left) (record {
-      commands = [];
-      unsent = [];
-      sent = refl;
-      dropped = nowhere fold.drops unit;
-      nothing_came = refl;
-      awaits = append-nil (option_to_list (awaited plan b.state));
-      auto_is = inl refl;
-    }))
-last_of {E} fold plan unit count came b more a' (in_send c front rest is gives_it parts are left) =
-    let out : List Act = dropping fold.drops ++ sends front ∷ [] in
-    let l : Last fold plan unit b (gives b) out = record {
-      commands = c ∷ [];
-      unsent = rest;
-      sent = ap (λ (x : List ℕ). x ++ rest) (send_sent fold.drops front) ∙ sym parts
-          ∙ sym (append-nil (command_bytes unit c));
-      dropped = λ m. send_drops fold.drops unit m c front;
-      nothing_came = send_came fold.drops front;
-      awaits = ap (λ (g : Option Command). option_to_list (awaited plan b.state) ++ commands_kept (given_notes g)) (sym gives_it)
-          ∙ gives_commands plan b.state;
-      auto_is = inr refl;
-    } in
-    subst (λ (x : List Step). Last fold plan unit b a' (acts_in x)) (sym are)
-    (subst (λ (x : Auto E). Last fold plan unit b x (acts_in (map acts out))) (sym left)
-    (subst (Last fold plan unit b (gives b)) (sym (acts_of_acts out)) l))
-last_of {E} fold plan unit count came b more a' (in_listen is are left) =
-    let g : Option Command = given plan b.state in
-    let out : List Act = sending fold.drops unit g in
-    let tail : List Step = looks (ticked b.state) ∷ acts fails ∷ [] in
-    let l : Last fold plan unit b (gives b) (out ++ fails ∷ []) = record {
-      commands = commands_kept (given_notes g);
-      unsent = [];
-      sent = append-nil (sent_in (out ++ fails ∷ [])) ∙ sent_both out (fails ∷ []) ∙ append-nil (sent_in out)
-          ∙ sending_bytes fold.drops unit g;
-      dropped = λ m. drops_both m out (fails ∷ []) ∙ append-nil (drops_in m out) ∙ sending_drops fold.drops unit m g;
-      nothing_came = came_both out (fails ∷ []) ∙ append-nil (came_in out) ∙ sending_came fold.drops unit g;
-      awaits = gives_commands plan b.state;
-      auto_is = inr refl;
-    } in
-    subst (λ (x : List Step). Last fold plan unit b a' (acts_in x)) (sym are)
-    (subst (λ (x : Auto E). Last fold plan unit b x (acts_in (opening fold plan unit b ++ tail))) (sym left)
-    (subst (Last fold plan unit b (gives b)) (sym (acts_both (opening fold plan unit b) tail
-    ∙ ap (λ (x : List Act). x ++ fails ∷ []) (opening_acts fold plan unit b))) l))
+last_of fold plan unit count came b more a' (in_drop c is first gives_it are left) = rw (are, left) (record {
+  commands = [];
+  unsent = [];
+  sent = refl;
+  dropped = nowhere fold.drops unit;
+  nothing_came = refl;
+  awaits = append-nil (option_to_list (awaited plan b.state));
+  auto_is = inl refl;
+})
+last_of fold plan unit count came b more a' (in_send c front rest is gives_it parts are left) = rw (are, left) (record {
+  commands = c ∷ [];
+  unsent = rest;
+  sent = simp (acts_of_acts, send_sent) (sym parts ∙ sym (append-nil (command_bytes unit c)));
+  dropped = λ m. simp (acts_of_acts, send_drops fold.drops unit m c front);
+  nothing_came = simp (acts_of_acts, send_came);
+  awaits = rw gives_it at (gives_commands plan b.state);
+  auto_is = inr refl;
+})
+last_of fold plan unit count came b more a' (in_listen is are left) = rw (are, left) (record {
+  commands = commands_kept (given_notes (given plan b.state));
+  unsent = [];
+  sent = simp (traces, sending_bytes);
+  dropped = λ m. simp (traces, drops_both, sending_drops);
+  nothing_came = simp (traces, sending_came);
+  awaits = gives_commands plan b.state;
+  auto_is = inr refl;
+})
 
 pub run_breaks : {E W K V : Type 0} (rules : Rules W K V) (told : W → Option Told)
     (fold : Fold E) (plan : Plan) (unit count : ℕ) (a a' : Auto E) (world world' : World W K V) (t : Told)
@@ -132,30 +104,25 @@ run_breaks {E} rules told fold plan unit count a a' world world' t f h broke law
         octets = h.octets;
         closes_last = h.closes_last;
         auto_is = l.auto_is;
-        came_is = came_told (acts_in (steps ++ h.more)) t still
-            ∙ ap (λ (x : List Arrival). t.came ++ until_close x)
-            (ap came_in all ∙ came_both xs ys ∙ ap (λ (x : List Arrival). came_in xs ++ x) l.nothing_came
-            ∙ append-nil (came_in xs) ∙ steps_came fold plan unit a h.came)
-            ∙ ap (λ (x : List Arrival). t.came ++ x) h.closes_last;
+        came_is = came_told (acts_in (steps ++ h.more)) t still ∙ ap (λ (x : List Arrival). t.came ++ x)
+            (simp (traces, steps_came fold plan unit a h.came, l.nothing_came, h.closes_last));
         commands = cs ++ l.commands;
-        commands_are = sym (append_assoc (option_to_list (awaited plan a.state)) cs l.commands)
-            ∙ ap (λ (x : List Command). x ++ l.commands) (steps_commands fold plan unit a h.came)
-            ∙ append_assoc log (option_to_list (awaited plan b.state)) l.commands
-            ∙ ap (λ (x : List Command). log ++ x) l.awaits;
+        commands_are = cc (
+          steps_commands fold plan unit a h.came,
+          l.awaits,
+          append_assoc (option_to_list (awaited plan a.state)) cs l.commands,
+          append_assoc log (option_to_list (awaited plan b.state)) l.commands,
+        );
         unsent = l.unsent;
-        sent_is = ap (λ (x : List ℕ). x ++ l.unsent) (sent_told (acts_in (steps ++ h.more)) t
-            ∙ ap (λ (x : List Act). t.sent ++ sent_in x) all
-            ∙ ap (λ (x : List ℕ). t.sent ++ x) (sent_both xs ys))
-            ∙ append_assoc t.sent (sent_in xs ++ sent_in ys) l.unsent
-            ∙ ap (λ (x : List ℕ). t.sent ++ x) (append_assoc (sent_in xs) (sent_in ys) l.unsent
-            ∙ ap₂ (λ (x y : List ℕ). x ++ y) (steps_bytes fold plan unit a h.came) l.sent
-            ∙ sym (flat_map-append (command_bytes unit) cs l.commands));
+        sent_is = simp (sent_told, traces, steps_bytes fold plan unit a h.came, l.sent);
         drops_are = drops_told (acts_in (steps ++ h.more)) t
-            ∙ ap (λ (x : List Act). t.drops ++ drops_in n x) all
-            ∙ ap (λ (x : List ℕ). t.drops ++ x) (drops_both n xs ys
-            ∙ ap₂ (λ (x : List ℕ) (m : ℕ). x ++ drops_in m ys) (steps_drops fold plan unit n a h.came)
-            (ap (λ (x : List ℕ). n + length x) (steps_bytes fold plan unit a h.came))
-            ∙ ap (λ (x : List ℕ). places fold.drops unit n cs ++ x) (l.dropped (n + length (bytes_of unit cs)))
-            ∙ sym (places_both fold.drops unit n cs l.commands));
+            ∙ ap (λ (x : List ℕ). t.drops ++ x) (simp (
+              acts_both,
+              drops_both,
+              steps_drops fold plan unit n a h.came,
+              steps_bytes fold plan unit a h.came,
+              l.dropped,
+              places_both,
+            ));
       },
     )

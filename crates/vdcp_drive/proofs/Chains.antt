@@ -1,19 +1,17 @@
 -- Steps one after another.
-use Rattle.std.proofs.Common.{ℕ, ◌≡◌, List, [], ◌∷◌, ◌++◌, map, refl, sym, ap, ap₂, subst, ◌∙◌, append_assoc}
+use Rattle.std.proofs.Common.{ℕ, ◌≡◌, List, [], ◌∷◌, ◌++◌, map, refl, sym, ap, subst, append_assoc}
 use Rattle.std.proofs.lemmas.List.{map-append}
-use Rattle.std.specs.Prelude.{Option, Some}
-use Rattle.std.specs.Option.{option_to_list}
+use Rattle.std.specs.Prelude.{Option}
 use Rattle.vdcp_auto.specs.Plan.{Plan}
 use Rattle.vdcp_auto.specs.State.{State}
-use Rattle.vdcp_auto.specs.Turn.{came_to, ended_by}
-use Rattle.vdcp_auto.specs.declared.exchange.Exchange.{Exchange}
+use Rattle.vdcp_auto.specs.Turn.{came_to}
 use Rattle.vdcp_auto.specs.declared.exchange.Heard.{Heard}
 use Rattle.vdcp_wire.specs.Acts.{Act}
 use Rattle.vdcp_drive.specs.Steps.{Chain}
 use Rattle.vdcp_drive.specs.Auto.{ended, receives}
 use Rattle.vdcp_drive.specs.Ears.{Fold, IsPiecewise}
 use Rattle.vdcp_drive.specs.Leaves.{HearsPiece}
-use Rattle.vdcp_drive.specs.Steps.{acts, keeps, Rules, World, Happens, ended_notes, end_of}
+use Rattle.vdcp_drive.specs.Steps.{acts, keeps, Rules, World, Happens}
 use Rattle.vdcp_drive.specs.declared.keep.Kept.{Kept}
 
 pub chain_both : {A W : Type 0} (does : A → W → W → Type 0) (xs ys : List A) (u v w : W) → Chain does xs u v
@@ -51,13 +49,7 @@ receives_both plan (x ∷ xs) ys s = receives_both plan xs ys (came_to plan x s)
 pub ended_both : (plan : Plan) (xs ys : List (Option Heard)) (s : State)
     → ended plan (xs ++ ys) s ≡ ended plan xs s ++ ended plan ys (receives plan xs s)
 ended_both plan [] ys s = refl
-ended_both plan (x ∷ xs) ys s =
-    ap (λ (l : List Exchange). option_to_list (ended_by plan x s) ++ l) (ended_both plan xs ys (came_to plan x s))
-    ∙ sym (append_assoc (option_to_list (ended_by plan x s)) (ended plan xs (came_to plan x s))
-    (ended plan ys (receives plan xs (came_to plan x s))))
-
-abbrev row_of : Exchange → Kept
-row_of e = end_of e.heard
+ended_both plan (x ∷ xs) ys s = simp (append_assoc, ended_both plan xs ys (came_to plan x s))
 
 -- Pieces.
 
@@ -73,24 +65,10 @@ pub hears_further : {E K : Type 0} (fold : Fold E) (adds : Kept → K → K → 
     (laws : IsPiecewise fold) (xs ys : List ℕ) (s₀ s₁ s₂ : State) (e₀ e₁ e₂ : E) (k₀ k₁ k₂ : K)
     → HearsPiece fold adds plan unit xs s₀ e₀ k₀ s₁ e₁ k₁ → HearsPiece fold adds plan unit ys s₁ e₁ k₁ s₂ e₂ k₂
     → HearsPiece fold adds plan unit (xs ++ ys) s₀ e₀ k₀ s₂ e₂ k₂
-hears_further {E} {K} fold adds plan unit laws xs ys s₀ s₁ s₂ e₀ e₁ e₂ k₀ k₁ k₂ first next =
-    let hs : List (Option Heard) = map Some (fold.hears unit xs e₀) in
-    let bs : List (Option Heard) = map Some (fold.hears unit ys (fold.takes unit xs e₀)) in
-    let all : map Some (fold.hears unit (xs ++ ys) e₀) ≡ hs ++ bs =
-    ap (map Some) (laws.hears_both unit xs ys e₀)
-    ∙ map-append Some (fold.hears unit xs e₀) (fold.hears unit ys (fold.takes unit xs e₀)) in
-    let same : map Some (fold.hears unit ys e₁) ≡ bs = ap (λ (e : E). map Some (fold.hears unit ys e)) first.ear_is in
-    let s : State = receives plan hs s₀ in
-    let noted : Chain adds (ended_notes (ended plan bs s)) k₁ k₂ =
-    subst (λ (x : State). Chain adds (ended_notes (ended plan bs x)) k₁ k₂) first.state_is
-    (subst (λ (l : List (Option Heard)). Chain adds (ended_notes (ended plan l s₁)) k₁ k₂) same next.noted) in
-    record {
-      state_is = next.state_is ∙ ap₂ (λ (l : List (Option Heard)) (x : State). receives plan l x) same first.state_is
-          ∙ sym (receives_both plan hs bs s₀) ∙ ap (λ (l : List (Option Heard)). receives plan l s₀) (sym all);
-      ear_is = next.ear_is ∙ ap (fold.takes unit ys) first.ear_is ∙ sym (laws.takes_both unit xs ys e₀);
-      noted = subst (λ (l : List (Option Heard)). Chain adds (ended_notes (ended plan l s₀)) k₀ k₂) (sym all)
-          (subst (λ (l : List Exchange). Chain adds (ended_notes l) k₀ k₂) (sym (ended_both plan hs bs s₀))
-          (subst (λ (l : List Kept). Chain adds l k₀ k₂)
-          (sym (map-append row_of (ended plan hs s₀) (ended plan bs s)))
-          (chain_both adds (ended_notes (ended plan hs s₀)) (ended_notes (ended plan bs s)) k₀ k₁ k₂ first.noted noted)));
-    }
+hears_further fold adds plan unit laws xs ys s₀ s₁ s₂ e₀ e₁ e₂ k₀ k₁ k₂ first next = record {
+  state_is = rw (laws.hears_both unit xs ys e₀, map-append, receives_both)
+      (rw (first.ear_is, first.state_is) at next.state_is);
+  ear_is = rw (laws.takes_both unit xs ys e₀) (rw first.ear_is at next.ear_is);
+  noted = rw (laws.hears_both unit xs ys e₀, map-append, ended_both, map-append)
+      (chain_both adds _ _ k₀ k₁ k₂ first.noted (rw (first.ear_is, first.state_is) at next.noted));
+}

@@ -1,9 +1,9 @@
 -- The messages that bytes complete, one byte after another, by what a reader gives for them.
-use Rattle.std.proofs.Common.{ℕ, ◌≡◌, ◌-◌, ◌<◌, ◌≤◌, get_or, List, [], ◌∷◌, ◌++◌, length, take, map, refl, sym, ap, ap₂, subst, ◌∙◌}
+use Rattle.std.proofs.Common.{ℕ, ◌≡◌, ◌-◌, ◌<◌, ◌≤◌, List, [], ◌∷◌, ◌++◌, length, take, map, refl, sym, ap, ap₂, subst, ◌∙◌}
 use Rattle.std.proofs.Common.{append_assoc, append-nil, length-append, arith}
 use Rattle.std.proofs.Math.Seq.{take-append_seam}
 use Rattle.std.proofs.lemmas.List.{length-take-le}
-use Rattle.std.proofs.lemmas.List.Elements.{All-append, All-take, All-from_get_or}
+use Rattle.std.proofs.lemmas.List.Elements.{All-append, All-take}
 use Rattle.std.specs.Prelude.{Option, Some, None}
 use Rattle.vdcp_frame.specs.Burst.{messages_of, end_of}
 use Rattle.vdcp_frame.specs.Head.{IsWrong}
@@ -12,7 +12,7 @@ use Rattle.vdcp_frame.specs.Progress.{Progress, reading, failed}
 use Rattle.vdcp_frame.specs.Reader.{message, more, wrong, Gives, fed, Follows, FollowsNext, TakesFault, TakesWrong, TakesLong}
 use Rattle.vdcp_frame.specs.Reading.{End, clean, cut, fault, Reads, Begins, IsUnfinished, SpellsAll}
 use Rattle.vdcp_frame.specs.declared.message.Fault.{Fault}
-use Rattle.vdcp_frame.specs.declared.message.Fault.TheVariants.{BadStart, BadCount, BadSum, Long}
+use Rattle.vdcp_frame.specs.declared.message.Fault.TheVariants.{Long}
 use Rattle.vdcp_auto.specs.Heard.{heard_as}
 use Rattle.vdcp_auto.specs.declared.exchange.Heard.{Heard}
 use Rattle.vdcp_drive.specs.HearingLaws.{completed_both, held_both}
@@ -21,7 +21,7 @@ use Rattle.vdcp_drive.specs.Reading.{Held, holds, skips, held_with, held_after, 
 
 -- Bytes that begin a message and are no whole one.
 
-octets_front : (xs ys : List ℕ) → AreOctets (xs ++ ys) → AreOctets xs
+pub octets_front : (xs ys : List ℕ) → AreOctets (xs ++ ys) → AreOctets xs
 octets_front xs ys h = subst AreOctets (take-append_seam xs ys) (All-take (λ b. b < 256) (length xs) (xs ++ ys) h)
 
 pub front_unfinished : (xs ys : List ℕ) → IsUnfinished (xs ++ ys) → IsUnfinished xs
@@ -96,13 +96,10 @@ decided_last : (law : Below) (held xs : List ℕ) (x : ℕ) → IsUnfinished (he
 decided_last law held xs x u =
     let h = are_held law held xs u in
     let all : (held ++ xs) ++ x ∷ [] ≡ held ++ (xs ++ x ∷ []) = append_assoc held xs (x ∷ []) in record {
-      gives = completed_both (holds held) xs (x ∷ [])
-          ∙ ap₂ (λ (ms : List Content) (at : Held). ms ++ completed at (x ∷ [])) h.none h.all
-          ∙ append-nil (messages_of ((held ++ xs) ++ x ∷ []))
-          ∙ ap messages_of all;
-      leaves = held_both (holds held) xs (x ∷ [])
-          ∙ ap (λ (at : Held). held_after at (x ∷ [])) h.all
-          ∙ ap (λ (b : List ℕ). held_with b (messages_of b) (end_of b)) all;
+      gives = rw (completed_both (holds held) xs (x ∷ []), h.none, h.all)
+          (append-nil (messages_of ((held ++ xs) ++ x ∷ [])) ∙ ap messages_of all);
+      leaves = rw (held_both (holds held) xs (x ∷ []), h.all)
+          (ap (λ (b : List ℕ). held_with b (messages_of b) (end_of b)) all);
     }
 
 -- a last byte
@@ -243,13 +240,9 @@ wrong_by : (law : Below) (unit : ℕ) (taken : ℕ) (held piece : List ℕ) (n :
     → taken ≡ length held → IsUnfinished held
     → AreOctets piece → TakesFault taken held piece n which → Reads (held ++ take n piece) [] (fault which place)
     → HasRead unit (Some (reading taken held)) (take n piece) None None
-wrong_by law unit taken held piece n BadStart place is u fits t r =
-    wrong_so law unit taken held piece n BadStart place u fits t r
-wrong_by law unit taken held piece n (BadCount count) place is u fits t r =
-    wrong_so law unit taken held piece n (BadCount count) place u fits t r
-wrong_by law unit taken held piece n BadSum place is u fits t r =
-    wrong_so law unit taken held piece n BadSum place u fits t r
 wrong_by law unit taken held piece n Long place is u fits t r = absurd (never_long law taken n held piece is t)
+wrong_by law unit taken held piece n which place is u fits t r =
+    wrong_so law unit taken held piece n which place u fits t r
 
 pub read_wrong : (law : Below) (unit : ℕ) (p : Progress) (piece : List ℕ) (n : ℕ) (which : Fault) (place : ℕ)
     (then_is : Progress) → IsReader (Some p)
@@ -286,13 +279,13 @@ completes_all law (m ∷ ms) xs rest s u =
     let after : List ℕ = s.1 ++ rest in
     let c = completes law [] first m (law.size m first s.2).0 s.2 in
     let r = completes_all law ms s.1 rest s.3 u in
-    let parts : xs ++ rest ≡ first ++ after = ap (λ (l : List ℕ). l ++ rest) s.4 ∙ append_assoc first s.1 rest in (
-      ap (completed (holds [])) parts ∙ completed_both (holds []) first after
-          ∙ ap₂ (λ (l : List Content) (at : Held). l ++ completed at after) c.0 c.1
-          ∙ ap (λ (l : List Content). m ∷ l) r.0,
-      ap (held_after (holds [])) parts ∙ held_both (holds []) first after ∙ ap (λ (at : Held). held_after at after) c.1
-          ∙ r.1,
-    )
-
-pub fitting : (piece : List ℕ) → ((i : ℕ) → get_or piece i 0 < 256) → AreOctets piece
-fitting piece h = All-from_get_or (λ b. b < 256) piece 0 (λ i _. h i)
+    rw (
+      s.4,
+      append_assoc first s.1 rest,
+      completed_both (holds []) first after,
+      held_both (holds []) first after,
+      c.0,
+      c.1,
+      r.0,
+      r.1,
+    ) (refl, refl)

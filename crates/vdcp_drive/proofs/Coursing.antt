@@ -1,11 +1,11 @@
 -- An automation that hears at silences goes the course of its bursts.
-use Rattle.std.proofs.Common.{ℕ, ◌≡◌, ◌⊎◌, inl, inr, ◌<◌, Bool, true, false, List, [], ◌∷◌, ◌++◌, map, refl, sym, ap, ap₂, subst, ◌∙◌, append-nil}
+use Rattle.std.proofs.Common.{ℕ, ◌≡◌, ◌⊎◌, inl, inr, ◌<◌, true, false, List, [], ◌∷◌, ◌++◌, map, refl, sym, ap, ap₂, subst, ◌∙◌, append-nil}
 use Rattle.std.proofs.lemmas.List.Elements.{All-append, All-nil, All-head, All-tail}
 use Rattle.std.specs.Option.{option_to_list, option_map_or}
 use Rattle.std.specs.Prelude.{All, Option, Some, None, is_some, IfOk, OnErr, Result, Ok, Err, if◌then◌else◌}
 use Rattle.vdcp_words.specs.declared.command.Command.{Command}
 use Rattle.vdcp_frame.specs.Message.{AreOctets}
-use Rattle.vdcp_auto.specs.Course.{course, course_from, after_input}
+use Rattle.vdcp_auto.specs.Course.{course_from, after_input}
 use Rattle.vdcp_auto.specs.Heard.{heard_in}
 use Rattle.vdcp_auto.specs.Plan.{Plan}
 use Rattle.vdcp_auto.specs.State.{State, Stage, Ready, Awaiting, Ended}
@@ -89,10 +89,7 @@ course_ticked plan unit s [] = refl
 course_ticked plan unit s (b ∷ bursts) =
     let h : Option Heard = heard_in unit b in
     let ins : List Input = map (input_in unit) bursts in
-    course_one plan (ticked s) h ins
-    ∙ ap (λ (x : State). if is_some (awaited plan x) then option_to_list (ended_by plan h x)
-    ++ course_from plan (came_to plan h x) ins else []) (ticked_twice s)
-    ∙ sym (course_one plan s h ins)
+    rw (course_one plan (ticked s) h ins, course_one plan s h ins, ticked_twice s) refl
 
 -- one burst that ended, and the rest
 burst_by : (plan : Plan) (s : State) (h : Option Heard) (ins : List Input) (rest : List Exchange) (o : Option Command)
@@ -111,9 +108,7 @@ one_burst : (plan : Plan) (s : State) (h g : Option Heard) (ins : List Input) (r
     → rest ≡ course_from plan (came_to plan h (ticked s)) ins → (awaited plan (ticked s) ≡ None → rest ≡ [])
     → (option_to_list (ended_by plan h (ticked s)) ++ []) ++ rest ≡ course_from plan s (input_of g ∷ ins)
 one_burst plan s h g ins rest same goes stops =
-    burst_by plan s h ins rest (awaited plan (ticked s)) refl goes stops
-    ∙ sym (course_one plan s h ins)
-    ∙ ap (λ (x : Option Heard). course_from plan s (input_of x ∷ ins)) same
+    rw (← same, course_one plan s h ins) (burst_by plan s h ins rest (awaited plan (ticked s)) refl goes stops)
 
 abbrev fresh : Burst
 fresh = begun (holds [])
@@ -166,15 +161,12 @@ none_within burst close later is = cc
 
 input_ticked : (plan : Plan) (s : State) (h : Option Heard)
     → after_input plan (ticked s) (input_of h) ≡ after_input plan s (input_of h)
-input_ticked plan s h =
-    after_one plan (ticked s) h ∙ ap (came_to plan h) (ticked_twice s) ∙ sym (after_one plan s h)
+input_ticked plan s h = rw (after_one plan (ticked s) h, after_one plan s h, ticked_twice s) refl
 
 left_ticked : (plan : Plan) (unit : ℕ) (s : State) (bursts : List (List ℕ)) (came : List Arrival)
     → (bursts ≡ [] → is_within_burst came ≡ true)
     → left_behind plan (ticked s) (map (input_in unit) bursts) came ≡ left_behind plan s (map (input_in unit) bursts) came
-left_ticked plan unit s [] came within =
-    ap (λ (b : Bool). if b then ticked (ticked s) else ticked s) (within refl)
-    ∙ ticked_twice s ∙ ap (λ (b : Bool). if b then ticked s else s) (sym (within refl))
+left_ticked plan unit s [] came within = rw (within refl, ticked_twice s) refl
 left_ticked plan unit s (b ∷ bursts) came within =
     ap (λ (x : State). left_behind plan x (map (input_in unit) bursts) came) (input_ticked plan s (heard_in unit b))
 
@@ -215,14 +207,10 @@ new_course law plan unit count a' r u h =
     let came_is : u.came ≡ h.since = h.came_is in
     let log = log_course law plan unit fresh start [] h.since (All-nil (λ b. b < 256)) h.octets h.closes_last refl in
     record {
-      state_is = ap (λ (x : Auto Burst). x.state) h.auto_is
-          ∙ state_left law plan unit fresh start [] h.since (All-nil (λ b. b < 256)) h.octets h.closes_last refl
-          ∙ ap (λ (l : List Arrival). left_behind plan start (inputs_behind unit [] l) l) (sym came_is);
+      state_is = rw came_is (ap (λ (x : Auto Burst). x.state) h.auto_is
+          ∙ state_left law plan unit fresh start [] h.since (All-nil (λ b. b < 256)) h.octets h.closes_last refl);
       commands = h.commands;
-      commands_are = h.commands_are
-          ∙ ap (λ (l : List Exchange). map (λ e. e.command) l ++ option_to_list (awaited plan a'.state)) log
-          ∙ ap (λ (l : List Arrival). map (λ e. e.command) (course plan (inputs_behind unit [] l))
-          ++ option_to_list (awaited plan a'.state)) (sym came_is);
+      commands_are = rw (came_is, ← log) h.commands_are;
       sent_is = h.sent_is;
       drops_are = h.drops_are;
     }
@@ -253,14 +241,10 @@ left_so : (law : Below) (plan : Plan) (unit : ℕ) (a' : Auto Burst) (came since
     → (a' ≡ after at_silences plan unit new_auto since) ⊎ (a' ≡ gives (after at_silences plan unit new_auto since))
     → (a'.state ≡ left_behind plan start (inputs_behind unit [] came) came)
     ⊎ (a'.state ≡ ticked (left_behind plan start (inputs_behind unit [] came) came))
-left_so law plan unit a' came since same fits last (inl is) =
-    inl (ap (λ (x : Auto Burst). x.state) is
-    ∙ state_left law plan unit fresh start [] since (All-nil (λ b. b < 256)) fits last refl
-    ∙ ap (λ (l : List Arrival). left_behind plan start (inputs_behind unit [] l) l) (sym same))
-left_so law plan unit a' came since same fits last (inr is) =
-    inr (ap (λ (x : Auto Burst). x.state) is
-    ∙ ap ticked (state_left law plan unit fresh start [] since (All-nil (λ b. b < 256)) fits last refl
-    ∙ ap (λ (l : List Arrival). left_behind plan start (inputs_behind unit [] l) l) (sym same)))
+left_so law plan unit a' came since same fits last (inl is) = inl (rw same (ap (λ (x : Auto Burst). x.state) is
+    ∙ state_left law plan unit fresh start [] since (All-nil (λ b. b < 256)) fits last refl))
+left_so law plan unit a' came since same fits last (inr is) = inr (rw same (ap (λ (x : Auto Burst). x.state) is
+    ∙ ap ticked (state_left law plan unit fresh start [] since (All-nil (λ b. b < 256)) fits last refl)))
 
 pub new_broken : (law : Below) (plan : Plan) (unit : ℕ) (a' : Auto Burst) (u : Told)
     → BreaksOn at_silences plan unit new_auto a' nothing_told u → HasCourseBroken plan unit u a'.state
@@ -270,10 +254,7 @@ new_broken law plan unit a' u h =
     record {
       state_is = left_so law plan unit a' u.came h.since came_is h.octets h.closes_last h.auto_is;
       commands = h.commands;
-      commands_are = h.commands_are
-          ∙ ap (λ (l : List Exchange). map (λ e. e.command) l ++ option_to_list (awaited plan a'.state)) log
-          ∙ ap (λ (l : List Arrival). map (λ e. e.command) (course plan (inputs_behind unit [] l))
-          ++ option_to_list (awaited plan a'.state)) (sym came_is);
+      commands_are = rw (came_is, ← log) h.commands_are;
       unsent = h.unsent;
       sent_is = h.sent_is;
       drops_are = h.drops_are;

@@ -1,8 +1,8 @@
 -- The first message that a burst completes is the first that it reads as.
 use Rattle.std.proofs.Common.{ℕ, ◌≡◌, ◌<◌, List, [], ◌∷◌, ◌++◌, length, map, drop, refl, sym, ap, subst, ◌∙◌, append_assoc}
-use Rattle.std.proofs.Math.Seq.{take-append_seam, drop-append_seam}
+use Rattle.std.proofs.Math.Seq.{drop-append_seam}
 use Rattle.std.proofs.lemmas.List.{take-append-drop}
-use Rattle.std.proofs.lemmas.List.Elements.{All-take, All-drop}
+use Rattle.std.proofs.lemmas.List.Elements.{All-drop}
 use Rattle.vdcp_frame.specs.Burst.{messages_of, end_of}
 use Rattle.vdcp_frame.specs.Message.{Content, AreOctets, Spells, spelling}
 use Rattle.vdcp_frame.specs.Reading.{End, clean, cut, fault, Reads, burst_limit}
@@ -11,7 +11,7 @@ use Rattle.vdcp_drive.specs.Hearing.{begun, burst_after, burst_says, burst_with}
 use Rattle.vdcp_drive.specs.HearingLaws.{completed_both}
 use Rattle.vdcp_drive.specs.Reading.{Held, holds, skips, held_with, held_after, completed}
 use Rattle.vdcp_drive.specs.Below.{Below}
-use Rattle.vdcp_drive.proofs.Completing.{completes, completes_nothing}
+use Rattle.vdcp_drive.proofs.Completing.{completes, completes_nothing, octets_front}
 
 -- a burst that reads as some message first begins with a spelling of it
 record BeginsWith (burst : List ℕ) (m : Content) : Type 0 where
@@ -31,14 +31,8 @@ begins_with law burst m ms fits is =
       first = front.spelt.0;
       more = front.spelt.1 ++ (front.remainder ++ rest);
       spelt = front.spelt.2;
-      parts = sym (take-append-drop burst_limit burst) ∙ ap (λ (l : List ℕ). l ++ rest) front.parts
-          ∙ append_assoc front.whole front.remainder rest
-          ∙ ap (λ (l : List ℕ). l ++ (front.remainder ++ rest)) front.spelt.4
-          ∙ append_assoc front.spelt.0 front.spelt.1 (front.remainder ++ rest);
+      parts = sym (take-append-drop burst_limit burst) ∙ rw (front.parts, front.spelt.4) (simp append_assoc);
     }
-
-octets_front : (xs ys : List ℕ) → AreOctets (xs ++ ys) → AreOctets xs
-octets_front xs ys h = subst AreOctets (take-append_seam xs ys) (All-take (λ b. b < 256) (length xs) (xs ++ ys) h)
 
 octets_back : (xs ys : List ℕ) → AreOctets (xs ++ ys) → AreOctets ys
 octets_back xs ys h = subst AreOctets (drop-append_seam xs ys) (All-drop (λ b. b < 256) (length xs) (xs ++ ys) h)

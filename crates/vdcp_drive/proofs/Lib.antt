@@ -1,3 +1,4 @@
+-- The lemmas, file by file.
 mod Examples
 pub mod Cutting
 pub mod Chains

@@ -1,5 +1,5 @@
 -- A run with an operator, move by move.
-use Rattle.std.proofs.Common.{ℕ, ◌≡◌, ◌+◌, ◌-◌, ◌<◌, ◌≢◌, List, [], ◌∷◌, ◌++◌, length, refl, sym, ap, subst, ◌∙◌, arith, append-nil, append_assoc, length-append}
+use Rattle.std.proofs.Common.{ℕ, ◌≡◌, ◌+◌, ◌-◌, ◌<◌, ◌≢◌, List, [], ◌∷◌, ◌++◌, length, refl, ap, subst, ◌∙◌, arith, append-nil, append_assoc, length-append}
 use Rattle.std.specs.Prelude.{◌↔◌, Option, Some, None, Result, Ok, Err, IsSome}
 use Rattle.vdcp_value.specs.declared.part.Item.{Item}
 use Rattle.vdcp_auto.specs.Course.{Reached, Take, Stop}
@@ -34,8 +34,7 @@ pub round_more : {S E W K V O : Type 0} (parts : Parts S E W K V O) (made : ℕ)
 round_more parts made s t u v answer h said asks is ran = record {
   said = h.said ++ said ∷ [];
   count = omega (arith, h.count, length-append h.said (said ∷ []));
-  rounds = chain_both (Rounds parts) h.said (said ∷ []) s t v h.rounds
-      (v, (u, asks, subst (λ (r : Result Ran KeptFault). Runs parts 1 r u v) is ran), refl);
+  rounds = chain_both (Rounds parts) h.said (said ∷ []) s t v h.rounds (v, (u, asks, rw is at ran), refl);
 }
 
 over : {S E W K V O : Type 0} (parts : Parts S E W K V O) (made left count : ℕ) (s t u : Scene S E W K V O)
@@ -78,13 +77,13 @@ missed_over parts made count s t u fault h few is m same watched =
     (missed m.0 (omega (arith, few)) (ap (λ (f : KeptFault). Err f) is) m.1 m.2 same watched)
 
 call_led : (plan : Plan) (c : Call) (s : State) → IsReachedFrom plan s (called c s)
-call_led plan call.Take s log h = ([], subst (Reached plan (called call.Take s)) (sym (append-nil log)) (course.called h Take))
-call_led plan call.Stop s log h = ([], subst (Reached plan (called call.Stop s)) (sym (append-nil log)) (course.called h Stop))
+call_led plan call.Take s log h = ([], rw append-nil (course.called h Take))
+call_led plan call.Stop s log h = ([], rw append-nil (course.called h Stop))
 
 led_on : (plan : Plan) (s t u : State) → IsReachedFrom plan s t → IsReachedFrom plan t u → IsReachedFrom plan s u
 led_on plan s t u h k = λ log r.
     let x = h log r in let y = k (log ++ x.0) x.1 in
-    (x.0 ++ y.0, subst (Reached plan u) (append_assoc log x.0 y.0) y.1)
+    (x.0 ++ y.0, rw append_assoc at y.1)
 
 -- what stays of a driver, and where its controller was led
 pub record Went {S E W : Type 0} (items : S → List Item) (d d' : Driving S E W) : Type 0 where
@@ -103,16 +102,10 @@ went_on {S} items d e f a b = record {
 -- by what the operator said
 said_went : {S E W K : Type 0} (items : S → List Item) (calls : Call → K → K → Type 0) (said : Option Call)
     (d d' : Driving S E W) (k k' : K) → Gives calls said d d' k k' → Went items d d'
-said_went items calls None d d' k k' h = subst (Went items d) (sym h.0) (record {
-  controller = refl;
-  unit = refl;
-  reached = λ log r. ([], subst (Reached (plan_of items d.controller) d.controller.state) (sym (append-nil log)) r);
-})
-said_went items calls (Some c) d d' k k' h = subst (Went items d) (sym h.1) (record {
-  controller = refl;
-  unit = refl;
-  reached = call_led (plan_of items d.controller) c d.controller.state;
-})
+said_went items calls None d d' k k' h =
+    rw h.0 (record { controller = refl; unit = refl; reached = λ log r. ([], rw append-nil r) })
+said_went items calls (Some c) d d' k k' h =
+    rw h.1 (record { controller = refl; unit = refl; reached = call_led (plan_of items d.controller) c d.controller.state })
 
 -- and by a run after that
 pub round_went : {S E W K : Type 0} (items : S → List Item) (calls : Call → K → K → Type 0) (said : Option Call)

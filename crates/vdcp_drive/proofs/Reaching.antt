@@ -1,9 +1,8 @@
 -- A run leads to states that calls of a controller lead to.
-use Rattle.std.proofs.Common.{ℕ, ◌≡◌, List, [], ◌∷◌, ◌++◌, refl, sym, subst, ◌∙◌, append_assoc, append-nil, arith}
+use Rattle.std.proofs.Common.{ℕ, ◌≡◌, List, [], ◌∷◌, ◌++◌, refl, sym, subst, append_assoc, append-nil, arith}
 use Rattle.std.specs.Option.{option_to_list}
 use Rattle.std.specs.Prelude.{◌↔◌, if◌then◌else◌, Option, Some, None, Result, Ok, Err, IfOk, IsSome, OnOk}
 use Rattle.vdcp_value.specs.declared.part.Item.{Item}
-use Rattle.vdcp_words.specs.declared.command.Command.{Command}
 use Rattle.vdcp_auto.specs.Course.{Reached, Tick, Receive, called, logged}
 use Rattle.vdcp_auto.specs.Plan.{Plan, plan_of}
 use Rattle.vdcp_auto.specs.State.{State}
@@ -30,23 +29,17 @@ receives_reached : (plan : Plan) (hs : List (Option Heard)) (s : State) (log : L
     → Reached plan (receives plan hs s) (log ++ ended plan hs s)
 receives_reached plan [] s log h = subst (Reached plan s) (sym (append-nil log)) h
 receives_reached plan (x ∷ hs) s log h =
-    let s' : State = came_to plan x s in
-    let one : List Exchange = option_to_list (ended_by plan x s) in
-    let next : Reached plan s' (log ++ one) =
-    subst (Reached plan s') (logged_so log (ended_by plan x s)) (called h (Receive x)) in
-    subst (Reached plan (receives plan hs s')) (append_assoc log one (ended plan hs s'))
-    (receives_reached plan hs s' (log ++ one) next)
+    simp append_assoc at (receives_reached plan hs (came_to plan x s) (log ++ option_to_list (ended_by plan x s))
+    (rw logged_so at (called h (Receive x))))
 
 pub run_reached : {E : Type 0} (fold : Fold E) (plan : Plan) (unit : ℕ) (a : Auto E) (came : List Arrival)
     (log : List Exchange) → Reached plan a.state log
     → Reached plan (after fold plan unit a came).state (log ++ log_of fold plan unit a came)
 run_reached fold plan unit a [] log h = subst (Reached plan a.state) (sym (append-nil log)) h
-run_reached {E} fold plan unit a (what ∷ later) log h =
-    let b : Auto E = listens fold plan unit what (gives a) in
-    let es : List Exchange = ended plan (inputs fold unit what a.ear) (ticked a.state) in
-    subst (Reached plan (after fold plan unit b later).state) (append_assoc log es (log_of fold plan unit b later))
-    (run_reached fold plan unit b later (log ++ es)
-    (receives_reached plan (inputs fold unit what a.ear) (ticked a.state) log (called h Tick)))
+run_reached fold plan unit a (what ∷ later) log h =
+    let hs : List (Option Heard) = inputs fold unit what a.ear in
+    simp append_assoc at (run_reached fold plan unit (listens fold plan unit what (gives a)) later
+    (log ++ ended plan hs (ticked a.state)) (receives_reached plan hs (ticked a.state) log (called h Tick)))
 
 given_led : (plan : Plan) (s t : State) → IsReachedFrom plan s t → IsReachedFrom plan s (ticked t)
 given_led plan s t led = λ log reached. let r = led log reached in (r.0, called r.1 Tick)
@@ -68,40 +61,25 @@ ended_by_run ran.Spent (Some o) count came to = let none = to.0 in cc
 -- where the wire failed
 failed_led : (plan : Plan) (state state' : State) (answer : Result Ran KeptFault) → answer ≡ Err fault.Device
     → IsReachedFrom plan state state' → Led plan state state' answer
-failed_led plan state state' answer is reached = record {
-  reached = reached;
-  ended_so = subst (λ (x : Result Ran KeptFault). IfOk x (λ r. (r ≡ ran.Ended) ↔ IsSome (outcome_of state'.stage)))
-      (sym is) tt;
-  unkept = λ other. let clash : ◌≡◌ {A = Result Ran KeptFault} (Err fault.Device) (Err fault.Unkept) = sym is ∙ other in cc;
-}
+failed_led plan state state' answer is reached = rw is (record { reached = reached; ended_so = tt; unkept = λ other. cc })
 
 ends_led : {E : Type 0} (fold : Fold E) (plan : Plan) (unit count : ℕ) (came : List Arrival) (a b : Auto E)
     (answer : Result Ran KeptFault) (more : List Step) (a' : Auto E)
     → IsReachedFrom plan a.state b.state → Ending fold plan unit count came b answer more a'
     → Led plan a.state a'.state answer
-ends_led {E} fold plan unit count came a b answer more a' led (by_itself r is to none left) = record {
-  reached = subst (λ (x : Auto E). IsReachedFrom plan a.state x.state) (sym left) led;
-  ended_so = subst (λ (x : Auto E). IfOk answer (λ r. (r ≡ ran.Ended) ↔ IsSome (outcome_of x.state.stage))) (sym left)
-      (subst (λ (x : Result Ran KeptFault). IfOk x (λ r. (r ≡ ran.Ended) ↔ IsSome (outcome_of b.state.stage))) (sym is)
-      (ended_by_run r (outcome_of b.state.stage) count came to));
-  unkept = λ other. let clash : ◌≡◌ {A = Result Ran KeptFault} (Ok r) (Err fault.Unkept) = sym is ∙ other in cc;
-}
-ends_led {E} fold plan unit count came a b answer more a' led (in_keep c is gives_it are left) = record {
-  reached = subst (λ (x : Auto E). IsReachedFrom plan a.state x.state) (sym left) led;
-  ended_so = subst (λ (x : Result Ran KeptFault). IfOk x (λ r. (r ≡ ran.Ended) ↔ IsSome (outcome_of a'.state.stage)))
-      (sym is) tt;
-  unkept = λ _. subst (λ (x : Auto E). IsSome (given plan x.state)) (sym left)
-      (subst (λ (o : Option Command). IsSome o) (sym gives_it) refl);
-}
-ends_led {E} fold plan unit count came a b answer more a' led (in_drop c is first gives_it are left) =
-    failed_led plan a.state a'.state answer is
-    (subst (λ (x : Auto E). IsReachedFrom plan a.state x.state) (sym left) led)
-ends_led {E} fold plan unit count came a b answer more a' led (in_send c front rest is gives_it parts are left) =
-    failed_led plan a.state a'.state answer is
-    (subst (λ (x : Auto E). IsReachedFrom plan a.state x.state) (sym left) (given_led plan a.state b.state led))
-ends_led {E} fold plan unit count came a b answer more a' led (in_listen is are left) =
-    failed_led plan a.state a'.state answer is
-    (subst (λ (x : Auto E). IsReachedFrom plan a.state x.state) (sym left) (given_led plan a.state b.state led))
+ends_led fold plan unit count came a b answer more a' led (by_itself r is to none left) = rw (is, left) (record {
+  reached = led;
+  ended_so = ended_by_run r (outcome_of b.state.stage) count came to;
+  unkept = λ other. cc;
+})
+ends_led fold plan unit count came a b answer more a' led (in_keep c is gives_it are left) =
+    rw (is, left) (record { reached = led; ended_so = tt; unkept = λ _. rw gives_it refl })
+ends_led fold plan unit count came a b answer more a' led (in_drop c is first gives_it are left) =
+    failed_led plan a.state a'.state answer is (rw left led)
+ends_led fold plan unit count came a b answer more a' led (in_send c front rest is gives_it parts are left) =
+    failed_led plan a.state a'.state answer is (rw left (given_led plan a.state b.state led))
+ends_led fold plan unit count came a b answer more a' led (in_listen is are left) =
+    failed_led plan a.state a'.state answer is (rw left (given_led plan a.state b.state led))
 
 pub led_by : {E W K V : Type 0} (rules : Rules W K V) (fold : Fold E) (plan : Plan) (unit count : ℕ) (a a' : Auto E)
     (world world' : World W K V) (answer : Result Ran KeptFault)

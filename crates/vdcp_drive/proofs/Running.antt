@@ -18,7 +18,6 @@ use Rattle.vdcp_drive.specs.Steps.{Chain, Step, acts, keeps, misses, looks, Rule
 use Rattle.vdcp_drive.specs.Traces.{until_close}
 use Rattle.vdcp_drive.specs.declared.keep.KeptFault.{KeptFault}
 use Rattle.vdcp_drive.specs.declared.keep.KeptFault.TheVariants as fault
-use Rattle.vdcp_drive.specs.declared.keep.Kept.{Kept}
 use Rattle.vdcp_drive.specs.declared.keep.Kept.TheVariants as row
 use Rattle.vdcp_drive.specs.declared.line.Line.{Line}
 use Rattle.vdcp_drive.specs.declared.line.Line.TheVariants as line
@@ -113,10 +112,7 @@ pub round_unsent : {E W K V : Type 0} (rules : Rules W K V) (fold : Fold E) (pla
     → HasKeptAndSent rules.does rules.adds rules.loses fold.drops plan unit a.state state' w w' k k' (Err f)
     → HasRun rules fold plan unit 1 a (record { ear = a.ear; state = state' }) (at w k v) (at w' k' v) (Err f)
 round_unsent rules fold plan unit a state' w w' k k' v fault.Unkept h =
-    subst (λ (s : State). HasRun rules fold plan unit 1 a (record { ear = a.ear; state = s }) (at w k v) (at w' k' v)
-    (Err fault.Unkept)) (sym h.0)
-    (subst (λ (x : _). HasRun rules fold plan unit 1 a a (at w k v) (at x k' v) (Err fault.Unkept)) (sym h.1)
-    (unkept rules fold plan unit a w k k' v (given plan a.state) refl h.2))
+    rw (h.0, h.1) (unkept rules fold plan unit a w k k' v (given plan a.state) refl h.2)
 round_unsent rules fold plan unit a state' w w' k k' v fault.Device h =
     unsent rules fold plan unit a state' w w' k k' v h.0 h.1
 
@@ -140,18 +136,12 @@ pub round_ended : {E W K V : Type 0} (rules : Rules W K V) (fold : Fold E) (plan
     (w w' : W) (k k' : K) (v : V) → Chain rules.adds (given_notes (given plan a.state)) k k' → state' ≡ ticked a.state
     → Chain rules.does (sending fold.drops unit (given plan a.state)) w w' → is_awaiting state'.stage ≡ false
     → HasRun rules fold plan unit 1 a (record { ear = a.ear; state = state' }) (at w k v) (at w' k' v) (Ok ran.Ended)
-round_ended {E} {W} {K} {V} rules fold plan unit a state' w w' k k' v kept ticks sent idle =
-    let e : HasEnded plan a.state =
-    ended_in plan a.state a.state.stage refl (subst (λ (s : State). is_awaiting s.stage ≡ false) ticks idle) in
-    let k_is : k' ≡ k = subst (λ (g : Option Command). Chain rules.adds (given_notes g) k k') e.none kept in
-    let w_is : w' ≡ w =
-    subst (λ (g : Option Command). Chain rules.does (sending fold.drops unit g) w w') e.none sent in
-    subst (λ (s : State). HasRun rules fold plan unit 1 a (record { ear = a.ear; state = s }) (at w k v) (at w' k' v)
-    (Ok ran.Ended)) (sym (ticks ∙ e.stays))
-    (subst (λ (x : World W K V). HasRun rules fold plan unit 1 a a (at w k v) x (Ok ran.Ended))
-    (ap₂ (λ (x : W) (y : K). at x y v) (sym w_is) (sym k_is))
-    (cut rules fold plan unit a a (at w k v) (at w k v) (Ok ran.Ended) [] refl
-    (by_itself ran.Ended refl (e.outcome, omega arith) refl refl)))
+round_ended rules fold plan unit a state' w w' k k' v kept ticks sent idle =
+    let e : HasEnded plan a.state = ended_in plan a.state a.state.stage refl (rw ticks at idle) in
+    let k_is : k' ≡ k = rw e.none at kept in
+    let w_is : w' ≡ w = rw e.none at sent in
+    rw (ticks, e.stays, w_is, k_is) (cut rules fold plan unit a a (at w k v) (at w k v) (Ok ran.Ended) [] refl
+    (by_itself ran.Ended refl (e.outcome, omega arith) refl refl))
 
 -- it went out, and the listen failed
 pub round_unheard : {E W K V : Type 0} (rules : Rules W K V) (fold : Fold E) (plan : Plan) (unit : ℕ) (a : Auto E)
@@ -180,8 +170,7 @@ one_ran None close = (refl, refl, omega arith)
 
 one_closes : (what : Arrival) → until_close (what ∷ []) ≡ what ∷ []
 one_closes (bytes piece) = refl
-one_closes silence = refl
-one_closes close = refl
+one_closes what = refl
 
 pub round_heard : {E W K V : Type 0} (rules : Rules W K V) (fold : Fold E) (plan : Plan) (unit : ℕ) (a : Auto E)
     (s₁ s₂ : State) (e₂ : E) (l : Line) (w w₁ w₂ : W) (k k₁ k₂ : K) (v v' : V)
@@ -200,11 +189,8 @@ round_heard {E} {W} {K} {V} rules fold plan unit a s₁ s₂ e₂ l w w₁ w₂ 
       octets = All-cons AreOctetsIn heard.what [] heard.octets (All-nil AreOctetsIn);
       closes_last = one_closes heard.what;
       more = [];
-      happened = subst (λ (x : List Step). Happens rules x (at w k v) (at w₂ k₂ v'))
-          (sym (append-nil (steps ++ []) ∙ append-nil steps))
-          (one_round rules fold plan unit a heard.what w w₁ w₂ k k₁ k₂ v v' kept sent
-          (subst (λ (s : State). rules.sees s v v') ticks seen) heard.brought
-          (subst (λ (s : State). Notes rules.adds fold plan unit s a.ear k₁ k₂ heard.what) ticks heard.more));
+      happened = simp append-nil (one_round rules fold plan unit a heard.what w w₁ w₂ k k₁ k₂ v v' kept sent
+          (rw ticks at seen) heard.brought (rw ticks at heard.more));
       ending = by_itself r refl (subst (λ (x : Auto E). RunsTo r (outcome_of x.state.stage) 1 (heard.what ∷ [])) left_is
           (subst (λ (x : Ran). RunsTo x (outcome_of s₂.stage) 1 (heard.what ∷ []))
           (sym (is ∙ ap (λ (x : Line). ran_unless_ended (outcome_of s₂.stage) (ran_of x)) heard.line_is))
@@ -230,15 +216,13 @@ stands_here rules fold plan unit a world =
 
 closed_both : (xs ys : List Arrival) → has_closed xs ≡ false → has_closed (xs ++ ys) ≡ has_closed ys
 closed_both [] ys h = refl
-closed_both (bytes piece ∷ xs) ys h = closed_both xs ys h
-closed_both (silence ∷ xs) ys h = closed_both xs ys h
 closed_both (close ∷ xs) ys h = cc
+closed_both (x ∷ xs) ys h = closed_both xs ys h
 
 last_both : (xs ys : List Arrival) → has_closed xs ≡ false → until_close ys ≡ ys → until_close (xs ++ ys) ≡ xs ++ ys
 last_both [] ys h last = last
-last_both (bytes piece ∷ xs) ys h last = ap (λ (l : List Arrival). bytes piece ∷ l) (last_both xs ys h last)
-last_both (silence ∷ xs) ys h last = ap (λ (l : List Arrival). silence ∷ l) (last_both xs ys h last)
 last_both (close ∷ xs) ys h last = cc
+last_both (x ∷ xs) ys h last = ap (λ (l : List Arrival). x ∷ l) (last_both xs ys h last)
 
 abbrev pub closing : Line → Bool
 closing line.More = false
@@ -252,8 +236,7 @@ goes_on line.Closed h = absurd (h refl)
 
 one_closed : (what : Arrival) → has_closed (what ∷ []) ≡ closing (line_of what)
 one_closed (bytes piece) = refl
-one_closed silence = refl
-one_closed close = refl
+one_closed what = refl
 
 pub closed_more : (came : List Arrival) (what : Arrival) → has_closed came ≡ false
     → has_closed (came ++ what ∷ []) ≡ closing (line_of what)
@@ -268,13 +251,10 @@ happened_both : {E W K V : Type 0} (rules : Rules W K V) (fold : Fold E) (plan :
     → (h : Stands rules fold plan unit made a b world world')
     → Happens rules (steps_of fold plan unit b ys ++ more) world' world₂
     → Happens rules (steps_of fold plan unit a (h.came ++ ys) ++ more) world world₂
-happened_both {E} rules fold plan unit made a b world world' world₂ ys more h next =
-    let c : Auto E = after fold plan unit a h.came in
-    subst (λ (x : List Step). Happens rules x world world₂)
-    (sym (ap (λ (x : List Step). x ++ more) (steps_both fold plan unit a h.came ys)
-    ∙ append_assoc (steps_of fold plan unit a h.came) (steps_of fold plan unit c ys) more))
-    (chain_both (Does rules) (steps_of fold plan unit a h.came) (steps_of fold plan unit c ys ++ more) world world' world₂
-    h.happened (subst (λ (x : Auto E). Happens rules (steps_of fold plan unit x ys ++ more) world' world₂) h.auto_is next))
+happened_both rules fold plan unit made a b world world' world₂ ys more h next =
+    rw (steps_both fold plan unit a h.came ys, append_assoc) (chain_both (Does rules) (steps_of fold plan unit a h.came)
+    (steps_of fold plan unit (after fold plan unit a h.came) ys ++ more) world world' world₂ h.happened
+    (rw h.auto_is at next))
 
 ran_on : (r : Ran) (o : Option Outcome) (made count : ℕ) (xs ys : List Arrival) → RunsTo r o 1 ys → length xs ≡ made
     → made < count → has_closed xs ≡ false → (r ≡ ran.Spent → ⊥) → RunsTo r o count (xs ++ ys)
@@ -311,10 +291,8 @@ run_over {E} rules fold plan unit made count a b b' world world' world₂ answer
   closes_last = last_both h.came r.came h.open_still r.closes_last;
   more = r.more;
   happened = happened_both rules fold plan unit made a b world world' world₂ r.came r.more h r.happened;
-  ending = subst (λ (x : Auto E). Ending fold plan unit count (h.came ++ r.came) x answer r.more b')
-      (ap (λ (x : Auto E). after fold plan unit x r.came) h.auto_is ∙ sym (after_both fold plan unit a h.came r.came))
-      (ends_on fold plan unit made count h.came r.came (after fold plan unit b r.came) b' answer r.more h.count few
-      h.open_still other r.ending);
+  ending = rw (after_both fold plan unit a h.came r.came, ← h.auto_is) (ends_on fold plan unit made count h.came r.came
+      (after fold plan unit b r.came) b' answer r.more h.count few h.open_still other r.ending);
 }
 
 -- all its listens were made
@@ -329,18 +307,12 @@ spends : {E : Type 0} (fold : Fold E) (plan : Plan) (unit : ℕ) (came : List Ar
     → Ending fold plan unit 1 came a answer more a' → Spends came more a a'
 spends fold plan unit came a a' answer more spent (by_itself ran.Spent is to none left) =
     record { one = to.2; open_still = to.1; none = none; left = left }
-spends fold plan unit came a a' answer more spent (by_itself ran.Ended is to none left) =
-    let clash : ◌≡◌ {A = Result Ran KeptFault} (Ok ran.Ended) (Ok ran.Spent) = sym is ∙ spent in cc
-spends fold plan unit came a a' answer more spent (by_itself ran.Closed is to none left) =
-    let clash : ◌≡◌ {A = Result Ran KeptFault} (Ok ran.Closed) (Ok ran.Spent) = sym is ∙ spent in cc
-spends fold plan unit came a a' answer more spent (in_keep c is gives_it are left) =
-    let clash : ◌≡◌ {A = Result Ran KeptFault} (Err fault.Unkept) (Ok ran.Spent) = sym is ∙ spent in cc
-spends fold plan unit came a a' answer more spent (in_drop c is first gives_it are left) =
-    let clash : ◌≡◌ {A = Result Ran KeptFault} (Err fault.Device) (Ok ran.Spent) = sym is ∙ spent in cc
-spends fold plan unit came a a' answer more spent (in_send c front rest is gives_it parts are left) =
-    let clash : ◌≡◌ {A = Result Ran KeptFault} (Err fault.Device) (Ok ran.Spent) = sym is ∙ spent in cc
-spends fold plan unit came a a' answer more spent (in_listen is are left) =
-    let clash : ◌≡◌ {A = Result Ran KeptFault} (Err fault.Device) (Ok ran.Spent) = sym is ∙ spent in cc
+spends fold plan unit came a a' answer more spent (by_itself ran.Ended is to none left) = cc
+spends fold plan unit came a a' answer more spent (by_itself ran.Closed is to none left) = cc
+spends fold plan unit came a a' answer more spent (in_keep c is gives_it are left) = cc
+spends fold plan unit came a a' answer more spent (in_drop c is first gives_it are left) = cc
+spends fold plan unit came a a' answer more spent (in_send c front rest is gives_it parts are left) = cc
+spends fold plan unit came a a' answer more spent (in_listen is are left) = cc
 
 pub stands_more : {E W K V : Type 0} (rules : Rules W K V) (fold : Fold E) (plan : Plan) (unit : ℕ) (made : ℕ)
     (a b b' : Auto E) (world world' world₂ : World W K V) (answer : Result Ran KeptFault)
@@ -354,10 +326,8 @@ stands_more {E} rules fold plan unit made a b b' world world' world₂ answer h 
       octets = All-append AreOctetsIn h.came r.came h.octets r.octets;
       auto_is = s.left ∙ ap (λ (x : Auto E). after fold plan unit x r.came) h.auto_is
           ∙ sym (after_both fold plan unit a h.came r.came);
-      happened = subst (λ (x : List Step). Happens rules x world world₂)
-          (append-nil (steps_of fold plan unit a (h.came ++ r.came)))
-          (happened_both rules fold plan unit made a b world world' world₂ r.came [] h
-          (subst (λ (x : List Step). Happens rules (steps_of fold plan unit b r.came ++ x) world' world₂) s.none r.happened));
+      happened = simp append-nil at (happened_both rules fold plan unit made a b world world' world₂ r.came [] h
+          (rw s.none at r.happened));
     }
 
 spent_by : (o : Option Outcome) (count : ℕ) (came : List Arrival) → has_closed came ≡ false → length came ≡ count
@@ -366,7 +336,7 @@ spent_by (Some o) count came still all = (refl, omega (arith, all))
 spent_by None count came still all = (refl, still, all)
 
 last_open : (xs : List Arrival) → has_closed xs ≡ false → until_close xs ≡ xs
-last_open xs h = subst (λ (l : List Arrival). until_close l ≡ l) (append-nil xs) (last_both xs [] h refl)
+last_open xs h = simp append-nil at (last_both xs [] h refl)
 
 pub run_spent : {E W K V : Type 0} (rules : Rules W K V) (fold : Fold E) (plan : Plan) (unit : ℕ) (made count : ℕ)
     (a a' : Auto E) (world world' : World W K V) (r : Ran) → Stands rules fold plan unit made a a' world world'
@@ -377,24 +347,7 @@ run_spent {E} rules fold plan unit made count a a' world world' r h all is = rec
   octets = h.octets;
   closes_last = last_open h.came h.open_still;
   more = [];
-  happened = subst (λ (x : List Step). Happens rules x world world') (sym (append-nil (steps_of fold plan unit a h.came)))
-      h.happened;
-  ending = by_itself r refl (subst (λ (x : Auto E). RunsTo r (outcome_of x.state.stage) count h.came) h.auto_is
-      (subst (λ (x : Ran). RunsTo x (outcome_of a'.state.stage) count h.came) (sym is)
-      (spent_by (outcome_of a'.state.stage) count h.came h.open_still (h.count ∙ all)))) refl h.auto_is;
+  happened = simp append-nil h.happened;
+  ending = by_itself r refl (rw (← h.auto_is, is) (spent_by (outcome_of a'.state.stage) count h.came h.open_still
+      (h.count ∙ all))) refl h.auto_is;
 }
-
--- What the calls say, of the plan with which a run began.
-
-pub run_so : {E W K V : Type 0} (rules : Rules W K V) (fold : Fold E) (plan plan' : Plan) (unit count : ℕ) (a a' : Auto E)
-    (world world' : World W K V) (answer : Result Ran KeptFault) → plan' ≡ plan
-    → HasRun rules fold plan' unit count a a' world world' answer → HasRun rules fold plan unit count a a' world world' answer
-run_so rules fold plan plan' unit count a a' world world' answer planned h =
-    subst (λ (p : Plan). HasRun rules fold p unit count a a' world world' answer) planned h
-
-pub hears_so : {E W K : Type 0} (does : Act → W → W → Type 0) (adds : Kept → K → K → Type 0) (fold : Fold E)
-    (plan plan' : Plan) (unit : ℕ) (l : Line) (s s' : State) (e e' : E) (w w' : W) (k k' : K) → plan' ≡ plan
-    → Hears does fold plan' unit (Notes adds fold plan' unit s e k k') l s e w s' e' w'
-    → Hears does fold plan unit (Notes adds fold plan unit s e k k') l s e w s' e' w'
-hears_so does adds fold plan plan' unit l s s' e e' w w' k k' planned h =
-    subst (λ (p : Plan). Hears does fold p unit (Notes adds fold p unit s e k k') l s e w s' e' w') planned h

@@ -1,5 +1,5 @@
 -- At each moment of a run what went out was kept before.
-use Rattle.std.proofs.Common.{ℕ, ◌≡◌, Bool, true, false, List, [], ◌∷◌, ◌++◌, map, sym, subst, ◌∙◌, append_assoc, append-nil}
+use Rattle.std.proofs.Common.{ℕ, ◌≡◌, Bool, true, false, List, [], ◌∷◌, ◌++◌, map, sym, ◌∙◌, append_assoc, append-nil}
 use Rattle.std.specs.Prelude.{Option, Some, None, Result}
 use Rattle.vdcp_words.specs.declared.command.Command.{Command}
 use Rattle.vdcp_auto.specs.Plan.{Plan}
@@ -7,12 +7,12 @@ use Rattle.vdcp_auto.specs.Turn.{given, ticked}
 use Rattle.vdcp_auto.specs.declared.exchange.Exchange.{Exchange}
 use Rattle.vdcp_auto.specs.declared.exchange.Heard.{Heard}
 use Rattle.vdcp_wire.specs.Wires.{Arrival}
-use Rattle.vdcp_wire.specs.Acts.{sends, brings, drops, fails}
+use Rattle.vdcp_wire.specs.Acts.{sends, brings, fails}
 use Rattle.vdcp_drive.specs.Auto.{Auto, after, ended, gives, listens}
 use Rattle.vdcp_drive.specs.Ears.{Fold, inputs}
 use Rattle.vdcp_drive.specs.Leaves.{Ending, by_itself, in_keep, in_drop, in_send, in_listen, HasRun}
 use Rattle.vdcp_drive.specs.Safe.{AreSafe, IsFrontOf, IsCut, here, within, on}
-use Rattle.vdcp_drive.specs.Steps.{Step, acts, keeps, misses, looks, Rules, World, command_bytes, dropping, sending, given_notes, ended_notes, end_of, opening, round, steps_of}
+use Rattle.vdcp_drive.specs.Steps.{Step, acts, keeps, looks, Rules, World, command_bytes, dropping, sending, given_notes, ended_notes, end_of, opening, steps_of}
 use Rattle.vdcp_drive.specs.declared.keep.Kept.TheVariants as row
 use Rattle.vdcp_drive.specs.declared.keep.KeptFault.{KeptFault}
 use Rattle.vdcp_drive.specs.declared.line.Ran.{Ran}
@@ -27,14 +27,8 @@ pub safe_when_cut : (unit : ℕ) (kept : Option Command) (some all : List Step) 
 safe_when_cut unit kept some all here h = tt
 safe_when_cut unit kept some all (within front rest later) h = (front_of_front unit kept front rest h.0, tt)
 safe_when_cut unit kept some all (on (keeps (row.Sent c)) less more cut) h = safe_when_cut unit (Some c) less more cut h
-safe_when_cut unit kept some all (on (keeps (row.Heard x)) less more cut) h = safe_when_cut unit kept less more cut h
-safe_when_cut unit kept some all (on (keeps row.Silence) less more cut) h = safe_when_cut unit kept less more cut h
-safe_when_cut unit kept some all (on (misses c) less more cut) h = safe_when_cut unit kept less more cut h
-safe_when_cut unit kept some all (on (looks x) less more cut) h = safe_when_cut unit kept less more cut h
 safe_when_cut unit kept some all (on (acts (sends b)) less more cut) h = (h.0, safe_when_cut unit None less more cut h.1)
-safe_when_cut unit kept some all (on (acts (brings x)) less more cut) h = safe_when_cut unit kept less more cut h
-safe_when_cut unit kept some all (on (acts drops) less more cut) h = safe_when_cut unit kept less more cut h
-safe_when_cut unit kept some all (on (acts fails) less more cut) h = safe_when_cut unit kept less more cut h
+safe_when_cut unit kept some all (on x less more cut) h = safe_when_cut unit kept less more cut h
 
 -- the rows of ends change nothing
 ends_safe : (unit : ℕ) (log : List Exchange) (later : List Step) → AreSafe unit None later
@@ -63,11 +57,9 @@ steps_safe {E} fold plan unit a (what ∷ later) more h =
     let b : Auto E = listens fold plan unit what (gives a) in
     let rest : List Step = steps_of fold plan unit b later in
     let es : List Exchange = ended plan (inputs fold unit what a.ear) (ticked a.state) in
-    let tail : List Step = looks (ticked a.state) ∷ acts (brings what) ∷ map keeps (ended_notes es) in
-    subst (AreSafe unit None) (sym (append_assoc (round fold plan unit what a) rest more
-    ∙ append_assoc (opening fold plan unit a) tail (rest ++ more)))
-    (opening_safe fold plan unit a (tail ++ (rest ++ more))
-    (ends_safe unit es (rest ++ more) (steps_safe fold plan unit b later more h)))
+    simp append_assoc (simp append_assoc at (opening_safe fold plan unit a
+    (looks (ticked a.state) ∷ acts (brings what) ∷ map keeps (ended_notes es) ++ (rest ++ more))
+    (ends_safe unit es (rest ++ more) (steps_safe fold plan unit b later more h))))
 
 ending_by : (first : Bool) (unit : ℕ) (c : Command) (front rest : List ℕ) → command_bytes unit c ≡ front ++ rest
     → AreSafe unit None (keeps (row.Sent c) ∷ map acts (dropping first ++ sends front ∷ []))
@@ -77,16 +69,13 @@ ending_by false unit c front rest parts = ((rest, parts), tt)
 ending_safe : {E : Type 0} (fold : Fold E) (plan : Plan) (unit count : ℕ) (came : List Arrival) (a : Auto E)
     (answer : Result Ran KeptFault) (more : List Step) (a' : Auto E) → Ending fold plan unit count came a answer more a'
     → AreSafe unit None more
-ending_safe fold plan unit count came a answer more a' (by_itself r is to none left) =
-    subst (AreSafe unit None) (sym none) tt
-ending_safe fold plan unit count came a answer more a' (in_keep c is gives_it are left) =
-    subst (AreSafe unit None) (sym are) tt
-ending_safe fold plan unit count came a answer more a' (in_drop c is first gives_it are left) =
-    subst (AreSafe unit None) (sym are) tt
+ending_safe fold plan unit count came a answer more a' (by_itself r is to none left) = rw none tt
+ending_safe fold plan unit count came a answer more a' (in_keep c is gives_it are left) = rw are tt
+ending_safe fold plan unit count came a answer more a' (in_drop c is first gives_it are left) = rw are tt
 ending_safe fold plan unit count came a answer more a' (in_send c front rest is gives_it parts are left) =
-    subst (AreSafe unit None) (sym are) (ending_by fold.drops unit c front rest parts)
+    rw are (ending_by fold.drops unit c front rest parts)
 ending_safe fold plan unit count came a answer more a' (in_listen is are left) =
-    subst (AreSafe unit None) (sym are) (opening_safe fold plan unit a (looks (ticked a.state) ∷ acts fails ∷ []) tt)
+    rw are (opening_safe fold plan unit a (looks (ticked a.state) ∷ acts fails ∷ []) tt)
 
 -- at each moment of each run
 pub run_safe : {E W K V : Type 0} (rules : Rules W K V) (fold : Fold E) (plan : Plan) (unit count : ℕ) (a a' : Auto E)

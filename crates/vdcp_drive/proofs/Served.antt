@@ -24,7 +24,8 @@ use Rattle.vdcp_drive.specs.Traces.{came_in, sent_in, until_close}
 use Rattle.vdcp_drive.specs.declared.line.DriveFault.{DriveFault}
 use Rattle.vdcp_drive.specs.declared.line.Ran.{Ran}
 use Rattle.vdcp_drive.proofs.Cutting.{ended_bytes, ended_close, ended_silence, open_bytes, open_close, open_silence}
-use Rattle.vdcp_drive.proofs.Running.{closed_more}
+use Rattle.vdcp_drive.proofs.Running.{closed_more, closing}
+use Rattle.vdcp_drive.specs.Lines.{line_of}
 use Rattle.vdcp_drive.proofs.Taking.{messages_grow}
 use Rattle.vdcp_drive.proofs.Tracing.{came_both, sent_both}
 
@@ -38,16 +39,12 @@ after_push p (b ∷ bursts) burst = after_push (after_frame (after_burst p b)) b
 sent_push : (p : ClockedPort) (bursts : List (List ℕ)) (burst : List ℕ)
     → sent_for_bursts p (bursts ++ burst ∷ []) ≡ sent_for_bursts p bursts ++ sent_for (after_bursts p bursts) burst
 sent_push p [] burst = append-nil (sent_for p burst)
-sent_push p (b ∷ bursts) burst =
-    ap (λ (l : List ℕ). sent_for p b ++ l) (sent_push (after_frame (after_burst p b)) bursts burst)
-    ∙ sym (append_assoc (sent_for p b) _ _)
+sent_push p (b ∷ bursts) burst = simp (append_assoc, sent_push (after_frame (after_burst p b)) bursts burst)
 
 items_push : (p : ClockedPort) (bursts : List (List ℕ)) (burst : List ℕ)
     → items_for_bursts p (bursts ++ burst ∷ []) ≡ items_for_bursts p bursts ++ aired_for (after_bursts p bursts) burst
 items_push p [] burst = append-nil (aired_for p burst)
-items_push p (b ∷ bursts) burst =
-    ap (λ (l : List Item). aired_for p b ++ l) (items_push (after_frame (after_burst p b)) bursts burst)
-    ∙ sym (append_assoc (aired_for p b) _ _)
+items_push p (b ∷ bursts) burst = simp (append_assoc, items_push (after_frame (after_burst p b)) bursts burst)
 
 -- of at most one item the last one is all
 last_of : (items : List Item) (cued : Item → Type 0) → (items ≡ []) ⊎ ((item : Item) × cued item × (items ≡ item ∷ []))
@@ -113,7 +110,7 @@ one_more law p before (bytes piece) o fits =
       stands = ap₂ service
           (ap₂ (λ (x : List (List ℕ)) (l : List Content). after_messages (after_bursts p x) l) same reads
           ∙ law.next q ms ns) goes;
-      octets = subst AreOctets (sym goes) fit;
+      octets = rw goes fit;
     }
 one_more law p before silence o fits =
     let e : List (List ℕ) = ended_bursts before in
@@ -123,33 +120,26 @@ one_more law p before silence o fits =
     let now : ClockedPort = after_messages q ms in
     let same : ended_bursts (before ++ silence ∷ []) ≡ e ++ b ∷ [] = ended_silence [] before o.still in
     let goes : open_burst (before ++ silence ∷ []) ≡ [] = open_silence [] before o.still in
-    let reads : messages_of (open_burst (before ++ silence ∷ [])) ≡ [] = ap messages_of goes in
     record {
-      sent = ap₂ (served_by p) same reads
-          ∙ append-nil (sent_for_bursts p (e ++ b ∷ [])) ∙ sent_push p e b
-          ∙ ap (λ (l : List ℕ). sent_for_bursts p e ++ l)
-          (flat_map-append (reply_bytes q.state.unit) (answers_to q ms) (end_answers (end_of b)))
-          ∙ sym (append_assoc (sent_for_bursts p e) (bytes_for_all q ms) (answer_bytes q.state.unit (end_answers (end_of b))))
-          ∙ ap (λ (n : ℕ). served p before ++ answer_bytes n (end_answers (end_of b))) (sym (law.unit q ms))
-          ∙ ap (λ (l : List ℕ). served p before ++ l) (sym (sending_sent now.state.unit (end_answers (end_of b))));
-      items = ap₂ (items_by p) same reads
-          ∙ append-nil (items_for_bursts p (e ++ b ∷ [])) ∙ items_push p e b ∙ sym (append-nil (items_served p before));
-      stands = ap₂ service
-          (ap₂ (λ (x : List (List ℕ)) (l : List Content). after_messages (after_bursts p x) l) same reads
-          ∙ after_push p e b) goes;
-      octets = subst AreOctets (sym goes) (All-nil (λ x. x < 256));
+      sent = simp (same, goes, append-nil, sent_push, flat_map-append, append_assoc, sending_sent, law.unit q ms);
+      items = simp (same, goes, append-nil, items_push);
+      stands = simp (same, goes, after_push);
+      octets = rw goes (All-nil (λ x. x < 256));
     }
 one_more law p before close o fits =
     let same : ended_bursts (before ++ close ∷ []) ≡ ended_bursts before = ended_close [] before in
     let goes : open_burst (before ++ close ∷ []) ≡ open_burst before = open_close [] before in
     record {
-      sent = ap₂ (λ (x : List (List ℕ)) (y : List ℕ). served_by p x (messages_of y)) same goes
-          ∙ sym (append-nil (served p before));
-      items = ap₂ (λ (x : List (List ℕ)) (y : List ℕ). items_by p x (messages_of y)) same goes
-          ∙ sym (append-nil (items_served p before));
-      stands = ap₂ (λ (x : List (List ℕ)) (y : List ℕ). service (after_burst (after_bursts p x) y) y) same goes;
-      octets = subst AreOctets (sym goes) o.octets;
+      sent = simp (same, goes, append-nil);
+      items = simp (same, goes, append-nil);
+      stands = simp (same, goes);
+      octets = rw goes o.octets;
     }
+
+open_more : (law : Below) (p : ClockedPort) (before : List Arrival) (what : Arrival) → IsOpen before → AreOctetsIn what
+    → closing (line_of what) ≡ false → IsOpen (before ++ what ∷ [])
+open_more law p before what o fits still =
+    record { still = closed_more before what o.still ∙ still; octets = (one_more law p before what o fits).octets }
 
 abbrev drop_one : List Arrival → List Arrival
 drop_one [] = []
@@ -159,20 +149,9 @@ drop_one (what ∷ later) = later
 goes_on : (law : Below) (p : ClockedPort) (before : List Arrival) (what : Arrival) (later : List Arrival) → IsOpen before
     → AreOctetsIn what → until_close (what ∷ later) ≡ what ∷ later
     → (IsOpen (before ++ what ∷ []) × (until_close later ≡ later)) ⊎ ((has_closed (what ∷ later) ≡ true) × (later ≡ []))
-goes_on law p before (bytes piece) later o fits is = inl (
-  record {
-    still = closed_more before (bytes piece) o.still;
-    octets = (one_more law p before (bytes piece) o fits).octets;
-  },
-  ap drop_one is,
-)
-goes_on law p before silence later o fits is = inl (
-  record {
-    still = closed_more before silence o.still;
-    octets = (one_more law p before silence o fits).octets;
-  },
-  ap drop_one is,
-)
+goes_on law p before (bytes piece) later o fits is =
+    inl (open_more law p before (bytes piece) o fits refl, ap drop_one is)
+goes_on law p before silence later o fits is = inl (open_more law p before silence o fits refl, ap drop_one is)
 goes_on law p before close later o fits is = inr (refl, sym (ap drop_one is))
 
 -- All that came.
@@ -193,13 +172,7 @@ pub record AllServed (p : ClockedPort) (before came : List Arrival) : Type 0 whe
   pub left : left_by (stands_at p before) came ≡ stands_at p (before ++ came)
 
 served_none : (p : ClockedPort) (before : List Arrival) → AllServed p before []
-served_none p before =
-    let same : before ++ [] ≡ before = append-nil before in
-    record {
-      sent = ap (served p) same ∙ sym (append-nil (served p before));
-      items = ap (items_served p) same ∙ sym (append-nil (items_served p before));
-      left = ap (stands_at p) (sym same);
-    }
+served_none p before = record { sent = simp append-nil; items = simp append-nil; left = simp append-nil }
 
 served_further : (law : Below) (p : ClockedPort) (before : List Arrival) (what : Arrival) (later : List Arrival)
     → OneMore p before what → AllServed p (before ++ what ∷ []) later → AllServed p before (what ∷ later)
@@ -237,17 +210,11 @@ opens : (law : Below) (p : ClockedPort) (before came : List Arrival) → IsOpen 
     → has_closed came ≡ false → IsOpen (before ++ came)
 opens law p before [] o fits is = subst IsOpen (sym (append-nil before)) o
 opens law p before (bytes piece ∷ later) o fits is =
-    subst IsOpen (append_assoc before (bytes piece ∷ []) later)
-    (opens law p (before ++ bytes piece ∷ []) later (record {
-      still = closed_more before (bytes piece) o.still;
-      octets = (one_more law p before (bytes piece) o (All-head AreOctetsIn (bytes piece) later fits)).octets;
-    }) (All-tail AreOctetsIn (bytes piece) later fits) is)
+    simp append_assoc at (opens law p (before ++ bytes piece ∷ []) later (open_more law p before (bytes piece) o
+    (All-head AreOctetsIn (bytes piece) later fits) refl) (All-tail AreOctetsIn (bytes piece) later fits) is)
 opens law p before (silence ∷ later) o fits is =
-    subst IsOpen (append_assoc before (silence ∷ []) later)
-    (opens law p (before ++ silence ∷ []) later (record {
-      still = closed_more before silence o.still;
-      octets = (one_more law p before silence o (All-head AreOctetsIn silence later fits)).octets;
-    }) (All-tail AreOctetsIn silence later fits) is)
+    simp append_assoc at (opens law p (before ++ silence ∷ []) later (open_more law p before silence o
+    (All-head AreOctetsIn silence later fits) refl) (All-tail AreOctetsIn silence later fits) is)
 opens law p before (close ∷ later) o fits is = cc
 
 -- At each moment.
@@ -304,9 +271,7 @@ within p before what ss (a ∷ some) behind more m none parts is =
       rest = sent_in behind ++ more;
       is = ap (λ (l : List Arrival). served p (before ++ what ∷ l)) no_came ∙ m.sent
           ∙ ap (λ (l : List ℕ). served p before ++ l)
-          (parts ∙ ap (λ (l : List Act). sent_in l ++ more) rest_is
-          ∙ ap (λ (l : List ℕ). l ++ more) (sent_both some behind)
-          ∙ append_assoc (sent_in some) (sent_in behind) more);
+          (parts ∙ rw (rest_is, sent_both) (append_assoc (sent_in some) (sent_in behind) more));
     })
 
 -- of the answers to messages, up to a beginning of one
@@ -394,12 +359,8 @@ beyond p before what zs some m none is h =
     let sent : sent_in some ≡ sent_in out ++ sent_in zs = ap sent_in is ∙ sent_both (turn_acts s what) zs in
     record {
       rest = h.rest;
-      is = ap (λ (l : List Arrival). served p (before ++ l)) came
-          ∙ ap (served p) (sym (append_assoc before (what ∷ []) (came_in zs))) ∙ h.is
-          ∙ ap (λ (l : List ℕ). l ++ (sent_in zs ++ h.rest)) m.sent
-          ∙ append_assoc (served p before) (sent_in out) (sent_in zs ++ h.rest)
-          ∙ ap (λ (l : List ℕ). served p before ++ l)
-          (sym (append_assoc (sent_in out) (sent_in zs) h.rest) ∙ ap (λ (l : List ℕ). l ++ h.rest) (sym sent));
+      is = rw (came, sent) (ap (served p) (sym (append_assoc before (what ∷ []) (came_in zs))) ∙ h.is
+          ∙ ap (λ (l : List ℕ). l ++ (sent_in zs ++ h.rest)) m.sent ∙ simp append_assoc);
     }
 
 pub moments_served : (law : Below) (p : ClockedPort) (before came : List Arrival) (done some behind : List Act)
@@ -440,12 +401,8 @@ pub record AirsServed (p : ClockedPort) (before : List Arrival) (all : List Act)
 cut_items : (law : Below) (p : ClockedPort) (before : List Arrival) (done : List Act) (port : ClockedPort)
     (aired : Option Item) → IsOpen before → IsCutShort (stands_at p before) done port aired
     → AirsServed p before done (option_to_list aired)
-cut_items law p before done port aired o (in_listen is port_is aired_is) = record {
-  rest = [];
-  is = ap (λ (l : List Act). items_served p (before ++ came_in l)) is ∙ ap (items_served p) (append-nil before)
-      ∙ sym (append-nil (items_served p before))
-      ∙ ap (λ (a : Option Item). items_served p before ++ (option_to_list a ++ [])) (sym aired_is);
-}
+cut_items law p before done port aired o (in_listen is port_is aired_is) =
+    record { rest = []; is = rw (is, aired_is) (simp append-nil) }
 cut_items law p before done port aired o (in_answer piece ms m others front rest fits messages part is port_is aired_is) =
     let q : ClockedPort = (stands_at p before).port in
     let more : List Item = aired_on_way (after_messages q (ms ++ m ∷ [])) others in
@@ -465,18 +422,12 @@ cut_items law p before done port aired o (in_answer piece ms m others front rest
           ∙ ap (λ (l : List Item). l ++ more)
           (sym (last_is_all law q (ms ++ m ∷ [])) ∙ ap option_to_list (sym aired_is)));
     }
-cut_items law p before done port aired o (at_end front rest part is port_is aired_is) = record {
-  rest = [];
-  is = ap (λ (l : List Act). items_served p (before ++ came_in l)) is
-      ∙ (one_more law p before silence o tt).items
-      ∙ ap (λ (a : Option Item). items_served p before ++ (option_to_list a ++ [])) (sym aired_is);
-}
+cut_items law p before done port aired o (at_end front rest part is port_is aired_is) =
+    record { rest = []; is = rw (is, aired_is) ((one_more law p before silence o tt).items) }
 
 pub items_both : (xs ys : List Look) → items_in (xs ++ ys) ≡ items_in xs ++ items_in ys
 items_both [] ys = refl
-items_both (x ∷ xs) ys =
-    ap (λ (l : List Item). option_to_list x.aired ++ l) (items_both xs ys)
-    ∙ sym (append_assoc (option_to_list x.aired) (items_in xs) (items_in ys))
+items_both (x ∷ xs) ys = simp (append_assoc, items_both xs ys)
 
 pub items_by_then : (law : Below) (p : ClockedPort) (before came : List Arrival) (count : ℕ) (answer : Result Ran DriveFault)
     (done : List Act) (seen : List Look) (port : ClockedPort) (reader : Progress) → IsOpen before
@@ -488,12 +439,7 @@ items_by_then law p before came count answer done seen port reader o fits is
     let s : Service = stands_at p before in
     record {
       rest = [];
-      is = ap (λ (l : List Arrival). items_served p (before ++ l)) (came_both (acts_of s came) done
-          ∙ ap₂ (λ (x : List Arrival) (y : List Act). x ++ came_in y) (acts_came s came) nothing ∙ append-nil came)
-          ∙ (all_served law p before came o fits is).items
-          ∙ ap (λ (l : List Item). items_served p before ++ l)
-          (sym (append-nil (items_in (looks_of s came)))
-          ∙ ap (λ (l : List Look). items_in l ++ []) (sym (append-nil (looks_of s came)) ∙ ap (λ (l : List Look). looks_of s came ++ l) (sym unseen)));
+      is = rw (nothing, unseen) (simp (append-nil, acts_came s came) (all_served law p before came o fits is).items);
     }
 items_by_then law p before came count answer done seen port reader o fits is (cut_short aired a still cut look) =
     let s : Service = stands_at p before in
@@ -504,15 +450,6 @@ items_by_then law p before came count answer done seen port reader o fits is (cu
     let first : List Item = items_in (looks_of s came) in
     record {
       rest = c.rest;
-      is = ap (λ (l : List Arrival). items_served p (before ++ l)) (came_both (acts_of s came) done
-          ∙ ap (λ (x : List Arrival). x ++ came_in done) (acts_came s came))
-          ∙ ap (items_served p) (sym (append_assoc before came (came_in done))) ∙ c.is
-          ∙ ap (λ (l : List Item). l ++ (option_to_list aired ++ c.rest)) all.items
-          ∙ append_assoc (items_served p before) first (option_to_list aired ++ c.rest)
-          ∙ ap (λ (l : List Item). items_served p before ++ l)
-          (sym (append_assoc first (option_to_list aired) c.rest)
-          ∙ ap (λ (l : List Item). l ++ c.rest)
-          (ap (λ (l : List Item). first ++ l) (sym (append-nil (option_to_list aired)))
-          ∙ sym (items_both (looks_of s came) (record { port = port; aired = aired } ∷ []))
-          ∙ ap (λ (l : List Look). items_in (looks_of s came ++ l)) (sym look)));
+      is = rw look (simp (came_both, acts_came, items_both, append-nil, append_assoc)
+          (simp append_assoc at (rw all.items at c.is)));
     }

@@ -56,10 +56,7 @@ left_both s (x ∷ xs) ys = left_both (serves x s) xs ys
 
 pub acts_both : (s : Service) (xs ys : List Arrival) → acts_of s (xs ++ ys) ≡ acts_of s xs ++ acts_of (left_by s xs) ys
 acts_both s [] ys = refl
-acts_both s (x ∷ xs) ys =
-    let first : List Act = brings x ∷ sending s.port.state.unit (replies x s) in
-    ap (λ (l : List Act). first ++ l) (acts_both (serves x s) xs ys)
-    ∙ sym (append_assoc first (acts_of (serves x s) xs) (acts_of (left_by (serves x s) xs) ys))
+acts_both s (x ∷ xs) ys = simp (append_assoc, acts_both (serves x s) xs ys)
 
 pub looks_both : (s : Service) (xs ys : List Arrival)
     → looks_of s (xs ++ ys) ≡ looks_of s xs ++ looks_of (left_by s xs) ys
@@ -99,9 +96,7 @@ one_turn {W} {V} does sees made s port port' reader reader' aired' wire wire₁ 
     let end : left_by s (h.came ++ o.what ∷ []) ≡ serves o.what b = left_both s h.came (o.what ∷ []) in
     let look : Look = record { port = port'; aired = aired' } in
     let looks : look ≡ record { port = (serves o.what b).port; aired = airs o.what b } =
-    ap (λ (p : ClockedPort). record { port = p; aired = aired' }) o.port_is
-    ∙ ap (λ (a : Option Item). record { port = (serves o.what now).port; aired = a }) o.aired_is
-    ∙ ap (λ (x : Service). record { port = (serves o.what x).port; aired = airs o.what x }) is in
+    rw (o.port_is, o.aired_is) (ap (λ (x : Service). record { port = (serves o.what x).port; aired = airs o.what x }) is) in
     record {
       came = h.came ++ o.what ∷ [];
       count = omega (arith, h.count, length-append h.came (o.what ∷ []));
@@ -109,18 +104,15 @@ one_turn {W} {V} does sees made s port port' reader reader' aired' wire wire₁ 
       octets = All-append AreOctetsIn h.came (o.what ∷ []) h.octets
           (All-cons AreOctetsIn o.what [] o.octets (All-nil AreOctetsIn));
       closes_last = last_more h.came o.what h.closed_is;
-      port_is = o.port_is ∙ ap (λ (x : Service). (serves o.what x).port) is ∙ ap (λ (x : Service). x.port) (sym end);
-      has_read = subst (λ (x : Service). HasRead x.burst reader') (sym end)
-          (subst (λ (x : Service). HasRead (serves o.what x).burst reader') is o.has_read);
-      acted = subst (λ (x : List Act). Chain does x wire wire₂) (sym (acts_both s h.came (o.what ∷ [])))
-          (chain_both does (acts_of s h.came) (acts_of b (o.what ∷ [])) wire wire₁ wire₂ h.acted
-          (subst (λ (x : List Act). Chain does x wire₁ wire₂)
+      port_is = rw end (o.port_is ∙ ap (λ (x : Service). (serves o.what x).port) is);
+      has_read = rw end (rw is at o.has_read);
+      acted = rw (acts_both s h.came (o.what ∷ [])) (chain_both does (acts_of s h.came) (acts_of b (o.what ∷ []))
+          wire wire₁ wire₂ h.acted (subst (λ (x : List Act). Chain does x wire₁ wire₂)
           (sym (append-nil (brings o.what ∷ sending b.port.state.unit (replies o.what b))))
           (subst (λ (x : Service). Chain does (brings o.what ∷ sending x.port.state.unit (replies o.what x)) wire₁ wire₂) is
           o.done)));
-      looked = subst (λ (x : List Look). Chain sees x watch watch₂) (sym (looks_both s h.came (o.what ∷ [])))
-          (chain_both sees (looks_of s h.came) (looks_of b (o.what ∷ [])) watch watch₁ watch₂ h.looked
-          (subst (λ (x : Look). Chain sees (x ∷ []) watch₁ watch₂) looks (watch₂, seen, refl)));
+      looked = rw (looks_both s h.came (o.what ∷ [])) (chain_both sees (looks_of s h.came) (looks_of b (o.what ∷ []))
+          watch watch₁ watch₂ h.looked (watch₂, rw looks at seen, refl));
     }
 
 -- Where they end.

@@ -1,5 +1,5 @@
 -- What a server took of a burst, by one call of next after another.
-use Rattle.std.proofs.Common.{ℕ, ◌≡◌, ◌<◌, ◌≤◌, ◌+◌, get_or, List, [], ◌∷◌, ◌++◌, take, drop, length, refl, sym, ap, ap₂, subst, ◌∙◌, append_assoc, append-nil, arith, length-append}
+use Rattle.std.proofs.Common.{ℕ, ◌≡◌, ◌<◌, ◌≤◌, ◌+◌, get_or, List, [], ◌∷◌, ◌++◌, take, drop, length, refl, sym, ap, subst, ◌∙◌, append_assoc, append-nil, arith, length-append}
 use Rattle.std.proofs.Math.Seq.{drop-append_seam}
 use Rattle.std.proofs.lemmas.Grind.{common_steps}
 use Rattle.std.proofs.lemmas.List.{length-take, map-append, take-append-drop}
@@ -44,10 +44,7 @@ messages_grow law burst piece fits both =
     let f : ReadsShort (take burst_limit burst) (messages_of burst) r.short = r.front in
     let more : List ℕ = f.remainder ++ (drop burst_limit burst ++ piece) in
     let same : burst ++ piece ≡ f.whole ++ more =
-    ap (λ (l : List ℕ). l ++ piece) (sym (take-append-drop burst_limit burst))
-    ∙ append_assoc (take burst_limit burst) (drop burst_limit burst) piece
-    ∙ ap (λ (l : List ℕ). l ++ (drop burst_limit burst ++ piece)) f.parts
-    ∙ append_assoc f.whole f.remainder (drop burst_limit burst ++ piece) in
+    ap (λ (l : List ℕ). l ++ piece) (sym (take-append-drop burst_limit burst)) ∙ rw f.parts (simp append_assoc) in
     let o = law.first (messages_of burst) (messages_of (burst ++ piece)) f.whole more (end_of (burst ++ piece)) f.spelt
     (front_within f.whole f.remainder burst f.parts)
     (subst (λ (l : List ℕ). Reads l (messages_of (burst ++ piece)) (end_of (burst ++ piece))) same
@@ -88,26 +85,23 @@ answering_both : (law : Below) (port : ClockedPort) (ms ns : List Content)
     ++ sending (after_messages port ms).state.unit (answers_to (after_messages port ms) ns)
     ≡ sending port.state.unit (answers_to port (ms ++ ns))
 answering_both law port ms ns =
-    let q : ClockedPort = after_messages port ms in
-    ap (λ (n : ℕ). sending port.state.unit (answers_to port ms) ++ sending n (answers_to q ns)) (law.unit port ms)
-    ∙ sym (sending_both port.state.unit (answers_to port ms) (answers_to q ns))
-    ∙ ap (sending port.state.unit) (sym (law.answers port ms ns))
+    rw (
+      law.unit port ms,
+      law.answers port ms ns,
+      sending_both port.state.unit (answers_to port ms) (answers_to (after_messages port ms) ns),
+    ) refl
 
 -- The part of a piece that is read, and the part that is left.
 
 pub parts_on : (piece front rest left : List ℕ) (count : ℕ) → piece ≡ front ++ rest → left ≡ drop count rest
     → piece ≡ (front ++ take count rest) ++ left
-parts_on piece front rest left count parts leaves =
-    parts ∙ ap (λ (b : List ℕ). front ++ b) (sym (take-append-drop count rest))
-    ∙ sym (append_assoc front (take count rest) (drop count rest))
-    ∙ ap (λ (b : List ℕ). (front ++ take count rest) ++ b) (sym leaves)
+parts_on piece front rest left count parts leaves = rw (parts, leaves) (simp (append_assoc, take-append-drop))
 
 -- nothing is left
 pub read_whole : (piece front rest left : List ℕ) (count : ℕ) → piece ≡ front ++ rest → left ≡ drop count rest
     → left ≡ [] → front ++ take count rest ≡ piece
 read_whole piece front rest left count parts leaves none =
-    sym (append-nil (front ++ take count rest)) ∙ ap (λ (b : List ℕ). (front ++ take count rest) ++ b) (sym none)
-    ∙ sym (parts_on piece front rest left count parts leaves)
+    sym (simp (none, append-nil) at (parts_on piece front rest left count parts leaves))
 
 -- Calls after calls.
 
@@ -164,19 +158,11 @@ taken_on {W} does law s port₁ port₂ reader₁ reader₂ aired₀ aired₁ ai
     (r.follows (s.burst ++ front) (messages_of (s.burst ++ front)) a.has_read.follows) in
     record {
       has_read = m.has_read;
-      port_is = leaves ∙ ap (λ (p : ClockedPort). after_messages p ns) a.port_is ∙ sym (law.next s.port c ns)
-          ∙ ap (after_messages s.port) (sym m.all);
-      aired_is = puts
-          ∙ ap₂ (λ (o : Option Item) (p : ClockedPort). last_aired o (aired_on_way p ns)) a.aired_is a.port_is
-          ∙ aired_both law s.port c ns aired₀
-          ∙ ap (λ (l : List Content). last_aired aired₀ (aired_on_way s.port l)) (sym m.all);
-      sent = subst (λ (l : List Content). Chain does (sending s.port.state.unit (answers_to s.port l)) wire₀ wire₂)
-          (sym m.all)
-          (subst (λ (l : List Act). Chain does l wire₀ wire₂) (answering_both law s.port c ns)
+      port_is = rw (leaves, a.port_is, m.all, law.next s.port c ns) refl;
+      aired_is = rw (puts, a.aired_is, a.port_is, m.all) (aired_both law s.port c ns aired₀);
+      sent = rw (m.all, ← answering_both law s.port c ns)
           (chain_both does (sending s.port.state.unit (answers_to s.port c)) (sending q.state.unit (answers_to q ns))
-          wire₀ wire₁ wire₂ a.sent
-          (subst (λ (p : ClockedPort). Chain does (sending p.state.unit (answers_to p ns)) wire₁ wire₂) a.port_is
-          sent)));
+          wire₀ wire₁ wire₂ a.sent (rw a.port_is at sent));
     }
 
 -- the wire fails in the answer
@@ -205,13 +191,10 @@ broken_on {W} does law s port₁ port₂ reader₁ reader₂ aired₀ aired₁ a
       before = c;
       last = m;
       others = others;
-      messages = ap (completed s.burst) parts
-          ∙ completed_both law s.burst (front ++ piece) left begun w.has_read.octets octets
-          ∙ ap (λ (l : List Content). l ++ others) w.all ∙ append_assoc c ns others;
-      port_is = leaves ∙ ap (λ (p : ClockedPort). after_messages p ns) a.port_is ∙ sym (law.next s.port c ns);
-      aired_is = puts
-          ∙ ap₂ (λ (o : Option Item) (p : ClockedPort). last_aired o (aired_on_way p ns)) a.aired_is a.port_is
-          ∙ aired_both law s.port c ns aired₀;
+      messages = rw (parts, completed_both law s.burst (front ++ piece) left begun w.has_read.octets octets, w.all)
+          (append_assoc c ns others);
+      port_is = rw (leaves, a.port_is, law.next s.port c ns) refl;
+      aired_is = rw (puts, a.aired_is, a.port_is) (aired_both law s.port c ns aired₀);
       sent = record {
         front = sent.front;
         rest = sent.rest;

@@ -1,30 +1,28 @@
 -- What a wire tells after a run.
-use Rattle.std.proofs.Common.{ℕ, zero, suc, ◌≡◌, ◌≤◌, Bool, true, false, List, [], ◌∷◌, ◌++◌, length, map, refl, sym, ap, ap₂, subst, ◌∙◌, append_assoc, append-nil, length-append, arith}
+use Rattle.std.proofs.Common.{ℕ, zero, suc, ◌≡◌, ◌≤◌, true, false, List, [], ◌∷◌, ◌++◌, length, map, refl, sym, ap, subst, ◌∙◌, append_assoc, append-nil, length-append, arith}
 use Rattle.std.proofs.KnownBytes.{Appends-nil, Appends-trans}
 use Rattle.std.specs.Io.KnownBytes.{Appends, Keeps}
 use Rattle.std.specs.Option.{option_to_list}
-use Rattle.std.specs.Prelude.{Option, Some, None, Result, Ok, Err, IsErr, if◌then◌else◌}
+use Rattle.std.specs.Prelude.{Option, Some, None, Result, Ok, Err, IsErr}
 use Rattle.vdcp_words.specs.declared.command.Command.{Command}
 use Rattle.vdcp_auto.specs.Plan.{Plan}
-use Rattle.vdcp_auto.specs.State.{State}
 use Rattle.vdcp_auto.specs.Turn.{awaited, outcome_of}
 use Rattle.vdcp_auto.specs.declared.exchange.Exchange.{Exchange}
 use Rattle.vdcp_auto.specs.declared.exchange.Heard.{Heard}
-use Rattle.vdcp_wire.specs.Wires.{Arrival, Told, IfTold, bytes, silence, close, came_with, has_closed}
+use Rattle.vdcp_wire.specs.Wires.{Arrival, Told, IfTold, bytes, silence, close, has_closed}
 use Rattle.vdcp_wire.specs.WireLaws.{closed_bytes, closed_silence, closed_close}
-use Rattle.vdcp_wire.specs.Acts.{Act, sends, brings, drops, fails}
+use Rattle.vdcp_wire.specs.Acts.{Act, sends, brings, drops}
 use Rattle.vdcp_drive.specs.Steps.{Chain}
 use Rattle.vdcp_drive.specs.Auto.{Auto, after, log_of}
 use Rattle.vdcp_drive.specs.Ears.{Fold}
 use Rattle.vdcp_drive.specs.Leaves.{Ending, by_itself, in_keep, in_drop, in_send, in_listen, HasRun, RunsTo}
-use Rattle.vdcp_drive.specs.Steps.{Step, acts, keeps, misses, looks, Rules, World, Happens, end_of, steps_of}
+use Rattle.vdcp_drive.specs.Steps.{Step, acts, Rules, World, Happens, end_of, steps_of}
 use Rattle.vdcp_wire.specs.Streams.{StreamDoes, Streamed}
 use Rattle.vdcp_wire.specs.Acts.{Tells, told_after}
 use Rattle.vdcp_drive.specs.Tells.{RunsOn, told_after_all}
-use Rattle.vdcp_drive.specs.Traces.{acts_in, kept_in, sent_in, came_in, drops_in, commands_kept, bytes_of, kept_of, awaited_notes, until_close}
+use Rattle.vdcp_drive.specs.Traces.{acts_in, kept_in, sent_in, came_in, drops_in, commands_kept, bytes_of, kept_of, until_close}
 use Rattle.vdcp_drive.specs.declared.keep.Kept.{Kept}
 use Rattle.vdcp_drive.specs.declared.keep.Kept.TheVariants as row
-use Rattle.vdcp_drive.specs.declared.keep.KeptFault.{KeptFault}
 use Rattle.vdcp_drive.specs.declared.line.Ran.{Ran}
 use Rattle.vdcp_drive.proofs.Tracing.{commands_both, steps_kept, steps_bytes, steps_came, steps_drops}
 
@@ -33,15 +31,7 @@ pub on_wire : {W K V : Type 0} (rules : Rules W K V) (xs : List Step) (old new :
     → Chain rules.does (acts_in xs) old.wire new.wire
 on_wire rules [] old new h = ap (λ (w : World _ _ _). w.wire) h
 on_wire rules (acts a ∷ xs) old new h = (h.0.wire, h.1.0, on_wire rules xs h.0 new h.2)
-on_wire {W} {K} {V} rules (keeps r ∷ xs) old new h =
-    subst (λ (w : W). Chain rules.does (acts_in xs) w new.wire) (ap (λ (w : World W K V). w.wire) h.1.1)
-    (on_wire rules xs h.0 new h.2)
-on_wire {W} {K} {V} rules (misses c ∷ xs) old new h =
-    subst (λ (w : W). Chain rules.does (acts_in xs) w new.wire) (ap (λ (w : World W K V). w.wire) h.1.1)
-    (on_wire rules xs h.0 new h.2)
-on_wire {W} {K} {V} rules (looks s ∷ xs) old new h =
-    subst (λ (w : W). Chain rules.does (acts_in xs) w new.wire) (ap (λ (w : World W K V). w.wire) h.1.1)
-    (on_wire rules xs h.0 new h.2)
+on_wire rules (x ∷ xs) old new h = rw h.1.1 at (on_wire rules xs h.0 new h.2)
 
 pub tells_all : {W : Type 0} (does : Act → W → W → Type 0) (told : W → Option Told)
     → ((act : Act) (old new : W) → does act old new → Tells act (told old) (told new))
@@ -55,52 +45,34 @@ tells_all does told law (x ∷ xs) old new t h is =
 pub sent_told : (xs : List Act) (t : Told) → (told_after_all xs t).sent ≡ t.sent ++ sent_in xs
 sent_told [] t = sym (append-nil t.sent)
 sent_told (sends b ∷ xs) t = sent_told xs (told_after (sends b) t) ∙ append_assoc t.sent b (sent_in xs)
-sent_told (brings what ∷ xs) t = sent_told xs (told_after (brings what) t)
-sent_told (drops ∷ xs) t = sent_told xs (told_after drops t)
-sent_told (fails ∷ xs) t = sent_told xs t
+sent_told (x ∷ xs) t = sent_told xs (told_after x t)
 
 pub drops_told : (xs : List Act) (t : Told) → (told_after_all xs t).drops ≡ t.drops ++ drops_in (length t.sent) xs
 drops_told [] t = sym (append-nil t.drops)
 drops_told (sends b ∷ xs) t =
     drops_told xs (told_after (sends b) t) ∙ ap (λ (n : ℕ). t.drops ++ drops_in n xs) (length-append t.sent b)
-drops_told (brings what ∷ xs) t = drops_told xs (told_after (brings what) t)
 drops_told (drops ∷ xs) t =
     drops_told xs (told_after drops t) ∙ append_assoc t.drops (length t.sent ∷ []) (drops_in (length t.sent) xs)
-drops_told (fails ∷ xs) t = drops_told xs t
+drops_told (x ∷ xs) t = drops_told xs (told_after x t)
 
 -- after a close nothing is added
 came_closed : (xs : List Act) (t : Told) → has_closed t.came ≡ true → (told_after_all xs t).came ≡ t.came
 came_closed [] t h = refl
-came_closed (sends b ∷ xs) t h = came_closed xs (told_after (sends b) t) h
-came_closed (brings what ∷ xs) t h =
-    let same : came_with t.came what ≡ t.came =
-    ap (λ (b : Bool). if b then t.came else t.came ++ what ∷ []) h in
-    came_closed xs (told_after (brings what) t) (ap has_closed same ∙ h) ∙ same
-came_closed (drops ∷ xs) t h = came_closed xs (told_after drops t) h
-came_closed (fails ∷ xs) t h = came_closed xs t h
+came_closed (brings what ∷ xs) t h = rw (h, told_after_all) (came_closed xs t h)
+came_closed (x ∷ xs) t h = came_closed xs (told_after x t) h
 
 pub came_told : (xs : List Act) (t : Told) → has_closed t.came ≡ false
     → (told_after_all xs t).came ≡ t.came ++ until_close (came_in xs)
 came_told [] t h = sym (append-nil t.came)
-came_told (sends b ∷ xs) t h = came_told xs (told_after (sends b) t) h
 came_told (brings (bytes piece) ∷ xs) t h =
-    let same : came_with t.came (bytes piece) ≡ t.came ++ bytes piece ∷ [] =
-    ap (λ (b : Bool). if b then t.came else t.came ++ bytes piece ∷ []) h in
-    came_told xs (told_after (brings (bytes piece)) t) (ap has_closed same ∙ closed_bytes t.came piece ∙ h)
-    ∙ ap (λ (l : List Arrival). l ++ until_close (came_in xs)) same
-    ∙ append_assoc t.came (bytes piece ∷ []) (until_close (came_in xs))
+    rw (h, told_after_all) (came_told xs (record t { came = t.came ++ bytes piece ∷ [] }) (closed_bytes t.came piece ∙ h)
+    ∙ append_assoc t.came (bytes piece ∷ []) (until_close (came_in xs)))
 came_told (brings silence ∷ xs) t h =
-    let same : came_with t.came silence ≡ t.came ++ silence ∷ [] =
-    ap (λ (b : Bool). if b then t.came else t.came ++ silence ∷ []) h in
-    came_told xs (told_after (brings silence) t) (ap has_closed same ∙ closed_silence t.came ∙ h)
-    ∙ ap (λ (l : List Arrival). l ++ until_close (came_in xs)) same
-    ∙ append_assoc t.came (silence ∷ []) (until_close (came_in xs))
+    rw (h, told_after_all) (came_told xs (record t { came = t.came ++ silence ∷ [] }) (closed_silence t.came ∙ h)
+    ∙ append_assoc t.came (silence ∷ []) (until_close (came_in xs)))
 came_told (brings close ∷ xs) t h =
-    let same : came_with t.came close ≡ t.came ++ close ∷ [] =
-    ap (λ (b : Bool). if b then t.came else t.came ++ close ∷ []) h in
-    came_closed xs (told_after (brings close) t) (ap has_closed same ∙ closed_close t.came) ∙ same
-came_told (drops ∷ xs) t h = came_told xs (told_after drops t) h
-came_told (fails ∷ xs) t h = came_told xs t h
+    rw (h, told_after_all) (came_closed xs (record t { came = t.came ++ close ∷ [] }) (closed_close t.came))
+came_told (x ∷ xs) t h = came_told xs (told_after x t) h
 
 -- Commands.
 
@@ -123,14 +95,7 @@ pub steps_commands : {E : Type 0} (fold : Fold E) (plan : Plan) (unit : ℕ) (a 
     ≡ map (λ e. e.command) (log_of fold plan unit a came)
     ++ option_to_list (awaited plan (after fold plan unit a came).state)
 steps_commands fold plan unit a came =
-    let rows : List Kept = kept_in (steps_of fold plan unit a came) in
-    let log : List Exchange = log_of fold plan unit a came in
-    let s : State = (after fold plan unit a came).state in
-    ap (λ (l : List Command). l ++ commands_kept rows) (sym (commands_awaited (awaited plan a.state)))
-    ∙ sym (commands_both (awaited_notes plan a.state) rows)
-    ∙ ap commands_kept (steps_kept fold plan unit a came)
-    ∙ commands_both (kept_of log) (awaited_notes plan s)
-    ∙ ap₂ (λ (l m : List Command). l ++ m) (commands_logged log) (commands_awaited (awaited plan s))
+    simp (commands_both, commands_awaited, commands_logged) at (ap commands_kept (steps_kept fold plan unit a came))
 
 -- A run that came to an answer.
 
@@ -139,13 +104,10 @@ record Answered {E : Type 0} (count : ℕ) (came : List Arrival) (r : Ran) (a a'
   nothing : more ≡ []
   auto_is : a' ≡ a
 
-ok_is : (s r : Ran) → ◌≡◌ {A = Result Ran KeptFault} (Ok s) (Ok r) → s ≡ r
-ok_is s r is = cc
-
 answered : {E : Type 0} (fold : Fold E) (plan : Plan) (unit count : ℕ) (came : List Arrival) (a : Auto E) (r : Ran)
     (more : List Step) (a' : Auto E) → Ending fold plan unit count came a (Ok r) more a' → Answered count came r a a' more
 answered fold plan unit count came a r more a' (by_itself s is to none left) =
-    record { to = subst (λ (x : Ran). RunsTo x (outcome_of a.state.stage) count came) (ok_is s r (sym is)) to; nothing = none; auto_is = left }
+    let same : s ≡ r = cc in record { to = rw same at to; nothing = none; auto_is = left }
 answered fold plan unit count came a r more a' (in_keep c is gives_it are left) = cc
 answered fold plan unit count came a r more a' (in_drop c is first gives_it are left) = cc
 answered fold plan unit count came a r more a' (in_send c front rest is gives_it parts are left) = cc
@@ -161,9 +123,7 @@ run_tells {E} {W} {K} {V} rules told law fold plan unit count a a' world world' 
     let e : Answered count h.came r b a' h.more = answered fold plan unit count h.came b r h.more a' h.ending in
     let steps : List Step = steps_of fold plan unit a h.came in
     let cs : List Command = commands_kept (kept_in steps) in
-    let happened : Happens rules steps world world' =
-    subst (λ (l : List Step). Happens rules l world world') (ap (λ (l : List Step). steps ++ l) e.nothing ∙ append-nil steps)
-    h.happened in
+    let happened = simp (e.nothing, append-nil) at h.happened in
     let u : Told = told_after_all (acts_in steps) t in (
       u,
       tells_all rules.does told law (acts_in steps) world.wire world'.wire t (on_wire rules steps world world' happened) is,
@@ -172,14 +132,10 @@ run_tells {E} {W} {K} {V} rules told law fold plan unit count a a' world world' 
         octets = h.octets;
         closes_last = h.closes_last;
         answers = subst (λ (x : Auto E). RunsTo r (outcome_of x.state.stage) count h.came) (sym e.auto_is) e.to;
-        came_is = came_told (acts_in steps) t still
-            ∙ ap (λ (l : List Arrival). t.came ++ until_close l) (steps_came fold plan unit a h.came)
-            ∙ ap (λ (l : List Arrival). t.came ++ l) h.closes_last;
+        came_is = simp (steps_came, h.closes_last) at (came_told (acts_in steps) t still);
         auto_is = e.auto_is;
         commands = cs;
-        commands_are = steps_commands fold plan unit a h.came
-            ∙ ap (λ (x : Auto E). map (λ e. e.command) (log_of fold plan unit a h.came) ++ option_to_list (awaited plan x.state))
-            (sym e.auto_is);
+        commands_are = rw e.auto_is (steps_commands fold plan unit a h.came);
         sent_is = sent_told (acts_in steps) t ∙ ap (λ (l : List ℕ). t.sent ++ l) (steps_bytes fold plan unit a h.came);
         drops_are = drops_told (acts_in steps) t
             ∙ ap (λ (l : List ℕ). t.drops ++ l) (steps_drops fold plan unit (length t.sent) a h.came);
@@ -217,11 +173,7 @@ stream_written [] old new h =
     subst (λ (s : Streamed). Appends old.written s.written []) (sym h) (Appends-nil old.written)
 stream_written (sends b ∷ xs) old new h =
     Appends-trans old.written h.0.written new.written b (sent_in xs) h.1.0 (stream_written xs h.0 new h.2)
-stream_written (brings what ∷ xs) old new h =
-    keeps_appends old.written h.0.written new.written (sent_in xs) h.1.1 (stream_written xs h.0 new h.2)
-stream_written (drops ∷ xs) old new h =
-    keeps_appends old.written h.0.written new.written (sent_in xs) h.1.1 (stream_written xs h.0 new h.2)
-stream_written (fails ∷ xs) old new h =
+stream_written (x ∷ xs) old new h =
     keeps_appends old.written h.0.written new.written (sent_in xs) h.1.1 (stream_written xs h.0 new h.2)
 
 pub run_written : {E K V : Type 0} (rules : Rules Streamed K V) (fold : Fold E) (plan : Plan) (unit count : ℕ)
@@ -234,8 +186,6 @@ run_written rules fold plan unit count a a' world world' r law h =
     let b = after fold plan unit a h.came in
     let e : Answered count h.came r b a' h.more = answered fold plan unit count h.came b r h.more a' h.ending in
     let steps : List Step = steps_of fold plan unit a h.came in
-    let happened : Happens rules steps world world' =
-    subst (λ (l : List Step). Happens rules l world world') (ap (λ (l : List Step). steps ++ l) e.nothing ∙ append-nil steps)
-    h.happened in
+    let happened = simp (e.nothing, append-nil) at h.happened in
     subst (Appends world.wire.written world'.wire.written) (steps_bytes fold plan unit a h.came)
     (law (acts_in steps) world.wire world'.wire (on_wire rules steps world world' happened))

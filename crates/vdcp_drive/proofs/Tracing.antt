@@ -3,7 +3,7 @@ use Rattle.std.proofs.Common.{ℕ, ◌≡◌, ◌+◌, Bool, true, false, List, 
 use Rattle.std.proofs.lemmas.Grind.{common_steps, flat_map-append}
 use Rattle.std.proofs.lemmas.List.{map-append}
 use Rattle.std.specs.Option.{option_to_list, option_map_or}
-use Rattle.std.specs.Prelude.{Option, Some, None, if◌then◌else◌}
+use Rattle.std.specs.Prelude.{Option, Some, None}
 use Rattle.vdcp_words.specs.declared.command.Command.{Command}
 use Rattle.vdcp_auto.specs.Plan.{Plan}
 use Rattle.vdcp_auto.specs.State.{State, Stage, Ready, Awaiting, Ended}
@@ -13,12 +13,12 @@ use Rattle.vdcp_auto.specs.declared.exchange.Exchange.{Exchange}
 use Rattle.vdcp_auto.specs.declared.exchange.Heard.{Heard}
 use Rattle.vdcp_auto.specs.declared.phase.Mode.{Mode}
 use Rattle.vdcp_auto.specs.declared.phase.Transition.{Transition}
-use Rattle.vdcp_auto.specs.declared.phase.Transition.TheVariants.{Goes, Settles, Retries, Ends}
+use Rattle.vdcp_auto.specs.declared.phase.Transition.TheVariants.{Goes}
 use Rattle.vdcp_wire.specs.Wires.{Arrival}
-use Rattle.vdcp_wire.specs.Acts.{Act, sends, brings, drops, fails}
+use Rattle.vdcp_wire.specs.Acts.{Act, sends, brings, drops}
 use Rattle.vdcp_drive.specs.Auto.{Auto, after, ended, gives, listens, log_of, receives}
 use Rattle.vdcp_drive.specs.Ears.{Fold, inputs}
-use Rattle.vdcp_drive.specs.Steps.{Step, acts, keeps, misses, looks, command_bytes, sending, given_notes, ended_notes, end_of, opening, round, steps_of}
+use Rattle.vdcp_drive.specs.Steps.{Step, acts, keeps, command_bytes, sending, given_notes, ended_notes, end_of, opening, steps_of}
 use Rattle.vdcp_drive.specs.Traces.{acts_in, kept_in, sent_in, came_in, drops_in, commands_kept, bytes_of, kept_of, awaited_notes, places, starts_behind}
 use Rattle.vdcp_drive.specs.declared.keep.Kept.{Kept}
 use Rattle.vdcp_drive.specs.declared.keep.Kept.TheVariants as row
@@ -28,16 +28,12 @@ use Rattle.vdcp_drive.specs.declared.keep.Kept.TheVariants as row
 pub acts_both : (xs ys : List Step) → acts_in (xs ++ ys) ≡ acts_in xs ++ acts_in ys
 acts_both [] ys = refl
 acts_both (acts a ∷ xs) ys = ap (λ (l : List Act). a ∷ l) (acts_both xs ys)
-acts_both (keeps r ∷ xs) ys = acts_both xs ys
-acts_both (misses c ∷ xs) ys = acts_both xs ys
-acts_both (looks s ∷ xs) ys = acts_both xs ys
+acts_both (x ∷ xs) ys = acts_both xs ys
 
 pub rows_both : (xs ys : List Step) → kept_in (xs ++ ys) ≡ kept_in xs ++ kept_in ys
 rows_both [] ys = refl
-rows_both (acts a ∷ xs) ys = rows_both xs ys
 rows_both (keeps r ∷ xs) ys = ap (λ (l : List Kept). r ∷ l) (rows_both xs ys)
-rows_both (misses c ∷ xs) ys = rows_both xs ys
-rows_both (looks s ∷ xs) ys = rows_both xs ys
+rows_both (x ∷ xs) ys = rows_both xs ys
 
 pub acts_of_acts : (xs : List Act) → acts_in (map acts xs) ≡ xs
 acts_of_acts [] = refl
@@ -58,51 +54,33 @@ rows_of_rows (x ∷ xs) = ap (λ (l : List Kept). x ∷ l) (rows_of_rows xs)
 pub sent_both : (xs ys : List Act) → sent_in (xs ++ ys) ≡ sent_in xs ++ sent_in ys
 sent_both [] ys = refl
 sent_both (sends b ∷ xs) ys = ap (λ (l : List ℕ). b ++ l) (sent_both xs ys) ∙ sym (append_assoc b (sent_in xs) (sent_in ys))
-sent_both (brings what ∷ xs) ys = sent_both xs ys
-sent_both (drops ∷ xs) ys = sent_both xs ys
-sent_both (fails ∷ xs) ys = sent_both xs ys
+sent_both (x ∷ xs) ys = sent_both xs ys
 
 pub came_both : (xs ys : List Act) → came_in (xs ++ ys) ≡ came_in xs ++ came_in ys
 came_both [] ys = refl
-came_both (sends b ∷ xs) ys = came_both xs ys
 came_both (brings what ∷ xs) ys = ap (λ (l : List Arrival). what ∷ l) (came_both xs ys)
-came_both (drops ∷ xs) ys = came_both xs ys
-came_both (fails ∷ xs) ys = came_both xs ys
+came_both (x ∷ xs) ys = came_both xs ys
 
 pub commands_both : (xs ys : List Kept) → commands_kept (xs ++ ys) ≡ commands_kept xs ++ commands_kept ys
 commands_both [] ys = refl
 commands_both (row.Sent c ∷ xs) ys = ap (λ (l : List Command). c ∷ l) (commands_both xs ys)
-commands_both (row.Heard h ∷ xs) ys = commands_both xs ys
-commands_both (row.Silence ∷ xs) ys = commands_both xs ys
+commands_both (x ∷ xs) ys = commands_both xs ys
+
+-- what is in steps one after another
+pub ruleset traces = (acts_both, rows_both, acts_of_acts, acts_of_rows, rows_of_acts, rows_of_rows, sent_both, came_both, commands_both, map-append, flat_map-append, append-nil, append_assoc)
 
 -- The controller.
-
-none_given : (plan : Plan) (s : State) → given plan s ≡ None → awaited plan (ticked s) ≡ awaited plan s
-none_given plan s h = grind (arith, common_steps)
-
-record Given (plan : Plan) (s : State) (c : Command) : Type 0 where
-  before : awaited plan s ≡ None
-  behind : awaited plan (ticked s) ≡ Some c
-
-some_given : (plan : Plan) (s : State) (c : Command) → given plan s ≡ Some c → Given plan s c
-some_given plan s c h = record { before = grind (arith, common_steps); behind = grind (arith, common_steps) }
 
 -- a tick turns what is given into what is awaited
 pub gives_notes : (plan : Plan) (s : State) (g : Option Command) → given plan s ≡ g
     → awaited_notes plan s ++ given_notes g ≡ awaited_notes plan (ticked s)
-gives_notes plan s None is =
-    append-nil (awaited_notes plan s) ∙ ap (λ (o : Option Command). map row.Sent (option_to_list o)) (sym (none_given plan s is))
-gives_notes plan s (Some c) is =
-    let both = some_given plan s c is in
-    ap (λ (o : Option Command). map row.Sent (option_to_list o) ++ row.Sent c ∷ []) both.before
-    ∙ ap (λ (o : Option Command). map row.Sent (option_to_list o)) (sym both.behind)
+gives_notes plan s None is = grind (arith, common_steps)
+gives_notes plan s (Some c) is = grind (arith, common_steps)
 
 awaits_none : (plan : Plan) (transition : Transition) (n : ℕ) (s : State)
     → awaited plan (turns.state_after transition n s) ≡ None
 awaits_none plan (Goes p) n s = refl
-awaits_none plan (Settles k) n s = refl
-awaits_none plan (Retries k) n s = refl
-awaits_none plan (Ends outcome) n s = refl
+awaits_none plan transition n s = refl
 
 awaits_none_in : (plan : Plan) (stage : Stage) (e : Exchange) (s : State) → awaited_in plan stage ≡ Some e.command
     → awaited plan (ended_in plan stage e s) ≡ None
@@ -111,15 +89,10 @@ awaits_none_in plan (Awaiting p) e s h =
     awaits_none plan (transition_of plan s p e) (unanswered_after plan.mode e s.unanswered) s
 awaits_none_in plan (Ended outcome) e s h = cc
 
-command_by : (b : Bool) (c : Command) (h : Option Heard) (e : Exchange)
-    → (if b then Some (record { command = c; heard = h }) else None) ≡ Some e → Some c ≡ Some e.command
-command_by true c h e is = ap (λ (x : Option Exchange). option_map_or (λ y. Some y.command) x None) is
-command_by false c h e is = cc
-
 command_is : (mode : Mode) (h : Option Heard) (c : Option Command) (e : Exchange) → exchange_of mode h c ≡ Some e
     → c ≡ Some e.command
 command_is mode h None e is = cc
-command_is mode h (Some c) e is = command_by (is_end mode c h) c h e is
+command_is mode h (Some c) e is = grind (arith, common_steps)
 
 -- what the controller hears turns what was awaited into an exchange, if it ends one
 abbrev TurnsRows : Plan → Option Heard → State → Option Exchange → Type 0
@@ -142,48 +115,26 @@ receives_rows plan (h ∷ hs) s =
     let one : List Exchange = option_to_list (ended_by plan h s) in
     let s' : State = came_to plan h s in
     let more : List Exchange = ended plan hs s' in
-    ap (λ (l : List Kept). awaited_notes plan s ++ l) (map-append (λ (e : Exchange). end_of e.heard) one more)
-    ∙ sym (append_assoc (awaited_notes plan s) (ended_notes one) (ended_notes more))
-    ∙ ap (λ (l : List Kept). l ++ ended_notes more) (hears_rows plan h s (ended_by plan h s) refl)
-    ∙ append_assoc (kept_of one) (awaited_notes plan s') (ended_notes more)
-    ∙ ap (λ (l : List Kept). kept_of one ++ l) (receives_rows plan hs s')
-    ∙ sym (append_assoc (kept_of one) (kept_of more) (awaited_notes plan (receives plan hs s')))
-    ∙ ap (λ (l : List Kept). l ++ awaited_notes plan (receives plan hs s'))
-    (sym (flat_map-append (λ (e : Exchange). row.Sent e.command ∷ end_of e.heard ∷ []) one more))
+    rw (map-append, flat_map-append) (cc (
+      hears_rows plan h s (ended_by plan h s) refl,
+      receives_rows plan hs s',
+      append_assoc (awaited_notes plan s) (ended_notes one) (ended_notes more),
+      append_assoc (kept_of one) (awaited_notes plan s') (ended_notes more),
+      append_assoc (kept_of one) (kept_of more) (awaited_notes plan (receives plan hs s')),
+    ))
 
 -- A round.
 
 pub opening_rows : {E : Type 0} (fold : Fold E) (plan : Plan) (unit : ℕ) (a : Auto E)
     → kept_in (opening fold plan unit a) ≡ given_notes (given plan a.state)
-opening_rows fold plan unit a =
-    let rs : List Kept = given_notes (given plan a.state) in
-    let out : List Act = sending fold.drops unit (given plan a.state) in
-    rows_both (map keeps rs) (map acts out) ∙ ap₂ (λ (l m : List Kept). l ++ m) (rows_of_rows rs) (rows_of_acts out)
-    ∙ append-nil rs
+opening_rows fold plan unit a = simp traces
 
 pub opening_acts : {E : Type 0} (fold : Fold E) (plan : Plan) (unit : ℕ) (a : Auto E)
     → acts_in (opening fold plan unit a) ≡ sending fold.drops unit (given plan a.state)
-opening_acts fold plan unit a =
-    let rs : List Kept = given_notes (given plan a.state) in
-    let out : List Act = sending fold.drops unit (given plan a.state) in
-    acts_both (map keeps rs) (map acts out) ∙ ap₂ (λ (l m : List Act). l ++ m) (acts_of_rows rs) (acts_of_acts out)
+opening_acts fold plan unit a = simp traces
 
 abbrev ends_in : {E : Type 0} → Fold E → Plan → ℕ → Arrival → Auto E → List Exchange
 ends_in fold plan unit what a = ended plan (inputs fold unit what a.ear) (ticked a.state)
-
-round_rows : {E : Type 0} (fold : Fold E) (plan : Plan) (unit : ℕ) (what : Arrival) (a : Auto E)
-    → kept_in (round fold plan unit what a) ≡ given_notes (given plan a.state) ++ ended_notes (ends_in fold plan unit what a)
-round_rows fold plan unit what a =
-    let rs : List Kept = ended_notes (ends_in fold plan unit what a) in
-    rows_both (opening fold plan unit a) (looks (ticked a.state) ∷ acts (brings what) ∷ map keeps rs)
-    ∙ ap₂ (λ (l m : List Kept). l ++ m) (opening_rows fold plan unit a) (rows_of_rows rs)
-
-round_acts : {E : Type 0} (fold : Fold E) (plan : Plan) (unit : ℕ) (what : Arrival) (a : Auto E)
-    → acts_in (round fold plan unit what a) ≡ sending fold.drops unit (given plan a.state) ++ brings what ∷ []
-round_acts fold plan unit what a =
-    let rs : List Kept = ended_notes (ends_in fold plan unit what a) in
-    acts_both (opening fold plan unit a) (looks (ticked a.state) ∷ acts (brings what) ∷ map keeps rs)
-    ∙ ap₂ (λ (l m : List Act). l ++ brings what ∷ m) (opening_acts fold plan unit a) (acts_of_rows rs)
 
 -- The rows of a run, after the command that was awaited before it, are those of the exchanges that ended in it, and of
 -- the command that is awaited behind it.
@@ -197,18 +148,14 @@ steps_kept {E} fold plan unit a (what ∷ later) =
     let given_is : List Kept = given_notes (given plan a.state) in
     let more : List Kept = kept_in (steps_of fold plan unit b later) in
     let before : List Kept = awaited_notes plan a.state in
-    let end : List Kept = awaited_notes plan (after fold plan unit b later).state in
-    ap (λ (l : List Kept). before ++ l) (rows_both (round fold plan unit what a) (steps_of fold plan unit b later)
-    ∙ ap (λ (l : List Kept). l ++ more) (round_rows fold plan unit what a))
-    ∙ sym (append_assoc before (given_is ++ ended_notes es) more)
-    ∙ ap (λ (l : List Kept). l ++ more) (sym (append_assoc before given_is (ended_notes es))
-    ∙ ap (λ (l : List Kept). l ++ ended_notes es) (gives_notes plan a.state (given plan a.state) refl)
-    ∙ receives_rows plan (inputs fold unit what a.ear) (ticked a.state))
-    ∙ append_assoc (kept_of es) (awaited_notes plan b.state) more
-    ∙ ap (λ (l : List Kept). kept_of es ++ l) (steps_kept fold plan unit b later)
-    ∙ sym (append_assoc (kept_of es) (kept_of (log_of fold plan unit b later)) end)
-    ∙ ap (λ (l : List Kept). l ++ end)
-    (sym (flat_map-append (λ (e : Exchange). row.Sent e.command ∷ end_of e.heard ∷ []) es (log_of fold plan unit b later)))
+    simp traces (cc (
+      gives_notes plan a.state (given plan a.state) refl,
+      steps_kept fold plan unit b later,
+      receives_rows plan (inputs fold unit what a.ear) (ticked a.state),
+      append_assoc before given_is (ended_notes es ++ more),
+      append_assoc (awaited_notes plan (ticked a.state)) (ended_notes es) more,
+      append_assoc (kept_of es) (awaited_notes plan b.state) more,
+    ))
 
 -- What went out is the bytes of the commands of the rows, and nothing else.
 pub sending_bytes : (first : Bool) (unit : ℕ) (g : Option Command)
@@ -229,27 +176,8 @@ pub steps_bytes : {E : Type 0} (fold : Fold E) (plan : Plan) (unit : ℕ) (a : A
     → sent_in (acts_in (steps_of fold plan unit a came))
     ≡ bytes_of unit (commands_kept (kept_in (steps_of fold plan unit a came)))
 steps_bytes fold plan unit a [] = refl
-steps_bytes {E} fold plan unit a (what ∷ later) =
-    let b : Auto E = listens fold plan unit what (gives a) in
-    let g : Option Command = given plan a.state in
-    let rest : List Step = steps_of fold plan unit b later in
-    let out : List Act = sending fold.drops unit g in
-    let es : List Exchange = ends_in fold plan unit what a in
-    let left : sent_in (acts_in (round fold plan unit what a)) ≡ bytes_of unit (commands_kept (given_notes g)) =
-    ap sent_in (round_acts fold plan unit what a) ∙ sent_both out (brings what ∷ []) ∙ append-nil (sent_in out)
-    ∙ sending_bytes fold.drops unit g in
-    let right : commands_kept (kept_in (round fold plan unit what a)) ≡ commands_kept (given_notes g) =
-    ap commands_kept (round_rows fold plan unit what a) ∙ commands_both (given_notes g) (ended_notes es)
-    ∙ ap (λ (l : List Command). commands_kept (given_notes g) ++ l) (ends_nothing es)
-    ∙ append-nil (commands_kept (given_notes g)) in
-    ap sent_in (acts_both (round fold plan unit what a) rest)
-    ∙ sent_both (acts_in (round fold plan unit what a)) (acts_in rest)
-    ∙ ap₂ (λ (l m : List ℕ). l ++ m) left (steps_bytes fold plan unit b later)
-    ∙ ap (λ (l : List Command). bytes_of unit l ++ bytes_of unit (commands_kept (kept_in rest))) (sym right)
-    ∙ sym (flat_map-append (command_bytes unit) (commands_kept (kept_in (round fold plan unit what a)))
-    (commands_kept (kept_in rest)))
-    ∙ ap (bytes_of unit) (sym (commands_both (kept_in (round fold plan unit what a)) (kept_in rest))
-    ∙ ap commands_kept (sym (rows_both (round fold plan unit what a) rest)))
+steps_bytes fold plan unit a (what ∷ later) =
+    simp (traces, ends_nothing, sending_bytes, steps_bytes fold plan unit (listens fold plan unit what (gives a)) later)
 
 pub sending_came : (first : Bool) (unit : ℕ) (g : Option Command) → came_in (sending first unit g) ≡ []
 sending_came first unit None = refl
@@ -259,15 +187,8 @@ sending_came false unit (Some c) = refl
 pub steps_came : {E : Type 0} (fold : Fold E) (plan : Plan) (unit : ℕ) (a : Auto E) (came : List Arrival)
     → came_in (acts_in (steps_of fold plan unit a came)) ≡ came
 steps_came fold plan unit a [] = refl
-steps_came {E} fold plan unit a (what ∷ later) =
-    let b : Auto E = listens fold plan unit what (gives a) in
-    let out : List Act = sending fold.drops unit (given plan a.state) in
-    ap came_in (acts_both (round fold plan unit what a) (steps_of fold plan unit b later))
-    ∙ came_both (acts_in (round fold plan unit what a)) (acts_in (steps_of fold plan unit b later))
-    ∙ ap₂ (λ (l m : List Arrival). l ++ m)
-    (ap came_in (round_acts fold plan unit what a) ∙ came_both out (brings what ∷ [])
-    ∙ ap (λ (l : List Arrival). l ++ what ∷ []) (sending_came fold.drops unit (given plan a.state)))
-    (steps_came fold plan unit b later)
+steps_came fold plan unit a (what ∷ later) =
+    simp (traces, sending_came, steps_came fold plan unit (listens fold plan unit what (gives a)) later)
 
 -- Where what waits was dropped: before each command, or nowhere.
 pub drops_both : (n : ℕ) (xs ys : List Act) → drops_in n (xs ++ ys) ≡ drops_in n xs ++ drops_in (n + length (sent_in xs)) ys
@@ -275,9 +196,8 @@ drops_both n [] ys = ap (λ (m : ℕ). drops_in m ys) (omega arith)
 drops_both n (sends b ∷ xs) ys =
     drops_both (n + length b) xs ys
     ∙ ap (λ (m : ℕ). drops_in (n + length b) xs ++ drops_in m ys) (omega (arith, length-append b (sent_in xs)))
-drops_both n (brings what ∷ xs) ys = drops_both n xs ys
 drops_both n (drops ∷ xs) ys = ap (λ (l : List ℕ). n ∷ l) (drops_both n xs ys)
-drops_both n (fails ∷ xs) ys = drops_both n xs ys
+drops_both n (x ∷ xs) ys = drops_both n xs ys
 
 pub sending_drops : (first : Bool) (unit n : ℕ) (g : Option Command)
     → drops_in n (sending first unit g) ≡ places first unit n (commands_kept (given_notes g))
@@ -304,24 +224,11 @@ steps_drops fold plan unit n a [] = by fold.drops where
   by false = refl
 steps_drops {E} fold plan unit n a (what ∷ later) =
     let b : Auto E = listens fold plan unit what (gives a) in
-    let g : Option Command = given plan a.state in
-    let rest : List Step = steps_of fold plan unit b later in
-    let out : List Act = sending fold.drops unit g in
-    let es : List Exchange = ends_in fold plan unit what a in
-    let cs : List Command = commands_kept (given_notes g) in
-    let left : acts_in (round fold plan unit what a ++ rest) ≡ out ++ (brings what ∷ acts_in rest) =
-    acts_both (round fold plan unit what a) rest ∙ ap (λ (l : List Act). l ++ acts_in rest) (round_acts fold plan unit what a)
-    ∙ append_assoc out (brings what ∷ []) (acts_in rest) in
-    let right : commands_kept (kept_in (round fold plan unit what a ++ rest)) ≡ cs ++ commands_kept (kept_in rest) =
-    ap commands_kept (rows_both (round fold plan unit what a) rest)
-    ∙ commands_both (kept_in (round fold plan unit what a)) (kept_in rest)
-    ∙ ap (λ (l : List Command). l ++ commands_kept (kept_in rest))
-    (ap commands_kept (round_rows fold plan unit what a) ∙ commands_both (given_notes g) (ended_notes es)
-    ∙ ap (λ (l : List Command). cs ++ l) (ends_nothing es) ∙ append-nil cs) in
-    ap (drops_in n) left ∙ drops_both n out (brings what ∷ acts_in rest)
-    ∙ ap₂ (λ (l : List ℕ) (m : ℕ). l ++ drops_in m (acts_in rest)) (sending_drops fold.drops unit n g)
-    (ap (λ (l : List ℕ). n + length l) (sending_bytes fold.drops unit g))
-    ∙ ap (λ (l : List ℕ). places fold.drops unit n cs ++ l)
-    (steps_drops fold plan unit (n + length (bytes_of unit cs)) b later)
-    ∙ sym (places_both fold.drops unit n cs (commands_kept (kept_in rest)))
-    ∙ ap (places fold.drops unit n) (sym right)
+    let cs : List Command = commands_kept (given_notes (given plan a.state)) in
+    simp (traces, ends_nothing) (simp (
+      drops_both,
+      sending_drops,
+      sending_bytes,
+      steps_drops fold plan unit (n + length (bytes_of unit cs)) b later,
+      places_both fold.drops unit n cs (commands_kept (kept_in (steps_of fold plan unit b later))),
+    ))

@@ -1,4 +1,4 @@
--- The two ears.
+-- The two ears: what of the bytes that come is heard, and when.
 use Rattle.std.specs.Prelude.{ℕ, true, false, List, [], ◌∷◌, map, Option, None, Some}
 use Rattle.vdcp_auto.specs.Heard.{heard_as}
 use Rattle.vdcp_auto.specs.declared.exchange.Heard.{Heard}

@@ -31,7 +31,7 @@ pub enum Vacancy {
 }
 
 /// What a port is asked.
-#[derive(Clone, Copy, Debug, PartialEq, Eq)]
+#[derive(Clone, Copy)]
 enum Question {
     Open,
     Select,
@@ -39,7 +39,7 @@ enum Question {
 }
 
 /// How far the questions are.
-#[derive(Clone, Copy, Debug, PartialEq, Eq)]
+#[derive(Clone, Copy)]
 enum Asking {
     /// This one is asked, and the last exchanges, as many as this, were unanswered.
     Asks(Question, u32),
@@ -147,7 +147,7 @@ pub fn ask_port<W: Wire>(
 }
 
 /// What a burst came to.
-#[derive(Clone, Copy, Debug, PartialEq, Eq)]
+#[derive(Clone, Copy)]
 enum Burst {
     /// A silence ended it, and this is heard of it.
     Ended(Option<Heard>),

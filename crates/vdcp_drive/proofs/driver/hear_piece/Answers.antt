@@ -1,8 +1,7 @@
-use Rattle.std.proofs.Common.{◌≡◌, ℕ, ◌+◌, ◌-◌, List, ◌++◌, length, take, drop, sym, ap, subst, ◌∙◌, arith, refl}
+use Rattle.std.proofs.Common.{◌≡◌, ℕ, ◌+◌, ◌-◌, List, ◌++◌, length, take, drop, sym, ap, ◌∙◌, arith, refl}
 use Rattle.std.proofs.lemmas.List.{take_all, take_rest, length-drop}
 use Rattle.std.proofs.Math.Seq.{take-add}
 use Rattle.vdcp_auto.specs.Plan.{Plan, View, plan_of}
-use Rattle.vdcp_drive.specs.Leaves.{HearsPiece}
 use Rattle.vdcp_drive.proofs.Chains.{hears_nothing, hears_further}
 use Rattle.vdcp_drive.proofs.driver.hear_piece.Goals as goal
 
@@ -33,17 +32,11 @@ piece-preserved g c =
     ap (λ (b : List ℕ). take c.piece.at piece ++ take n b) rest ∙ sym (take-add c.piece.at n piece) in record {
       within = omega (arith, e.within, ap (length {A = ℕ}) rest, length-drop c.piece.at piece);
       controller = e.controller ∙ ap (λ (v : View _). record v { state = t.controller.state }) inv.controller;
-      hears = subst (λ (b : List ℕ). HearsPiece fold adds plan s.unit b s.controller.now.state s.ear.now s.keep.now
-          t.controller.state t.ear t.keep) front
-          (hears_further fold adds plan s.unit g.met.E.Ear.pieces (take c.piece.at piece) more s.controller.now.state
-          c.piece.controller.state t.controller.state s.ear.now c.piece.ear t.ear s.keep.now c.piece.keep t.keep
-          inv.hears (subst (λ (q : Plan). HearsPiece fold adds q s.unit more c.piece.controller.state c.piece.ear
-          c.piece.keep t.controller.state t.ear t.keep) planned e.hears));
+      hears = rw front at (hears_further fold adds plan s.unit g.met.E.Ear.pieces (take c.piece.at piece) more
+          s.controller.now.state c.piece.controller.state t.controller.state s.ear.now c.piece.ear t.ear s.keep.now
+          c.piece.keep t.keep inv.hears (rw planned at e.hears));
     }
 
 pub returns-clause-hears : goal.returns-clause-hears
 returns-clause-hears g c =
-    let s = c.args in
-    subst (λ (b : List ℕ). HearsPiece g.E.Ear.fold g.K.Keep.adds (plan_of g.S.Source.items s.controller.now) s.unit b
-    s.controller.now.state s.ear.now s.keep.now c.piece.controller.state c.piece.ear c.piece.keep)
-    (take_all c.piece.at s.piece.now (omega (arith, c.piece-test.false))) c.piece.invariant.hears
+    rw (take_all c.piece.at c.args.piece.now (omega (arith, c.piece-test.false))) at c.piece.invariant.hears

@@ -4,7 +4,7 @@ use Rattle.vdcp_drive.specs.Lines.{is_broken}
 use Rattle.vdcp_drive.specs.declared.keep.KeptFault.{KeptFault}
 use Rattle.vdcp_drive.specs.declared.line.Ran.{Ran}
 use Rattle.vdcp_auto.specs.Plan.{View, plan_of}
-use Rattle.vdcp_drive.proofs.Running.{run_over, run_so, run_spent, stands_here, stands_more}
+use Rattle.vdcp_drive.proofs.Running.{run_over, run_spent, stands_here, stands_more}
 use Rattle.vdcp_drive.proofs.driver.run_rounds.Goals as goal
 
 pub listens-init : goal.listens-init
@@ -25,8 +25,7 @@ listens-preserved g c =
       works = e.failures ∙ ap {B = ℕ} (λ (r : Result Ran KeptFault). if is_broken r then 1 else 0) spent;
       controller = e.controller ∙ ap (λ (v : View _). record v { state = n.controller.state }) inv.controller;
       stands = stands_more _ g.E.Ear.fold _ c.args.unit c.listens.made _ _ _ _ _ _ c.run_round-ran.result inv.stands spent
-          (run_so _ g.E.Ear.fold _ _ c.args.unit 1 _ _ _ _ c.run_round-ran.result
-          (ap (plan_of g.S.Source.items) inv.controller) e.runs);
+          (rw (ap (plan_of g.S.Source.items) inv.controller) at e.runs);
     }
 
 pub returns-then-not-is_spent-clause-runs : goal.returns-then-not-is_spent-clause-runs
@@ -34,8 +33,7 @@ returns-then-not-is_spent-clause-runs g c =
     let inv = c.listens.invariant in
     run_over _ g.E.Ear.fold _ c.args.unit c.listens.made c.args.listens _ _ _ _ _ _ c.run_round-ran.result inv.stands
     c.listens-test.true (c.is_spent.ensures.not c.if-not-is_spent.true)
-    (run_so _ g.E.Ear.fold _ _ c.args.unit 1 _ _ _ _ c.run_round-ran.result (ap (plan_of g.S.Source.items) inv.controller)
-    c.run_round-ran.ensures.runs)
+    (rw (ap (plan_of g.S.Source.items) inv.controller) at c.run_round-ran.ensures.runs)
 
 pub returns-clause-runs : goal.returns-clause-runs
 returns-clause-runs g c =

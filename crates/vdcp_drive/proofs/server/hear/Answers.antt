@@ -6,9 +6,8 @@ use Rattle.vdcp_frame.specs.Burst.{end_of}
 use Rattle.vdcp_frame.specs.Reader.{Follows, ended_of}
 use Rattle.vdcp_port.specs.Answers.{answer_bytes, end_answers, reply_at_end}
 use Rattle.vdcp_words.specs.declared.reply.Reply.{Reply}
-use Rattle.vdcp_wire.specs.declared.wire.Came.{Came}
 use Rattle.vdcp_wire.specs.Acts.{brings, fails, sends}
-use Rattle.vdcp_wire.specs.Wires.{arrival_of, bytes, silence}
+use Rattle.vdcp_wire.specs.Wires.{silence}
 use Rattle.vdcp_drive.specs.Serving.{Service, at_end, in_answer, in_listen, sending}
 use Rattle.vdcp_drive.specs.Steps.{Chain}
 use Rattle.vdcp_drive.proofs.Serving.{cut_so, ends_alike}
@@ -27,9 +26,7 @@ returns-in_err-take_piece-in-Bytes-clause-serves g c burst h =
     let n : ℕ = c.in-Bytes.n in
     let piece : List ℕ = take n c.listen.new.buffer in
     let t = c.take_piece.new in
-    let brought : does (brings (bytes piece)) c.args.wire.now c.listen.new.self =
-    subst (λ (x : Came). does (brings (arrival_of x c.listen.new.buffer)) c.args.wire.now c.listen.new.self) c.in-Bytes.is
-    c.in_ok-n.ensures.brings in
+    let brought = rw c.in-Bytes.is at c.in_ok-n.ensures.brings in
     let b = c.in_err-take_piece-in-Bytes.ensures.broken burst h in
     cut_so does at c.args.wire.now c.from_residual-in_err-take_piece-in-Bytes.result t.port t.reader t.aired t.wire
     (search rules) _
@@ -43,9 +40,7 @@ returns-in_err-end_burst-in-Silence-clause-serves g c burst h =
     let at : Service = record { port = c.args.port.now; burst = burst } in
     let ends : end_answers (end_of burst) ≡ option_to_list (reply_at_end (ended_of c.args.reader.now)) =
     ends_alike c.laws_below.ensures c.one_answer_to_the_end.ensures burst c.args.reader.now h in
-    let brought : does (brings silence) c.args.wire.now c.listen.new.self =
-    subst (λ (x : Came). does (brings (arrival_of x c.listen.new.buffer)) c.args.wire.now c.listen.new.self) c.in-Silence.is
-    c.in_ok-n.ensures.brings in
+    let brought = rw c.in-Silence.is at c.in_ok-n.ensures.brings in
     let t = c.end_burst.new in
     let e = c.in_err-end_burst-in-Silence.ensures in
     cut_so does at c.args.wire.now c.from_residual-in_err-end_burst-in-Silence.result t.port t.reader None t.wire
@@ -59,9 +54,7 @@ returns-in_ok-end_burst-in-Silence-clause-serves g c burst h =
     let does = g.W.Wire.does in
     let ends : end_answers (end_of burst) ≡ option_to_list (reply_at_end (ended_of c.args.reader.now)) =
     ends_alike c.laws_below.ensures c.one_answer_to_the_end.ensures burst c.args.reader.now h in
-    let brought : does (brings silence) c.args.wire.now c.listen.new.self =
-    subst (λ (x : Came). does (brings (arrival_of x c.listen.new.buffer)) c.args.wire.now c.listen.new.self) c.in-Silence.is
-    c.in_ok-n.ensures.brings in
+    let brought = rw c.in-Silence.is at c.in_ok-n.ensures.brings in
     let e = c.in_ok-end_burst-in-Silence.ensures in
     record {
       what = silence;

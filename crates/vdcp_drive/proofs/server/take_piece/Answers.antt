@@ -5,7 +5,6 @@ use Rattle.std.specs.Option.{option_to_list}
 use Rattle.vdcp_value.specs.declared.part.Item.{Item}
 use Rattle.vdcp_words.specs.declared.reply.Reply.{Reply}
 use Rattle.vdcp_frame.specs.Message.{AreOctets, Content, content_of}
-use Rattle.vdcp_frame.specs.Pieces.{ReadsOn}
 use Rattle.vdcp_frame.specs.Reader.{Answer, answer_of, message, more, wrong}
 use Rattle.vdcp_port.specs.Clock.{answer_to}
 use Rattle.vdcp_drive.specs.ServeLeaves.{HasTaken, HasBroken}
@@ -35,9 +34,7 @@ piece-preserved-in-Continue-1 g c =
     let rest : List ℕ = p.rest.now in
     let left : List ℕ = c.next.new.rest.now in
     let new = c.next.follows.lender-at-none in
-    let r : ReadsOn p.reader rest (message m) left new =
-    subst (λ (a : Answer). ReadsOn p.reader rest a left new) (ap answer_of c.in-Message.is)
-    c.next.follows.holds-at-none in
+    let r = rw (ap answer_of c.in-Message.is) at c.next.follows.holds-at-none in
     let fits : AreOctets rest = behind s.piece.now i.1 rest i.2 (fitting s.piece.now (λ j. omega (arith, c.type_inv.piece j))) in
     let answers = c.in_ok-answer-in-Message.ensures in (
       answers.works,
@@ -63,9 +60,7 @@ returns-in_err-answer-in-Message-clause-broken g c burst h =
     let rest : List ℕ = p.rest.now in
     let left : List ℕ = c.next.new.rest.now in
     let new = c.next.follows.lender-at-none in
-    let r : ReadsOn p.reader rest (message m) left new =
-    subst (λ (a : Answer). ReadsOn p.reader rest a left new) (ap answer_of c.in-Message.is)
-    c.next.follows.holds-at-none in
+    let r = rw (ap answer_of c.in-Message.is) at c.next.follows.holds-at-none in
     let fits : AreOctets rest = behind s.piece.now i.1 rest i.2 (fitting s.piece.now (λ j. omega (arith, c.type_inv.piece j))) in
     let answers = c.in_err-answer-in-Message.ensures in
     let at : Service = record { port = s.port.now; burst = burst } in
@@ -87,9 +82,7 @@ piece-preserved g c =
     let rest : List ℕ = p.rest.now in
     let left : List ℕ = c.next.new.rest.now in
     let new = c.next.follows.lender-at-none in
-    let r : ReadsOn p.reader rest fault left new =
-    subst (λ (a : Answer). ReadsOn p.reader rest a left new) (ap answer_of c.in-Fault.is)
-    c.next.follows.holds-at-none in
+    let r = rw (ap answer_of c.in-Fault.is) at c.next.follows.holds-at-none in
     let fits : AreOctets rest = behind s.piece.now i.1 rest i.2 (fitting s.piece.now (λ j. omega (arith, c.type_inv.piece j))) in (
       i.0,
       i.1 ++ take r.count rest,
@@ -109,9 +102,7 @@ returns-in-More-clause-taken g c burst h =
     let rest : List ℕ = p.rest.now in
     let left : List ℕ = c.next.new.rest.now in
     let new = c.next.follows.lender-at-none in
-    let r : ReadsOn p.reader rest more left new =
-    subst (λ (a : Answer). ReadsOn p.reader rest a left new) (ap answer_of c.in-More.is)
-    c.next.follows.holds-at-none in
+    let r = rw (ap answer_of c.in-More.is) at c.next.follows.holds-at-none in
     let fits : AreOctets rest = behind s.piece.now i.1 rest i.2 (fitting s.piece.now (λ j. omega (arith, c.type_inv.piece j))) in
     let at : Service = record { port = s.port.now; burst = burst } in
     subst (λ (b : List ℕ). HasTaken does at s.aired.now s.wire.now b p.port new p.aired p.wire)

@@ -1,11 +1,8 @@
-use Rattle.std.proofs.Common.{arith, sym, subst, ◌∙◌}
-use Rattle.vdcp_drive.specs.Vacancy.{HearsBurst}
-use Rattle.vdcp_drive.specs.declared.vacancy.Burst.{Burst}
+use Rattle.std.proofs.Common.{arith, sym, ◌∙◌}
 use Rattle.vdcp_drive.proofs.Asking.{asks_first, asked_so, partly_dropped, partly_sent, partly_heard, asks_on, asks_out}
 use Rattle.vdcp_drive.proofs.Asking.{asks_closed, asks_spent, stays_under}
 use Rattle.vdcp_drive.proofs.Taking.{on_err_of}
 use Rattle.vdcp_drive.proofs.vacancy.ask_port.Goals as goal
-use Rattle.vdcp_wire.specs.Wires.{IfTold}
 
 pub asking-init : goal.asking-init
 asking-init g c = record {
@@ -41,9 +38,7 @@ returns-in-Closed-clause-asks g c is =
     let h = c.asking.invariant.asks is in
     let a = asked_so c.args.unit c.args.port c.args.limit _ _ _ _ h.0 _ _ _ h.1 h.2 c.in_ok-drop_waiting.ensures.dropped
     c.in_ok-send_question.ensures.sent in
-    let e = subst (λ (b : Burst). IfTold (g.W.Wire.told c.hear_burst.new.wire)
-    (λ v. HearsBurst c.args.unit c.asking.left c.hear_burst.new.left a.0 v b))
-    c.in-Closed.is (c.in_ok-heard.ensures.hears a.0 a.1 a.2.between) in
+    let e = rw c.in-Closed.is at (c.in_ok-heard.ensures.hears a.0 a.1 a.2.between) in
     asks_closed c.args.unit c.args.port c.args.limit _ _ _ _ _ a.0 _ c.asking.invariant.less a.2 e
 
 pub returns-in-Spent-clause-asks : goal.returns-in-Spent-clause-asks
@@ -51,9 +46,7 @@ returns-in-Spent-clause-asks g c is =
     let h = c.asking.invariant.asks is in
     let a = asked_so c.args.unit c.args.port c.args.limit _ _ _ _ h.0 _ _ _ h.1 h.2 c.in_ok-drop_waiting.ensures.dropped
     c.in_ok-send_question.ensures.sent in
-    let e = subst (λ (b : Burst). IfTold (g.W.Wire.told c.hear_burst.new.wire)
-    (λ v. HearsBurst c.args.unit c.asking.left c.hear_burst.new.left a.0 v b))
-    c.in-Spent.is (c.in_ok-heard.ensures.hears a.0 a.1 a.2.between) in
+    let e = rw c.in-Spent.is at (c.in_ok-heard.ensures.hears a.0 a.1 a.2.between) in
     asks_spent c.args.unit c.args.port c.args.limit _ _ _ _ _ a.0 _ c.asking.invariant.less a.2 e
 
 pub asking-preserved : goal.asking-preserved
@@ -66,9 +59,7 @@ asking-preserved g c =
           let a = asked_so c.args.unit c.args.port c.args.limit _ _ _ _ h.0 _ _ _ h.1 h.2
           c.in_ok-drop_waiting.ensures.dropped
           c.in_ok-send_question.ensures.sent in
-          let e = subst (λ (b : Burst). IfTold (g.W.Wire.told c.hear_burst.new.wire)
-          (λ v. HearsBurst c.args.unit c.asking.left
-          c.hear_burst.new.left a.0 v b)) c.in-Ended.is (c.in_ok-heard.ensures.hears a.0 a.1 a.2.between) in
+          let e = rw c.in-Ended.is at (c.in_ok-heard.ensures.hears a.0 a.1 a.2.between) in
           asks_on c.args.unit c.args.port c.args.limit _ _ _ _ _ _ _ _ a.0 _ c.asking.invariant.less a.2 e next;
     }
 
@@ -77,8 +68,6 @@ returns-in-Over-clause-asks g c is =
     let h = c.asking.invariant.asks is in
     let a = asked_so c.args.unit c.args.port c.args.limit _ _ _ _ h.0 _ _ _ h.1 h.2 c.in_ok-drop_waiting.ensures.dropped
     c.in_ok-send_question.ensures.sent in
-    let e = subst (λ (b : Burst). IfTold (g.W.Wire.told c.hear_burst.new.wire)
-    (λ v. HearsBurst c.args.unit c.asking.left c.hear_burst.new.left a.0 v b))
-    c.in-Ended.is (c.in_ok-heard.ensures.hears a.0 a.1 a.2.between) in
+    let e = rw c.in-Ended.is at (c.in_ok-heard.ensures.hears a.0 a.1 a.2.between) in
     asks_out c.args.unit c.args.port c.args.limit _ _ _ _ _ _ c.in-Over.answer a.0 _ c.asking.invariant.less a.2 e
     (sym c.after.ensures ∙ c.in-Over.is)

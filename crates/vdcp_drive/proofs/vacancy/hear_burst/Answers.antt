@@ -1,9 +1,7 @@
-use Rattle.std.proofs.Common.{ap, arith, ◌∙◌}
+use Rattle.std.proofs.Common.{arith}
 use Rattle.vdcp_drive.proofs.Asking.{hears_none, hears_bytes, hears_silence, hears_close, hears_spent, breaks_burst}
 use Rattle.vdcp_drive.proofs.Taking.{on_err_of}
 use Rattle.vdcp_drive.proofs.vacancy.hear_burst.Goals as goal
-use Rattle.vdcp_wire.specs.Wires.{adds_came, arrival_of}
-use Rattle.vdcp_wire.specs.declared.wire.Came.{Came}
 
 pub burst-init : goal.burst-init
 burst-init g c = record {
@@ -25,8 +23,7 @@ burst-preserved g c = record {
       let h = c.burst.invariant.hears t is between in
       hears_bytes c.args.unit _ _ _ t h.0 _ _ _ _ _ h.1 h.2 (omega (arith, c.burst-test.true)) c.take_piece.ensures.fits
       c.take_piece.ensures.takes
-      (c.in_ok-n.ensures.came ∙ ap (λ (k : Came). adds_came (arrival_of k c.listen.new.buffer)
-      (g.W.Wire.told c.burst.wire)) c.in-Bytes.is);
+      (rw c.in-Bytes.is at c.in_ok-n.ensures.came);
 }
 
 pub returns-in-Silence-clause-hears : goal.returns-in-Silence-clause-hears
@@ -34,15 +31,13 @@ returns-in-Silence-clause-hears g c t is between =
     let h = c.burst.invariant.hears t is between in
     hears_silence c.laws_below.ensures c.args.unit _ _ _ t h.0 _ _ _ _ h.1 h.2 (omega (arith, c.burst-test.true))
     c.rest.ensures.says
-    (c.in_ok-n.ensures.came ∙ ap (λ (k : Came). adds_came (arrival_of k c.listen.new.buffer)
-    (g.W.Wire.told c.burst.wire)) c.in-Silence.is)
+    (rw c.in-Silence.is at c.in_ok-n.ensures.came)
 
 pub returns-in-Closed-clause-hears : goal.returns-in-Closed-clause-hears
 returns-in-Closed-clause-hears g c t is between =
     let h = c.burst.invariant.hears t is between in
     hears_close c.args.unit _ _ _ t h.0 _ _ _ h.1 h.2 (omega (arith, c.burst-test.true))
-    (c.in_ok-n.ensures.came ∙ ap (λ (k : Came). adds_came (arrival_of k c.listen.new.buffer)
-    (g.W.Wire.told c.burst.wire)) c.in-Closed.is)
+    (rw c.in-Closed.is at c.in_ok-n.ensures.came)
 
 pub returns-clause-hears : goal.returns-clause-hears
 returns-clause-hears g c t is between =
