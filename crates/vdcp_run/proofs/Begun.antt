@@ -13,9 +13,9 @@ use Rattle.vdcp_journal.specs.Runs.{Run}
 use Rattle.vdcp_journal.specs.declared.row.Heading.{Heading}
 use Rattle.vdcp_journal.specs.declared.row.Row.{Row}
 use Rattle.vdcp_list.specs.Rests.{FromEvent}
-use Rattle.vdcp_record.specs.Recording.{IsTimedOut, NotesFrom, Recording}
-use Rattle.vdcp_record.specs.Resuming as resuming
-use Rattle.vdcp_record.specs.Resuming.{IsOpenedAgain, IsReplayed, open_after, plan_of_run, state_after}
+use Rattle.vdcp_journal_file.specs.Recording.{IsTimedOut, NotesFrom, Recording}
+use Rattle.vdcp_journal_file.specs.Resuming as resuming
+use Rattle.vdcp_journal_file.specs.Resuming.{IsOpenedAgain, IsReplayed, open_after, plan_of_run, state_after}
 use Rattle.vdcp_run.specs.Run.{BeginsAgain, BeginsBy, ComesTo, HasRecorder, IsBegun, IsRunOf, MayBeUnkept, first_event, heading_for, journal_of, name_of, new_controller, plan_for}
 use Rattle.vdcp_run.specs.Session.{HasSession, Start, start_of}
 use Rattle.vdcp_run.specs.declared.run_end.RunEnd.{RunEnd}

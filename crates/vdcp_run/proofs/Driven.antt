@@ -9,9 +9,7 @@ use Rattle.vdcp_wire.specs.Acts.{Act}
 use Rattle.vdcp_drive.specs.Auto.{Driving, IsReachedFrom, auto_of}
 use Rattle.vdcp_drive.specs.Ears.{Fold}
 use Rattle.vdcp_drive.specs.Leaves.{HasRun, RunLeaves}
-use Rattle.vdcp_drive.specs.Hearing as ears
-use Rattle.vdcp_drive.specs.Reading.{holds}
-use Rattle.vdcp_drive.specs.Steps.{Chain, Rules, World}
+use Rattle.vdcp_drive.specs.Steps.{Chain, Rules}
 use Rattle.vdcp_drive.specs.declared.keep.KeptFault.{KeptFault}
 use Rattle.vdcp_drive.specs.declared.keep.KeptFault.TheVariants as fault
 use Rattle.vdcp_drive.specs.declared.keep.Unkept.{Unkept}
@@ -19,16 +17,14 @@ use Rattle.vdcp_drive.specs.declared.line.Ran.{Ran}
 use Rattle.vdcp_drive.specs.declared.line.Ran.TheVariants as ran
 use Rattle.vdcp_drive.specs.declared.operator.Call.{Call}
 use Rattle.vdcp_list.specs.Rests.{FromEvent, items_left}
-use Rattle.vdcp_log.specs.declared.hearing.Hearing.{Hearing}
-use Rattle.vdcp_log.specs.declared.hearing.Hearing.TheVariants as hears
 use Rattle.vdcp_drive.specs.Operated as scenes
-use Rattle.vdcp_record.specs.Recorded.{KeepsRow, Loses, LosesRow, Notes, call_note}
-use Rattle.vdcp_record.specs.Recording.{Recording}
+use Rattle.vdcp_journal_file.specs.Recorded.{Loses, Notes}
+use Rattle.vdcp_journal_file.specs.Recording.{Recording}
 use Rattle.vdcp_run.proofs.Ends.{EndedWith, comes_so, gives_none}
 use Rattle.vdcp_run.proofs.Seen.{Shows, run_seen}
 use Rattle.vdcp_run.specs.Ends.{line_end_of, outcome_in_list}
 use Rattle.vdcp_run.specs.Run.{ComesTo, IsEndBy}
-use Rattle.vdcp_run.specs.Session.{CallsBy, HasOperated, HasPlayed, IsClosed, IsGiven, LastRound, MissesBy, Parts, Playing, Plays, Rounds, Runs, RunsBy, Start, ended, missed, rules_of, run_over, spent, start_of}
+use Rattle.vdcp_run.specs.Session.{CallsBy, HasOperated, IsClosed, IsGiven, LastRound, MissesBy, Parts, Playing, Plays, Rounds, Runs, RunsBy, ended, missed, rules_of, run_over, spent, start_of}
 use Rattle.vdcp_run.specs.declared.run_end.LineEnd.TheVariants as line_end
 use Rattle.vdcp_run.specs.declared.run_end.RunEnd.{RunEnd}
 use Rattle.vdcp_value.specs.declared.part.Item.{Item}
@@ -56,114 +52,68 @@ comes_to items rules fold failures listens controller old new keep keep' watch w
 
 -- ---- What keeps a run: a journal, or none
 
-pub leaves_by : {S E W K K' V : Type 0} (items : S → List Item) (rules : Rules W K V) (rules' : Rules W K' V) (k : K → K')
-    → Shows rules rules' (λ w. w) k (λ v. v) → (fold : Fold E) (failures : W → ℕ) (n listens : ℕ) → n ≡ listens
-    → (old new : Driving S E W) (keep keep' : K) (watch watch' : V) (answer : Result Ran KeptFault)
-    → RunLeaves items rules fold failures n old new keep keep' watch watch' answer
-    → RunLeaves items rules' fold failures listens old new (k keep) (k keep') watch watch' answer
-leaves_by items rules rules' k shows fold failures n listens same old new keep keep' watch watch' answer left = record {
-  runs = λ works. subst (λ (m : ℕ). HasRun rules' fold (plan_of items old.controller) old.unit m (auto_of old) (auto_of new)
-      (record { wire = old.wire; keep = k keep; watch = watch }) (record { wire = new.wire; keep = k keep'; watch = watch' })
-      answer) same
-      (run_seen rules rules' (λ w. w) k (λ v. v) shows fold (plan_of items old.controller) old.unit n (auto_of old)
-      (auto_of new) _ _ answer (left.runs works));
-  reached = left.reached;
-  ended = left.ended;
-  unsent = left.unsent;
-  controller = left.controller;
-  unit = left.unit;
-  works = left.works;
-  unkept = left.unkept;
-  device = left.device;
-  stays = λ failed. let stays = left.stays failed in (stays.0, stays.1, ap k stays.2, stays.3);
+pub runs_kept : {S E W K V F : Type 0} (items : S → List Item) (rules : Rules W K V) (safe : F → Option (List ℕ))
+    (k : K → Option (Recording F)) → Shows rules (rules_of rules.does safe rules.sees) (λ w. w) k (λ v. v)
+    → (fold : Fold E) (failures : W → ℕ) (n listens : ℕ) → n ≡ listens → (old new : Driving S E W) (keep keep' : K)
+    (watch watch' : V) (answer : Result Ran KeptFault)
+    → RunLeaves items rules fold failures n old new keep keep' watch watch' answer → failures old.wire ≡ 0
+    → Runs (record {
+      does = rules.does;
+      safe = safe;
+      sees = rules.sees;
+      fold = fold;
+      plan = plan_of items old.controller;
+      unit = old.unit;
+    }) listens answer (record { auto = auto_of old; world = record { wire = old.wire; keep = k keep; watch = watch } })
+    (record { auto = auto_of new; world = record { wire = new.wire; keep = k keep'; watch = watch' } })
+runs_kept items rules safe k shows fold failures n listens same old new keep keep' watch watch' answer left works =
+    subst (λ (m : ℕ). HasRun (rules_of rules.does safe rules.sees) fold (plan_of items old.controller) old.unit m (auto_of old)
+    (auto_of new) (record { wire = old.wire; keep = k keep; watch = watch })
+    (record { wire = new.wire; keep = k keep'; watch = watch' }) answer) same
+    (run_seen rules (rules_of rules.does safe rules.sees) (λ w. w) k (λ v. v) shows fold (plan_of items old.controller)
+    old.unit n (auto_of old) (auto_of new) _ _ answer (left.runs works))
+
+pub unkept_shown : {W V F : Type 0} (does : Act → W → W → Type 0) (safe : F → Option (List ℕ))
+    (sees : State → V → V → Type 0)
+    → Shows (record { does = does; adds = λ _ _ _. Unit {0}; loses = λ _ _ _. Unit {0}; sees = sees })
+    (rules_of does safe sees) (λ w. w) (λ (keep : Unkept). None) (λ v. v)
+unkept_shown does safe sees = record {
+  does = λ a old new h. h;
+  adds = λ r old new h. refl;
+  loses = λ c old new h. refl;
+  sees = λ s old new h. h;
 }
 
--- with no journal
-pub keeps_none : {S E W V F : Type 0} (items : S → List Item) (does : Act → W → W → Type 0) (safe : F → Option (List ℕ))
-    (sees : State → V → V → Type 0) (fold : Fold E) (failures : W → ℕ) (n listens : ℕ) → n ≡ listens
-    → (old new : Driving S E W) (recorder : Option (Recording F)) → recorder ≡ None → (keep keep' : Unkept)
-    (watch watch' : V) (ran : Result Ran KeptFault)
-    → RunLeaves items (record { does = does; adds = λ _ _ _. Unit {0}; loses = λ _ _ _. Unit {0}; sees = sees }) fold
-    failures n old new keep keep' watch watch' ran
-    → RunLeaves items (rules_of does safe sees) fold failures listens old new recorder None watch watch' ran
-keeps_none {F = F} items does safe sees fold failures n listens same old new recorder none keep keep' watch watch' ran left =
-    subst (λ (r : Option (Recording F)). RunLeaves items (rules_of does safe sees) fold failures listens old new r None watch
-    watch' ran) (sym none) (leaves_by items _ (rules_of does safe sees) (λ keep. None) (record {
-      does = λ a old new h. h;
-      adds = λ r old new h. refl;
-      loses = λ c old new h. refl;
-      sees = λ s old new h. h;
-    }) fold failures n listens same old new keep keep' watch watch' ran left)
-
--- with this one
-pub keeps_this : {S E W V F : Type 0} (items : S → List Item) (does : Act → W → W → Type 0) (safe : F → Option (List ℕ))
-    (sees : State → V → V → Type 0) (fold : Fold E) (failures : W → ℕ) (n listens : ℕ) → n ≡ listens
-    → (old new : Driving S E W) (recorder : Option (Recording F)) (this then : Recording F) → recorder ≡ Some this
-    → (watch watch' : V) (ran : Result Ran KeptFault)
-    → RunLeaves items (record { does = does; adds = Notes safe; loses = Loses safe; sees = sees }) fold failures n old new
-    this then watch watch' ran
-    → RunLeaves items (rules_of does safe sees) fold failures listens old new recorder (Some then) watch watch' ran
-keeps_this {F = F} items does safe sees fold failures n listens same old new recorder this then some watch watch' ran left =
-    subst (λ (r : Option (Recording F)). RunLeaves items (rules_of does safe sees) fold failures listens old new r (Some then)
-    watch watch' ran) (sym some) (leaves_by items _ (rules_of does safe sees) Some (record {
-      does = λ a old new h. h;
-      adds = λ r old new h. h;
-      loses = λ c old new h. h;
-      sees = λ s old new h. h;
-    }) fold failures n listens same old new this then watch watch' ran left)
+pub kept_shown : {W V F : Type 0} (does : Act → W → W → Type 0) (safe : F → Option (List ℕ))
+    (sees : State → V → V → Type 0)
+    → Shows (record { does = does; adds = Notes safe; loses = Loses safe; sees = sees }) (rules_of does safe sees) (λ w. w)
+    Some (λ v. v)
+kept_shown does safe sees = record {
+  does = λ a old new h. h;
+  adds = λ r old new h. h;
+  loses = λ c old new h. h;
+  sees = λ s old new h. h;
+}
 
 -- ---- A new driver
 
-pub played_at_silences : {W V F : Type 0} (operated by : Bool) (does : Act → W → W → Type 0) (safe : F → Option (List ℕ))
-    (sees : State → V → V → Type 0) (hearing : Hearing) → hearing ≡ hears.AtSilences → operated ≡ by
-    → (unit listens : ℕ) (start : Start) (world : World W (Option (Recording F)) V) (watch : V) (end : RunEnd)
-    → Plays by does safe sees ears.at_silences (ears.begun (holds [])) unit listens start world watch end
-    → HasPlayed operated hearing does safe sees unit listens start world watch end
-played_at_silences operated by does safe sees hearing is by_is unit listens start world watch end plays =
-    subst (λ (h : Hearing). HasPlayed operated h does safe sees unit listens start world watch end) (sym is)
-    (subst (λ (b : Bool). Plays b does safe sees ears.at_silences (ears.begun (holds [])) unit listens start world watch end)
-    (sym by_is) plays)
-
-pub played_at_once : {W V F : Type 0} (operated by : Bool) (does : Act → W → W → Type 0) (safe : F → Option (List ℕ))
-    (sees : State → V → V → Type 0) (hearing : Hearing) (poll : ℕ) → hearing ≡ hears.AtOnce poll → operated ≡ by
-    → (unit listens : ℕ) (start : Start) (world : World W (Option (Recording F)) V) (watch : V) (end : RunEnd)
-    → Plays by does safe sees ears.at_once (holds []) unit listens start world watch end
-    → HasPlayed operated hearing does safe sees unit listens start world watch end
-played_at_once operated by does safe sees hearing poll is by_is unit listens start world watch end plays =
-    subst (λ (h : Hearing). HasPlayed operated h does safe sees unit listens start world watch end) (sym is)
-    (subst (λ (b : Bool). Plays b does safe sees ears.at_once (holds []) unit listens start world watch end) (sym by_is) plays)
-
 pub plays_so : {S E W V F : Type 0} (operated : Bool) (items : S → List Item) (does : Act → W → W → Type 0)
-    (safe : F → Option (List ℕ)) (sees : State → V → V → Type 0) (fold : Fold E) (ear : E) (unit listens : ℕ)
-    (controller : View (FromEvent S)) (wire : W) (old new : Driving (FromEvent S) E W) (recorder left : Option (Recording F))
-    (watch watch' : V) (ran : Result Ran KeptFault) (end : RunEnd)
-    → old ≡ record { controller = controller; unit = unit; ear = ear; wire = wire }
+    (safe : F → Option (List ℕ)) (sees : State → V → V → Type 0) (fold : Fold E) (listens : ℕ)
+    (old new : Driving (FromEvent S) E W) (recorder left : Option (Recording F)) (watch watch' : V)
+    (ran : Result Ran KeptFault) (end : RunEnd)
     → new.controller ≡ record old.controller { state = new.controller.state } → end.line ≡ line_end_of ran
     → RunsBy operated (record
     { does = does; safe = safe; sees = sees; fold = fold; plan = plan_of (items_left items) old.controller; unit = old.unit })
     listens ran (record { auto = auto_of old; world = record { wire = old.wire; keep = recorder; watch = watch } })
     (record { auto = auto_of new; world = record { wire = new.wire; keep = left; watch = watch' } })
     → IsClosed safe (outcome_of new.controller.state.stage) end.unkept left → IsEndBy new.controller end
-    → Plays operated does safe sees fold ear unit listens (start_of items controller)
-    (record { wire = wire; keep = recorder; watch = watch }) watch' end
-plays_so {S} {E} {W} {V} {F} operated items does safe sees fold ear unit listens controller wire old new recorder left watch
-    watch' ran end is stays line runs closed by =
-    let after : Playing E W F V =
-    record { auto = auto_of new; world = record { wire = new.wire; keep = left; watch = watch' } } in
-    let from = by.from_is ∙ ap (λ (c : View (FromEvent S)). c.source.from) stays
-    ∙ ap (λ (d : Driving (FromEvent S) E W). d.controller.source.from) is in
-    record {
+    → Plays operated does safe sees fold old.ear old.unit listens (start_of items old.controller)
+    (record { wire = old.wire; keep = recorder; watch = watch }) watch' end
+plays_so {S} operated items does safe sees fold listens old new recorder left watch watch' ran end stays line runs closed by =
+    let from = by.from_is ∙ ap (λ (c : View (FromEvent S)). c.source.from) stays in record {
       ran = ran;
-      left = after;
-      runs = subst (λ (d : Driving (FromEvent S) E W). RunsBy operated (record {
-        does = does;
-        safe = safe;
-        sees = sees;
-        fold = fold;
-        plan = plan_of (items_left items) d.controller;
-        unit = d.unit;
-      }) listens ran (record { auto = auto_of d; world = record { wire = d.wire; keep = recorder; watch = watch } }) after) is
-          runs;
+      left = record { auto = auto_of new; world = record { wire = new.wire; keep = left; watch = watch' } };
+      runs = runs;
       watch_is = refl;
       line_is = line;
       outcome_is = subst (λ (from : ℕ). end.outcome ≡ outcome_in_list from (outcome_of new.controller.state.stage)) from
@@ -322,94 +272,40 @@ module _ {S E W K V O F : Type 0} (parts : scenes.Parts S E W K V O) (safe : F �
         last = last_at h.left answer h.then new rounds.1 h.last;
       }
 
--- with no journal
-pub operated_none : {S E W V F O : Type 0} (items : S → List Item) (does : Act → W → W → Type 0)
-    (safe : F → Option (List ℕ)) (sees : State → V → V → Type 0) (fold : Fold E) (failures : W → ℕ) (n listens : ℕ)
-    → n ≡ listens → (old new : Driving S E W) (recorder : Option (Recording F)) → recorder ≡ None → (keep keep' : Unkept)
-    (watch watch' : V) (hand hand' : O) (ran : Result Ran KeptFault)
-    → scenes.IsOperated (record {
-      items = items;
-      rules = record { does = does; adds = λ _ _ _. Unit {0}; loses = λ _ _ _. Unit {0}; sees = sees };
-      calls = λ _ _ _. Unit {0};
-      misses = λ _ _ _. Unit {0};
-      says = λ _ _ _ _. Unit {0};
-      fold = fold;
-      failures = failures;
-    }) n (record { driver = old; keep = keep; watch = watch; operator = hand })
-    (record { driver = new; keep = keep'; watch = watch'; operator = hand' }) ran
-    → failures old.wire ≡ 0
-    → HasOperated (record
-    { does = does; safe = safe; sees = sees; fold = fold; plan = plan_of items old.controller; unit = old.unit })
-    listens ran (record { auto = auto_of old; world = record { wire = old.wire; keep = recorder; watch = watch } })
-    (record { auto = auto_of new; world = record { wire = new.wire; keep = None; watch = watch' } })
-operated_none {S} {E} {W} {V} {F} items does safe sees fold failures n listens same old new recorder none keep keep' watch
-    watch' hand hand' ran h works =
-    subst (λ (r : Option (Recording F)). HasOperated (record
-    { does = does; safe = safe; sees = sees; fold = fold; plan = plan_of items old.controller; unit = old.unit })
-    listens ran (record { auto = auto_of old; world = record { wire = old.wire; keep = r; watch = watch } })
-    (record { auto = auto_of new; world = record { wire = new.wire; keep = None; watch = watch' } })) (sym none)
-    (subst (λ (m : ℕ). HasOperated (record
-    { does = does; safe = safe; sees = sees; fold = fold; plan = plan_of items old.controller; unit = old.unit })
-    m ran (record { auto = auto_of old; world = record { wire = old.wire; keep = None; watch = watch } })
-    (record { auto = auto_of new; world = record { wire = new.wire; keep = None; watch = watch' } })) same
-    (operated_at (record {
-      items = items;
-      rules = record { does = does; adds = λ _ _ _. Unit {0}; loses = λ _ _ _. Unit {0}; sees = sees };
-      calls = λ _ _ _. Unit {0};
-      misses = λ _ _ _. Unit {0};
-      says = λ _ _ _ _. Unit {0};
-      fold = fold;
-      failures = failures;
-    }) safe (λ keep. None) (record {
-      does = λ a old new h. h;
-      adds = λ r old new h. refl;
-      loses = λ c old new h. refl;
-      sees = λ s old new h. h;
-    }) (λ c old new h. refl) (λ c old new h. refl) (plan_of items old.controller) old.unit n ran _ _
-    (record { plan_is = refl; unit_is = refl; works = works }) h))
-
--- with this one
-pub operated_this : {S E W V F O : Type 0} (items : S → List Item) (does : Act → W → W → Type 0)
-    (safe : F → Option (List ℕ)) (sees : State → V → V → Type 0) (fold : Fold E) (failures : W → ℕ) (n listens : ℕ)
-    → n ≡ listens → (old new : Driving S E W) (recorder : Option (Recording F)) (this then : Recording F)
-    → recorder ≡ Some this → (watch watch' : V) (hand hand' : O) (ran : Result Ran KeptFault)
-    → scenes.IsOperated (record {
-      items = items;
-      rules = record { does = does; adds = Notes safe; loses = Loses safe; sees = sees };
-      calls = λ call. KeepsRow safe (call_note call);
-      misses = λ call. LosesRow safe (call_note call);
-      says = λ _ _ _ _. Unit {0};
-      fold = fold;
-      failures = failures;
-    }) n (record { driver = old; keep = this; watch = watch; operator = hand })
-    (record { driver = new; keep = then; watch = watch'; operator = hand' }) ran
-    → failures old.wire ≡ 0
-    → HasOperated (record
-    { does = does; safe = safe; sees = sees; fold = fold; plan = plan_of items old.controller; unit = old.unit })
-    listens ran (record { auto = auto_of old; world = record { wire = old.wire; keep = recorder; watch = watch } })
-    (record { auto = auto_of new; world = record { wire = new.wire; keep = Some then; watch = watch' } })
-operated_this {S} {E} {W} {V} {F} items does safe sees fold failures n listens same old new recorder this then some watch
-    watch' hand hand' ran h works =
-    subst (λ (r : Option (Recording F)). HasOperated (record
-    { does = does; safe = safe; sees = sees; fold = fold; plan = plan_of items old.controller; unit = old.unit })
-    listens ran (record { auto = auto_of old; world = record { wire = old.wire; keep = r; watch = watch } })
-    (record { auto = auto_of new; world = record { wire = new.wire; keep = Some then; watch = watch' } })) (sym some)
-    (subst (λ (m : ℕ). HasOperated (record
-    { does = does; safe = safe; sees = sees; fold = fold; plan = plan_of items old.controller; unit = old.unit })
-    m ran (record { auto = auto_of old; world = record { wire = old.wire; keep = Some this; watch = watch } })
-    (record { auto = auto_of new; world = record { wire = new.wire; keep = Some then; watch = watch' } })) same
-    (operated_at (record {
-      items = items;
-      rules = record { does = does; adds = Notes safe; loses = Loses safe; sees = sees };
-      calls = λ call. KeepsRow safe (call_note call);
-      misses = λ call. LosesRow safe (call_note call);
-      says = λ _ _ _ _. Unit {0};
-      fold = fold;
-      failures = failures;
-    }) safe Some (record {
-      does = λ a old new h. h;
-      adds = λ r old new h. h;
-      loses = λ c old new h. h;
-      sees = λ s old new h. h;
-    }) (λ c old new h. h) (λ c old new h. h) (plan_of items old.controller) old.unit n ran _ _
-    (record { plan_is = refl; unit_is = refl; works = works }) h))
+pub operated_kept : {S E W K V O F : Type 0} (parts : scenes.Parts S E W K V O) (safe : F → Option (List ℕ))
+    (k : K → Option (Recording F)) → Shows parts.rules (rules_of parts.rules.does safe parts.rules.sees) (λ w. w) k (λ v. v)
+    → ((c : Call) (old new : K) → parts.calls c old new → CallsBy safe c (k old) (k new))
+    → ((c : Call) (old new : K) → parts.misses c old new → MissesBy safe c (k old) (k new)) → (n listens : ℕ)
+    → n ≡ listens → (old new : scenes.Scene S E W K V O) (answer : Result Ran KeptFault)
+    → scenes.IsOperated parts n old new answer → parts.failures old.driver.wire ≡ 0
+    → HasOperated (record {
+      does = parts.rules.does;
+      safe = safe;
+      sees = parts.rules.sees;
+      fold = parts.fold;
+      plan = plan_of parts.items old.driver.controller;
+      unit = old.driver.unit;
+    }) listens answer (record {
+      auto = auto_of old.driver;
+      world = record { wire = old.driver.wire; keep = k old.keep; watch = old.watch };
+    }) (record {
+      auto = auto_of new.driver;
+      world = record { wire = new.driver.wire; keep = k new.keep; watch = new.watch };
+    })
+operated_kept parts safe k shows calling missing n listens same old new answer h works =
+    subst (λ (m : ℕ). HasOperated (record {
+      does = parts.rules.does;
+      safe = safe;
+      sees = parts.rules.sees;
+      fold = parts.fold;
+      plan = plan_of parts.items old.driver.controller;
+      unit = old.driver.unit;
+    }) m answer (record {
+      auto = auto_of old.driver;
+      world = record { wire = old.driver.wire; keep = k old.keep; watch = old.watch };
+    }) (record {
+      auto = auto_of new.driver;
+      world = record { wire = new.driver.wire; keep = k new.keep; watch = new.watch };
+    })) same
+    (operated_at parts safe k shows calling missing (plan_of parts.items old.driver.controller) old.driver.unit n answer old new
+    (record { plan_is = refl; unit_is = refl; works = works }) h)

@@ -1,3 +1,4 @@
+-- The lemmas, file by file.
 mod Begun
 mod Driven
 mod Ends

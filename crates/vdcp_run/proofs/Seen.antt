@@ -18,7 +18,7 @@ use Rattle.vdcp_drive.specs.declared.operator.Call.{Call}
 use Rattle.vdcp_drive.specs.declared.vacancy.Vacancy.{Vacancy}
 use Rattle.vdcp_log.specs.declared.hearing.Hearing.{Hearing}
 use Rattle.vdcp_log.specs.declared.hearing.Hearing.TheVariants as hears
-use Rattle.vdcp_record.specs.Recording.{Recording}
+use Rattle.vdcp_journal_file.specs.Recording.{Recording}
 use Rattle.vdcp_run.specs.Lapse.{Lapses, MayLapse}
 use Rattle.vdcp_run.specs.Session.{HasPlayed, HasSession, HasTried, IsAsked, IsGiven, LastRound, Parts, Playing, Plays, Rounds, Runs, RunsBy, Start, TriesOver, does_by, ended, missed, no_wire, over, played, rules_of, run_over, spent, told_by, tried, unbegun, unseen}
 use Rattle.vdcp_run.specs.declared.lapsing.Since.{Since}

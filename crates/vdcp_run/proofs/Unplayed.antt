@@ -10,9 +10,9 @@ use Rattle.vdcp_journal.specs.declared.faults.ResumeFault.{ResumeFault}
 use Rattle.vdcp_journal.specs.declared.faults.ResumeFault.TheVariants as untold
 use Rattle.vdcp_journal.specs.Runs.{Run}
 use Rattle.vdcp_journal.specs.declared.row.Heading.{Heading}
-use Rattle.vdcp_record.specs.Recording.{IsUnbegun, IsUnopened, IsUnwritten as IsRowsUnwritten}
-use Rattle.vdcp_record.specs.Resuming as resuming
-use Rattle.vdcp_record.specs.Resuming.{IsRefused, IsUnopenedAgain, IsUnresumed, read_failure, untold_failure}
+use Rattle.vdcp_journal_file.specs.Recording.{IsUnbegun, IsUnopened, IsUnwritten as IsRowsUnwritten}
+use Rattle.vdcp_journal_file.specs.Resuming as resuming
+use Rattle.vdcp_journal_file.specs.Resuming.{IsRefused, IsUnopenedAgain, IsUnresumed, read_failure, untold_failure}
 use Rattle.vdcp_text.specs.Failure.{failure_line, status_of}
 use Rattle.vdcp_value.specs.declared.part.Item.{Item}
 use Rattle.vdcp_text.specs.declared.failure.Failure.{Failure}

@@ -1,3 +1,4 @@
+-- The definitions, file by file.
 pub mod Ends
 pub mod Lapse
 pub mod Session

@@ -24,9 +24,9 @@ use Rattle.vdcp_journal.specs.Runs.{Run}
 use Rattle.vdcp_list.specs.Asrun.{events_text, has_part}
 use Rattle.vdcp_list.specs.Playlists.{IsListOf}
 use Rattle.vdcp_list.specs.Rests.{FromEvent, items_left}
-use Rattle.vdcp_record.specs.Recording.{IsTimedOut, IsUnbegun, NotesFrom, Recording}
-use Rattle.vdcp_record.specs.Resuming.{IsOpenedAgain, IsReplayed, IsUnopenedAgain, IsUnresumed, open_after, plan_of_run}
-use Rattle.vdcp_record.specs.Showing.{IsAsrunOf, digest_of}
+use Rattle.vdcp_journal_file.specs.Recording.{IsTimedOut, IsUnbegun, NotesFrom, Recording}
+use Rattle.vdcp_journal_file.specs.Resuming.{IsOpenedAgain, IsReplayed, IsUnopenedAgain, IsUnresumed, open_after, plan_of_run}
+use Rattle.vdcp_journal_file.specs.Showing.{IsAsrunOf, digest_of}
 use Rattle.vdcp_text.specs.Outcome.{outcome_text}
 use Rattle.vdcp_wire.specs.Address.{IsAddress}
 use Rattle.vdcp_run.specs.Ends.{outcome_in_list}

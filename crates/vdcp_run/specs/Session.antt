@@ -24,8 +24,8 @@ use Rattle.vdcp_journal.specs.declared.moment.Moment.{Moment}
 use Rattle.vdcp_list.specs.Rests.{FromEvent, items_left}
 use Rattle.vdcp_log.specs.declared.hearing.Hearing.{Hearing}
 use Rattle.vdcp_log.specs.declared.hearing.Hearing.TheVariants as hears
-use Rattle.vdcp_record.specs.Recorded.{KeepsRow, Loses, LosesRow, Notes, call_note}
-use Rattle.vdcp_record.specs.Recording.{Adds, Recording, outcome_rows}
+use Rattle.vdcp_journal_file.specs.Recorded.{KeepsRow, Loses, LosesRow, Notes, call_note}
+use Rattle.vdcp_journal_file.specs.Recording.{Adds, Recording, outcome_rows}
 use Rattle.vdcp_run.specs.Ends.{IsOpening, line_end_of, outcome_in_list, unbegun_line}
 use Rattle.vdcp_run.specs.Lapse.{MayLapse}
 use Rattle.vdcp_run.specs.declared.run_end.LineEnd.TheVariants as line_end

@@ -10,7 +10,7 @@ use vdcp_auto::Outcome;
 use vdcp_text::{Failure, NameText};
 
 /// What to type next.
-#[derive(Clone, Copy, Debug, PartialEq, Eq)]
+#[derive(Clone, Copy)]
 pub enum Advice<'a> {
     /// To go on with the journal of this name.
     Resume(&'a str),

@@ -11,8 +11,8 @@ use std::path::Path;
 use std::rt::Files;
 use vdcp_auto::{Controller, Source};
 use vdcp_files::keep_older;
+use vdcp_journal_file::{Disk, append_safely, asrun_of_journal};
 use vdcp_list::{Rest, write_events};
-use vdcp_record::{Disk, append_safely, asrun_of_journal};
 use vdcp_text::Failure;
 use vdcp_value::Rate;
 

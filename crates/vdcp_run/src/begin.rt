@@ -1,6 +1,6 @@
 //! What a run begins with: its controller, and the recorder of its journal.
 ghost use Rattle.std.specs.Prelude.{◌≡◌, ◌⊎◌, ◌≤◌, IfErr, IfOk, IfSome, IsSome, Some, length};
-ghost use Rattle.vdcp_record.specs.Recording.{IsUnbegun, NotesFrom};
+ghost use Rattle.vdcp_journal_file.specs.Recording.{IsUnbegun, NotesFrom};
 ghost use Rattle.vdcp_run.specs.Run.{HasRecorder, IsBegun, IsPlaceRefused, IsUnkept, first_event, heading_for, new_controller};
 ghost use Rattle.vdcp_run.specs.Session.{start_of};
 
@@ -10,8 +10,8 @@ use std::fs::{self, File};
 use std::rt::{Clock, Files};
 use vdcp_auto::{Controller, Mode, Source};
 use vdcp_journal::{Heading, digest_of};
+use vdcp_journal_file::{Resumption, begin_again, begin_journal, resume_journal};
 use vdcp_list::Rest;
-use vdcp_record::{Resumption, begin_again, begin_journal, resume_journal};
 use vdcp_text::Failure;
 
 /// The controller of a run, and the recorder of its journal, if it has one and its controller hasn't ended there. The

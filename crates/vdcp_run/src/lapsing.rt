@@ -9,7 +9,7 @@ use std::rt::Clock;
 use vdcp_wire::{Came, PIECE, Wire, WireFault};
 
 /// What has come since a command went out, and since the last silence.
-#[derive(Clone, Copy, Debug, PartialEq, Eq)]
+#[derive(Clone, Copy)]
 enum Since {
     Nothing,
     Bytes,

@@ -1,7 +1,9 @@
 //! The subcommand `run`: its files, one session, and the report.
 ghost use Rattle.std.specs.Io.KnownBytes.{Appends, Keeps};
-ghost use Rattle.std.specs.Prelude.{◌≡◌, ◌⊎◌, ◌≤◌, IfErr, IfOk, OnOk, length};
+ghost use Rattle.std.specs.Prelude.{◌≡◌, ◌⊎◌, ◌≤◌, IfErr, IfOk, List, OnOk, length, ℕ};
 ghost use Rattle.vdcp_files.specs.Files.{IsWholeList, file};
+ghost use Rattle.vdcp_list.specs.List.{items_of};
+ghost use Rattle.vdcp_list.specs.Playlists.{IsListOf};
 ghost use Rattle.vdcp_run.specs.Run.{IsEventRefused, IsListRefused, IsNoEvent, IsNotBegun, IsPlayed, IsRun, IsRunRefused, IsUnplayed, first_event, told_of_list};
 ghost use Rattle.vdcp_text.specs.Failure.{failure_line};
 ghost use Rattle.vdcp_wire.specs.Address.{IsAddress};
@@ -145,9 +147,7 @@ fn run_list<
         return Err(Failure::Address);
     };
     let name = list.name;
-    let events = list.read_list(rt.alloc(), settings.rate)?;
-    test_event(&events, settings.from)?;
-    test_list(rt, settings.asrun, name)?;
+    let events = read_events(rt, list, settings)?;
     let begun = match begin(rt, &events, settings) {
         Ok(begun) => begun,
         Err(failure) => return Err(told_of_list(name, failure)),
@@ -158,6 +158,25 @@ fn run_list<
         let _ = fs::remove_file(rt, name);
     }
     end
+}
+
+// Reads the list, and tests that it has the event to begin with, and isn't the as-run file.
+fn read_events<'a, R: Files + AllocGlobal, L: io::Read + Drop>(
+    rt: &R,
+    list: NamedFile<'a, L>,
+    settings: RunSettings<'a>,
+) -> Result<vdcp_list::List, Failure<'a>>
+    ensures events { IfOk result (λ events. IsListOf settings.entry.rate (L.remaining list.entry.reader)
+        (items_of events)) }
+    ensures listed { IfOk result (λ events. first_event settings.entry.from ≤ length (items_of events)) }
+    ensures unplayed { IfErr result (λ failure. (address : List ℕ) → IsAddress address → IsUnplayed settings.entry address
+        (file list.entry.name (L.remaining list.entry.reader)) failure) }
+{
+    let name = list.name;
+    let events = list.read_list(rt.alloc(), settings.rate)?;
+    test_event(&events, settings.from)?;
+    test_list(rt, settings.asrun, name)?;
+    Ok(events)
 }
 
 // What is told where the list of this name isn't the journal's, and of any other failure.

@@ -15,7 +15,7 @@ use vdcp_list::Rest;
 use vdcp_text::{Failure, OutcomeText};
 
 /// How the line ended.
-#[derive(Clone, Copy, Debug, PartialEq, Eq)]
+#[derive(Clone, Copy, PartialEq, Eq)]
 pub enum LineEnd {
     /// The controller has ended, and needs it no more.
     Unneeded,
@@ -63,7 +63,7 @@ impl LineEnd {
 }
 
 /// How a run ended.
-#[derive(Clone, Copy, Debug, PartialEq, Eq)]
+#[derive(Clone, Copy)]
 pub struct RunEnd<'a> {
     /// The event of the list that the controller began with.
     pub from: usize,

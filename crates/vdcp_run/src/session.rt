@@ -1,14 +1,7 @@
 //! One session: a list is played over a connection, and what came of it.
-ghost use Rattle.std.specs.Prelude.{◌≡◌, ◌⊎◌, ◌≤◌, IfErr, IfOk, IsSome, None, OnErr, Option, Result, Some};
-ghost use Rattle.vdcp_auto.specs.Plan.{plan_of};
-ghost use Rattle.vdcp_auto.specs.Turn.{outcome_of};
-ghost use Rattle.vdcp_drive.specs.Auto.{auto_of};
-ghost use Rattle.vdcp_drive.specs.Leaves.{RunLeaves};
-ghost use Rattle.vdcp_list.specs.Rests.{items_left};
-ghost use Rattle.vdcp_record.specs.Recording.{Recording};
-ghost use Rattle.vdcp_run.specs.Ends.{line_end_of};
-ghost use Rattle.vdcp_run.specs.Run.{ComesTo, EndsRun, IsEndBy, MayBeUnkept, MayBeUnwritten, journal_of};
-ghost use Rattle.vdcp_run.specs.Session.{HasOperated, HasPlayed, HasSession, HasTried, IsClosed, TriesOver, over, rules_of, start_of, unseen};
+ghost use Rattle.std.specs.Prelude.{◌≡◌, ◌⊎◌, ◌≤◌, IfErr, IfOk, IsSome, None, OnErr, Some, false, true};
+ghost use Rattle.vdcp_run.specs.Run.{EndsRun, MayBeUnkept, journal_of};
+ghost use Rattle.vdcp_run.specs.Session.{HasPlayed, HasSession, HasTried, IsClosed, Plays, TriesOver, over, start_of, unseen};
 
 use crate::asking::{may_begin, unbegun_line, vacancy_for};
 use crate::lapsing::Lapsing;
@@ -26,10 +19,10 @@ use vdcp_auto::{Controller, Outcome, Source};
 use vdcp_drive::{
     AutoDriver, Driver, Ear, KeptFault, Pace, PromptDriver, Ran, Unkept, Unpaced, Unwatched, Watch,
 };
+use vdcp_journal_file::{Disk, Recorder, Resumption};
 use vdcp_list::Rest;
 use vdcp_log::{Hearing, Log, Logged, Side, Telling};
 use vdcp_operator::Hand;
-use vdcp_record::{Disk, Recorder, Resumption};
 use vdcp_text::Failure;
 use vdcp_wire::{StreamWire, Wire};
 
@@ -96,7 +89,7 @@ fn play_over<
 >(
     rt: &R,
     controller: Controller<Rest<S>>,
-    recorder: Option<Recorder<'a, '_, R, F>>,
+    mut recorder: Option<Recorder<'a, '_, R, F>>,
     wire: io::Result<W>,
     settings: RunSettings<'a>,
     showing: Showing<V>,
@@ -113,11 +106,17 @@ fn play_over<
     match wire {
         Ok(wire) => match settings.hearing {
             Hearing::AtSilences => play_shown(
-                rt, controller, recorder, wire, settings, showing, hand,
+                rt,
+                controller,
+                &mut recorder,
+                wire,
+                settings,
+                showing,
+                hand,
             ),
             Hearing::AtOnce(_) => {
                 let wire = Lapsing::new(wire, rt, settings.silence);
-                play_shown(rt, controller, recorder, wire, settings, showing, hand)
+                play_shown(rt, controller, &mut recorder, wire, settings, showing, hand)
             }
         },
         Err(_) => ended(rt, &controller, LineEnd::Failed, settings),
@@ -137,7 +136,7 @@ fn play_shown<
 >(
     rt: &R,
     controller: Controller<Rest<S>>,
-    recorder: Option<Recorder<'a, '_, R, F>>,
+    recorder: &mut Option<Recorder<'a, '_, R, F>>,
     wire: W,
     settings: RunSettings<'a>,
     showing: Showing<V>,
@@ -147,8 +146,8 @@ fn play_shown<
     requires some { 1 ≤ settings.limit }
     requires works { W.failures wire ≡ 0 }
     ensures session { HasTried W.told W.does F.safe unseen settings.entry (start_of S.items controller)
-        (over wire recorder.entry) tt result }
-    ensures end { EndsRun settings.entry (journal_of recorder.entry) S.items controller result }
+        (over wire recorder.old) tt result }
+    ensures end { EndsRun settings.entry (journal_of recorder.old) S.items controller result }
 {
     let Showing { shown, capture } = showing;
     match (shown, capture) {
@@ -208,7 +207,7 @@ fn play_asked<
 >(
     rt: &R,
     controller: Controller<Rest<S>>,
-    recorder: Option<Recorder<'a, '_, R, F>>,
+    recorder: &mut Option<Recorder<'a, '_, R, F>>,
     mut wire: W,
     watcher: &mut V,
     settings: RunSettings<'a>,
@@ -218,8 +217,8 @@ fn play_asked<
     requires some { 1 ≤ settings.limit }
     requires works { W.failures wire ≡ 0 }
     ensures session { HasTried W.told W.does F.safe V.sees settings.entry (start_of S.items controller)
-        (record { wire = wire; keep = recorder.entry; watch = watcher.old }) watcher.new result }
-    ensures end { EndsRun settings.entry (journal_of recorder.entry) S.items controller result }
+        (record { wire = wire; keep = recorder.old; watch = watcher.old }) watcher.new result }
+    ensures end { EndsRun settings.entry (journal_of recorder.old) S.items controller result }
 {
     let mut left = settings.listens;
     let asked = vacancy_for(&controller, settings, &mut left, &mut wire);
@@ -246,7 +245,7 @@ fn play<
 >(
     rt: &R,
     controller: Controller<Rest<S>>,
-    recorder: Option<Recorder<'a, '_, R, F>>,
+    recorder: &mut Option<Recorder<'a, '_, R, F>>,
     wire: W,
     watcher: &mut V,
     settings: RunSettings<'a>,
@@ -256,25 +255,53 @@ fn play<
     requires works { W.failures wire ≡ 0 }
     ensures session { HasPlayed settings.entry.operated settings.entry.hearing W.does F.safe V.sees settings.entry.unit
         settings.entry.listens (start_of S.items controller)
-        (record { wire = wire; keep = recorder.entry; watch = watcher.old }) watcher.new result }
-    ensures end { EndsRun settings.entry (journal_of recorder.entry) S.items controller result }
+        (record { wire = wire; keep = recorder.old; watch = watcher.old }) watcher.new result }
+    ensures end { EndsRun settings.entry (journal_of recorder.old) S.items controller result }
 {
     match settings.hearing {
         Hearing::AtSilences => {
-            let mut driver = AutoDriver::new(controller, settings.unit, wire);
-            if settings.operated {
-                return play_operated(rt, &mut driver, watcher, recorder, settings, hand);
-            }
-            play_driven(rt, &mut driver, &mut Unpaced, watcher, recorder, settings)
+            let driver = AutoDriver::new(controller, settings.unit, wire);
+            play_by(rt, driver, Unpaced, watcher, recorder, settings, hand)
         }
         Hearing::AtOnce(poll) => {
-            let mut driver = PromptDriver::new(controller, settings.unit, wire);
-            if settings.operated {
-                return play_operated(rt, &mut driver, watcher, recorder, settings, hand);
-            }
-            let mut pace = Polling::new(rt, poll);
-            play_driven(rt, &mut driver, &mut pace, watcher, recorder, settings)
+            let driver = PromptDriver::new(controller, settings.unit, wire);
+            let pace = Polling::new(rt, poll);
+            play_by(rt, driver, pace, watcher, recorder, settings, hand)
         }
+    }
+}
+
+// Runs an automation, with an operator's hand if one has a part in it, and ends its journal.
+fn play_by<
+    'a,
+    R: Files + Clock + AllocGlobal,
+    S: Source + Copy,
+    E: Ear + Drop,
+    W: Wire + Drop,
+    P: Pace<Rest<S>> + Drop,
+    V: Watch<Rest<S>>,
+    F: Disk + Drop,
+    I: io::Read + Drop,
+    O: io::Write,
+>(
+    rt: &R,
+    mut driver: Driver<Rest<S>, E, W>,
+    mut pace: P,
+    watcher: &mut V,
+    recorder: &mut Option<Recorder<'a, '_, R, F>>,
+    settings: RunSettings<'a>,
+    hand: &mut Hand<'_, R, I, O>,
+) -> RunEnd<'a>
+    requires works { W.failures driver.wire ≡ 0 }
+    ensures plays { Plays settings.entry.operated W.does F.safe V.sees E.fold driver.ear driver.unit
+        settings.entry.listens (start_of S.items driver.controller)
+        (record { wire = driver.wire; keep = recorder.old; watch = watcher.old }) watcher.new result }
+    ensures end { EndsRun settings.entry (journal_of recorder.old) S.items driver.controller result }
+{
+    if settings.operated {
+        play_operated(rt, &mut driver, watcher, recorder, settings, hand)
+    } else {
+        play_driven(rt, &mut driver, &mut pace, watcher, recorder, settings)
     }
 }
 
@@ -293,19 +320,14 @@ fn play_driven<
     driver: &mut Driver<Rest<S>, E, W>,
     pace: &mut P,
     watcher: &mut V,
-    recorder: Option<Recorder<'a, '_, R, F>>,
+    recorder: &mut Option<Recorder<'a, '_, R, F>>,
     settings: RunSettings<'a>,
 ) -> RunEnd<'a>
-    requires unit { driver.old.unit ≡ settings.unit }
-    // What the driver's run left and answered, which is how the line ended: it kept this very journal, which was ended then.
-    ensures leaves { (ran : Result Ran KeptFault) × (left : Option (Recording F)) × (result.line ≡ line_end_of ran)
-        × RunLeaves (items_left S.items) (rules_of W.does F.safe V.sees) E.fold W.failures settings.entry.listens
-        driver.old driver.new recorder.entry left watcher.old watcher.new ran
-        × IsClosed F.safe (outcome_of driver.new.controller.state.stage) result.unkept left }
-    ensures of_controller { IsEndBy driver.new.controller result }
-    ensures unwritten { MayBeUnwritten settings.entry.asrun settings.entry.journal result.unwritten }
-    ensures unkept { MayBeUnkept (journal_of recorder.entry) result.unkept }
-    ensures told { result.line ≡ LineEnd.Unkept → IsSome result.unkept }
+    requires works { W.failures driver.old.wire ≡ 0 }
+    ensures plays { Plays false W.does F.safe V.sees E.fold driver.old.ear driver.old.unit settings.entry.listens
+        (start_of S.items driver.old.controller)
+        (record { wire = driver.old.wire; keep = recorder.old; watch = watcher.old }) watcher.new result }
+    ensures end { EndsRun settings.entry (journal_of recorder.old) S.items driver.old.controller result }
 {
     let listens = u64::from(settings.listens);
     match recorder {
@@ -313,10 +335,10 @@ fn play_driven<
             let ran = driver.run_with(listens, watcher, &mut Unkept, pace);
             ended(rt, driver.controller(), LineEnd::of_run(ran), settings)
         }
-        Some(mut recorder) => {
+        Some(recorder) => {
             let name = recorder.name();
             let line = LineEnd::of_run(recorder.run(driver, listens, watcher, pace));
-            let unkept = close(name, &mut recorder, driver.controller().outcome(), line);
+            let unkept = close(name, recorder, driver.controller().outcome(), line);
             RunEnd {
                 unkept,
                 ..ended(rt, driver.controller(), line, settings)
@@ -340,34 +362,15 @@ fn play_operated<
     rt: &R,
     driver: &mut Driver<Rest<S>, E, W>,
     watcher: &mut V,
-    recorder: Option<Recorder<'a, '_, R, F>>,
+    recorder: &mut Option<Recorder<'a, '_, R, F>>,
     settings: RunSettings<'a>,
     hand: &mut Hand<'_, R, I, O>,
 ) -> RunEnd<'a>
     requires works { W.failures driver.old.wire ≡ 0 }
-    // What the run left and answered: each command and each call was safe in the journal, if there is one, before it went out
-    // or was given. Then the journal was ended.
-    ensures operated { (ran : Result Ran KeptFault) × (left : Option (Recording F)) × (result.line ≡ line_end_of ran)
-        × HasOperated (record {
-          does = W.does;
-          safe = F.safe;
-          sees = V.sees;
-          fold = E.fold;
-          plan = plan_of (items_left S.items) driver.old.controller;
-          unit = driver.old.unit;
-        }) settings.entry.listens ran (record {
-          auto = auto_of driver.old;
-          world = record { wire = driver.old.wire; keep = recorder.entry; watch = watcher.old };
-        }) (record {
-          auto = auto_of driver.new;
-          world = record { wire = driver.new.wire; keep = left; watch = watcher.new };
-        })
-        × IsClosed F.safe (outcome_of driver.new.controller.state.stage) result.unkept left }
-    ensures controller { driver.new.controller ≡ record driver.old.controller { state = driver.new.controller.state } }
-    ensures of_controller { IsEndBy driver.new.controller result }
-    ensures comes { ComesTo S.items driver.old.controller result }
-    ensures unwritten { MayBeUnwritten settings.entry.asrun settings.entry.journal result.unwritten }
-    ensures unkept { MayBeUnkept (journal_of recorder.entry) result.unkept }
+    ensures plays { Plays true W.does F.safe V.sees E.fold driver.old.ear driver.old.unit settings.entry.listens
+        (start_of S.items driver.old.controller)
+        (record { wire = driver.old.wire; keep = recorder.old; watch = watcher.old }) watcher.new result }
+    ensures end { EndsRun settings.entry (journal_of recorder.old) S.items driver.old.controller result }
 {
     let listens = u64::from(settings.listens);
     match recorder {
@@ -377,12 +380,12 @@ fn play_operated<
             hand.show_end(driver.controller(), end.outcome);
             end
         }
-        Some(mut recorder) => {
+        Some(recorder) => {
             let name = recorder.name();
-            let ran = driver.run_operated(listens, watcher, &mut recorder, hand);
+            let ran = driver.run_operated(listens, watcher, recorder, hand);
             let line = LineEnd::of_run(ran);
             let outcome = driver.controller().outcome();
-            let unkept = close(name, &mut recorder, outcome, line);
+            let unkept = close(name, recorder, outcome, line);
             let end = ended(rt, driver.controller(), line, settings);
             hand.show_end(driver.controller(), end.outcome);
             RunEnd { unkept, ..end }

@@ -7,7 +7,7 @@ use vdcp_log::{Hearing, Telling};
 use vdcp_value::Rate;
 
 /// What a list is played with.
-#[derive(Clone, Copy, Debug)]
+#[derive(Clone, Copy)]
 pub struct RunSettings<'a> {
     /// The server's unit address, 0 to 15.
     pub unit: u8,
@@ -39,7 +39,7 @@ pub struct RunSettings<'a> {
 }
 
 /// The journal of a run, by the name of its file.
-#[derive(Clone, Copy, Debug, PartialEq, Eq)]
+#[derive(Clone, Copy)]
 pub enum RunJournal<'a> {
     /// A new one, whose file is made.
     New(&'a str),

@@ -8,10 +8,12 @@ use std::net::{Net, OpenStream};
 use std::rt::Clock;
 use std::time::Duration;
 use vdcp_auto::{Controller, Heard, Phase, Snapshot, Source, Standing};
-use vdcp_drive::{AutoDriver, Call, Keep, KeepFault, PromptDriver, Unpaced, Unwatched};
+use vdcp_drive::{
+    AutoDriver, Call, Driver, Ear, Keep, KeepFault, Pace, PromptDriver, Unpaced, Unwatched,
+};
 use vdcp_list::Rest;
 use vdcp_log::Hearing;
-use vdcp_wire::StreamWire;
+use vdcp_wire::{StreamWire, Wire};
 use vdcp_words::Command;
 
 /// Where the controller asks whether its PLAY was lost, and would send it again at once: asks the state over this stream
@@ -40,19 +42,26 @@ pub fn await_clip<R: Net + Clock + AllocGlobal, S: Source>(
     let Ok(wire) = StreamWire::new(stream, silence) else {
         return;
     };
-    let listens = u64::from(settings.listens);
-    let _ = match settings.hearing {
+    match settings.hearing {
         Hearing::AtSilences => {
-            let mut driver = AutoDriver::new(waiting, settings.unit, wire);
-            driver.run_with(listens, &mut Unwatched, &mut OnlyAsks, &mut Unpaced)
+            let driver = AutoDriver::new(waiting, settings.unit, wire);
+            ask_by(driver, Unpaced, settings.listens);
         }
         Hearing::AtOnce(poll) => {
             let wire = Lapsing::new(wire, rt, settings.silence);
-            let mut driver = PromptDriver::new(waiting, settings.unit, wire);
-            let mut pace = Polling::new(rt, poll);
-            driver.run_with(listens, &mut Unwatched, &mut OnlyAsks, &mut pace)
+            let driver = PromptDriver::new(waiting, settings.unit, wire);
+            ask_by(driver, Polling::new(rt, poll), settings.listens);
         }
-    };
+    }
+}
+
+// Runs an automation that sends nothing but what asks for the state.
+fn ask_by<S: Source + Copy, E: Ear + Drop, W: Wire + Drop, P: Pace<S> + Drop>(
+    mut driver: Driver<S, E, W>,
+    mut pace: P,
+    listens: u32,
+) {
+    let _ = driver.run_with(u64::from(listens), &mut Unwatched, &mut OnlyAsks, &mut pace);
 }
 
 // Lets no command go out but one that asks for the state.

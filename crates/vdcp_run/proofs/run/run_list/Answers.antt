@@ -2,15 +2,12 @@ use Rattle.std.proofs.lemmas.Result.{IfOk-weaker, err_from_is_err_and}
 use Rattle.vdcp_list.specs.List.{items_of}
 use Rattle.vdcp_run.proofs.Begun.{both, is_run, unkept_so}
 use Rattle.vdcp_run.proofs.run.run_list.Goals as goal
-use Rattle.vdcp_run.specs.Run.{no_event, no_journal}
+use Rattle.vdcp_run.specs.Run.{no_journal}
 
-pub returns-in_err-test_event-clause-unplayed : goal.returns-in_err-test_event-clause-unplayed
-returns-in_err-test_event-clause-unplayed g c =
-    let r = c.from_residual-in_err-test_event in
-    let p = err_from_is_err_and r.result r.ensures.1 in
-    rw (p.1, p.2)
-    (no_event (c.in-Ok.address, c.in-Ok.ensures.address) (items_of c.in_ok-events.events) c.in_ok-events.ensures.events
-    c.in_err-test_event.ensures.missing)
+pub returns-in_err-events-clause-unplayed : goal.returns-in_err-events-clause-unplayed
+returns-in_err-events-clause-unplayed g c =
+    let p = err_from_is_err_and c.from_residual.result c.from_residual.ensures.1 in
+    rw (p.1, p.2) (c.in_err-events.ensures.unplayed _ (c.in-Ok.address, c.in-Ok.ensures.address))
 
 pub returns-in-Err-clause-unplayed : goal.returns-in-Err-clause-unplayed
 returns-in-Err-clause-unplayed g c =

@@ -13,7 +13,7 @@ pub returns-in-Lines-default-clause-session : goal.returns-in-Lines-default-clau
 returns-in-Lines-default-clause-session g c =
     let start = start_of g.S.Source.items c.args.controller in
     subst (λ w. HasTried g.W.Wire.told g.W.Wire.does g.F.Disk.safe unseen c.args.settings start
-    (over w c.args.recorder) tt c.play_asked-in-Lines-default.result) c.new-wire.ensures
+    (over w c.args.recorder.now) tt c.play_asked-in-Lines-default.result) c.new-wire.ensures
     (tries_seen _ g.W.Wire.told _ g.W.Wire.does g.F.Disk.safe _ unseen (λ w. w.wire) (λ v. tt) (λ w. refl)
     (λ a old new h. h) (λ s old new h. tt) c.args.settings start _ _ c.play_asked-in-Lines-default.result
     c.play_asked-in-Lines-default.ensures.session)
@@ -22,7 +22,7 @@ pub returns-in-Progress-default-clause-session : goal.returns-in-Progress-defaul
 returns-in-Progress-default-clause-session g c =
     let start = start_of g.S.Source.items c.args.controller in
     subst (λ w. HasTried g.W.Wire.told g.W.Wire.does g.F.Disk.safe unseen c.args.settings start
-    (over w c.args.recorder) tt c.play_asked-end.result)
+    (over w c.args.recorder.now) tt c.play_asked-end.result)
     (ap (λ w. w.wire) c.new-wire-in-Progress-default.ensures ∙ c.new-logged.ensures)
     (tries_seen _ g.W.Wire.told _ g.W.Wire.does g.F.Disk.safe _ unseen (λ w. w.wire.wire) (λ v. tt) (λ w. refl)
     (λ a old new h. h) (λ s old new h. tt) c.args.settings start _ _ c.play_asked-end.result
