@@ -1,8 +1,8 @@
 -- What lines say, byte by byte.
-use Rattle.std.proofs.Common.{◌≡◌, ◌<◌, ◌≤◌, ℕ, ◌+◌, zero, suc, ◌⊎◌, inl, inr, Bool, true, false, Option, None, Some, List, [], ◌∷◌, ◌++◌, length, refl, sym, ap, ◌∙◌, arith, append-nil}
+use Rattle.std.proofs.Common.{◌≡◌, ◌<◌, ◌≤◌, ℕ, ◌+◌, zero, suc, ◌⊎◌, inl, inr, Bool, true, false, Option, None, Some, List, [], ◌∷◌, ◌++◌, length, refl, sym, ap, ◌∙◌, arith}
 use Rattle.std.proofs.lemmas.List.{length-append}
 use Rattle.std.specs.Cmp.Lexicographic.{same_text}
-use Rattle.std.specs.Io.KnownBytes.{Consumes, IsAtEnd, Keeps}
+use Rattle.std.specs.Io.KnownBytes.{Consumes, Keeps}
 use Rattle.std.specs.Prelude.{bytes_eq, codes, if◌then◌else◌, nat_eq}
 use Rattle.vdcp_operator.specs.Typed.{SaysOn, said_from, said_in}
 use Rattle.vdcp_operator.specs.declared.typed.Said.{Said}
@@ -79,12 +79,6 @@ pub not_read : (line : List ℕ) (l l' : Option (List ℕ)) → Keeps l l' → S
 not_read line None l' h = tt
 not_read line (Some a) None h = absurd h
 not_read line (Some a) (Some b) h = ap (said_from line) (sym h)
-
-pub read_end : (line : List ℕ) (says : List Said) (l l' : Option (List ℕ)) → Consumes l l' [] → IsAtEnd l'
-    → says ≡ said_from line [] → SaysOn line l says [] (Some [])
-read_end line says None l' h e is = tt
-read_end line says (Some a) None h e is = absurd h
-read_end line says (Some a) (Some b) h e is = ap (said_from line) (h ∙ e) ∙ sym is ∙ sym (append-nil says)
 
 pub read_line : (line : List ℕ) (l l' : Option (List ℕ)) → Consumes l l' (10 ∷ []) → SaysOn line l (said_in line ∷ []) [] l'
 read_line line None l' h = tt

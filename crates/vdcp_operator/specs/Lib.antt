@@ -1,3 +1,4 @@
+-- The definitions, file by file.
 pub mod Typed
 pub mod Seen
 pub mod Hands

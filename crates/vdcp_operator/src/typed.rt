@@ -20,7 +20,7 @@ pub enum Said {
 }
 
 /// What comes of one byte.
-#[derive(Clone, Copy, Debug, PartialEq, Eq)]
+#[derive(Clone, Copy)]
 enum Got {
     Line(Said),
     /// No line is whole yet.

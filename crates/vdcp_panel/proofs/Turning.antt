@@ -1,4 +1,4 @@
--- One connection more had its turn.
+-- The connections to a page take turns: what holds once one more had its turn.
 use Rattle.std.proofs.Common.{◌≡◌, ◌<◌, ◌+◌, ◌∙◌, ℕ, zero, suc, List, [], ◌∷◌, drop, length, take, refl, sym, subst, ap, arith}
 use Rattle.std.proofs.lemmas.List.{drop-drop, drop-set-lt}
 use Rattle.std.specs.Prelude.{slice_index_or, slice_set}

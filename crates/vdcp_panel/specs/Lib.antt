@@ -1,3 +1,4 @@
+-- The definitions, file by file.
 pub mod Asked
 pub mod Wishes
 pub mod Answered

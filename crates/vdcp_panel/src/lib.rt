@@ -12,13 +12,14 @@
 //! }
 //! ```
 //!
-//! Files, in reading order: `view`, `call`, `gate`, `wish`, `desk`, `peer`, `peers`, `panel`, `open`.
+//! Files, in reading order: `view`, `call`, `gate`, `wish`, `desk`, `peer`, `peers`, `panel`, `open`; `page` has the text that every page has.
 #![tactic(auto)]
 
 mod call;
 mod desk;
 mod gate;
 mod open;
+mod page;
 mod panel;
 mod peer;
 mod peers;

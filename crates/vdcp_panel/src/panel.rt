@@ -61,22 +61,20 @@ impl Panel {
         rt: &R,
         address: SocketAddrV4,
     ) -> io::Result<Panel> {
-        let mut listener = TcpListener::bind(rt, SocketAddr::V4(address))?;
-        let poll = Poll::new(rt)?;
+        let began = Instant::now(rt)?;
+        let peers = Peers::new(rt.alloc(), RandomState::new(rt)?)?;
         let events = Events::with_capacity(rt.alloc(), MOST_PEERS)?;
-        poll.registry()
-            .register(&mut listener, Token(0), Interest::READABLE)?;
-        let keys = RandomState::new(rt)?;
+        let (listener, poll) = listen_at(rt, address)?;
         let names = Names::new(rt, listener.local_addr()?)?;
         Ok(Panel {
             alloc: rt.alloc(),
             listener,
-            peers: Peers::new(rt.alloc(), keys)?,
+            peers,
             poll,
             events,
             names,
             is_busy: true,
-            began: Instant::now(rt)?,
+            began,
             next: 0,
             due: u64::MAX,
         })
@@ -171,6 +169,15 @@ impl Panel {
             self.peers.add(stream, now);
         }
     }
+}
+
+// A listener at this address, and what tells of its connections.
+fn listen_at<R: Net>(rt: &R, address: SocketAddrV4) -> io::Result<(TcpListener, Poll)> {
+    let poll = Poll::new(rt)?;
+    let mut listener = TcpListener::bind(rt, SocketAddr::V4(address))?;
+    poll.registry()
+        .register(&mut listener, Token(0), Interest::READABLE)?;
+    Ok((listener, poll))
 }
 
 impl Names {

@@ -28,7 +28,7 @@ pub struct Peer<T: Read + Write> {
 }
 
 /// What becomes of a connection.
-#[derive(Clone, Copy, Debug, PartialEq, Eq)]
+#[derive(Clone, Copy, PartialEq, Eq)]
 enum Stay {
     Active,
     Waiting,

@@ -47,20 +47,21 @@ impl<T: Read + Write + Drop> Peers<T> {
             self.drop_idlest();
         }
         let connection = Connection::new(self.alloc, self.keys, CONFIG);
-        let _ = self.peers.push(Peer::new(stream, connection, now));
+        drop(self.peers.push(Peer::new(stream, connection, now)));
     }
 
     fn drop_idlest(&mut self) {
         let mut idlest = 0;
-        let mut last = u64::MAX;
-        for (place, peer) in self.peers.iter().enumerate() {
-            if peer.active() < last {
-                last = peer.active();
+        let mut least = u64::MAX;
+        for place in 0..self.peers.len() {
+            let active = self.peers[place].active();
+            if active < least {
+                least = active;
                 idlest = place;
             }
         }
         if idlest < self.peers.len() {
-            let _ = self.peers.remove(idlest);
+            drop(self.peers.remove(idlest));
         }
     }
 
@@ -82,14 +83,18 @@ impl<T: Read + Write + Drop> Peers<T> {
 
     /// Whether there may be more to do at once.
     pub fn are_busy(&self) -> bool {
-        self.peers.iter().any(|peer| peer.is_busy())
+        let mut are_busy = false;
+        for place in 0..self.peers.len() {
+            are_busy |= self.peers[place].is_busy();
+        }
+        are_busy
     }
 
     /// When one of them is given up, if nothing moves before; the end of time if there is none.
     pub fn due(&self) -> u64 {
         let mut due = u64::MAX;
-        for peer in self.peers.iter() {
-            due = due.min(peer.due());
+        for place in 0..self.peers.len() {
+            due = due.min(self.peers[place].due());
         }
         due
     }

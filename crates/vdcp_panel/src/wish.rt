@@ -10,7 +10,7 @@ use http::Request;
 use itoa::Buffer;
 
 /// What a method does.
-#[derive(Clone, Copy, Debug, PartialEq, Eq)]
+#[derive(Clone, Copy)]
 pub enum Verb {
     Read,
     Post,
@@ -18,7 +18,7 @@ pub enum Verb {
 }
 
 /// Where a path leads.
-#[derive(Clone, Copy, Debug, PartialEq, Eq)]
+#[derive(Clone, Copy)]
 pub enum Place {
     Page,
     State,
@@ -27,7 +27,7 @@ pub enum Place {
 }
 
 /// What a request gets.
-#[derive(Clone, Copy, Debug, PartialEq, Eq)]
+#[derive(Clone, Copy)]
 pub enum Wish {
     Page,
     State,

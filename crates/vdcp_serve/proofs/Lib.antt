@@ -1,3 +1,4 @@
+-- The lemmas, file by file.
 mod Ends
 mod Holding
 mod Kept

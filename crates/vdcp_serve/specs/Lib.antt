@@ -1,3 +1,4 @@
+-- The definitions, file by file.
 pub mod Idle
 pub mod IdleLaws
 pub mod Pace

@@ -1,4 +1,4 @@
-use Rattle.std.proofs.Common.{◌≡◌, ◌∙◌, ap, inr, refl, subst}
+use Rattle.std.proofs.Common.{◌∙◌, ap, inr, refl, subst}
 use Rattle.vdcp_panel.specs.Seen.{IsGateOf}
 use Rattle.vdcp_panel.specs.declared.panel.Names.{Names}
 use Rattle.vdcp_panel.proofs.panel.Panel.serve_some.Goals as goal

@@ -1,6 +1,5 @@
-use Rattle.std.proofs.Common.{◌≡◌, ◌≤◌, ◌-◌, ◌∙◌, ap, drop, length, take, refl, sym, subst, add-one, arith, rules}
+use Rattle.std.proofs.Common.{◌≡◌, ◌≤◌, ◌-◌, ◌∙◌, ap, length, take, sym, subst, add-one, arith}
 use Rattle.std.proofs.lemmas.List.{length-drop, length-set, take_all}
-use Rattle.std.specs.Prelude.{slice_set}
 use Rattle.vdcp_panel.proofs.Turning.{one_more, wait_still}
 use Rattle.vdcp_panel.proofs.peers.Peers.turn_each.Goals as goal
 use Rattle.vdcp_panel.specs.Turned.{HaveTurned}
