@@ -1,4 +1,4 @@
--- One turn more.
+-- The port after the turns of a probe, and after one turn more.
 use Rattle.std.proofs.Common.{◌≡◌, ℕ, List, [], ◌∷◌, ◌++◌, refl}
 use Rattle.vdcp_port.specs.Clock.{ClockedPort}
 use Rattle.vdcp_probe.specs.Following.{after_turns, port_after}

@@ -1,7 +1,7 @@
 -- What is printed of a list, by what a server says of its clips.
 use Rattle.std.specs.Io.KnownBytes.{Appends}
 use Rattle.std.specs.Prelude.{ℕ, ◌≡◌, Bool, List, Option}
-use Rattle.vdcp_files.specs.Check.{are_playable, check_text}
+use Rattle.vdcp_files.specs.Playable.{are_playable, check_text}
 use Rattle.vdcp_files.specs.Files.{File, bytes_of}
 use Rattle.vdcp_list.specs.Playlists.{IsListOf}
 use Rattle.vdcp_value.specs.declared.clip_id.ClipId.{ClipId}

@@ -1,3 +1,4 @@
+-- The definitions, file by file.
 pub mod Asks
 pub mod Following
 pub mod Walks

@@ -34,7 +34,7 @@ pub struct AskSettings {
 }
 
 /// Why a server isn't asked to the end.
-#[derive(Clone, Copy, Debug, PartialEq, Eq)]
+#[derive(Clone, Copy)]
 enum AskFault<'a> {
     /// What it says of this clip says neither that it has it nor that it hasn't, or gives no length.
     Answer(Rate, ClipId),

@@ -25,7 +25,7 @@ use vdcp_wire::{StreamWire, Wire, address_of};
 const MOST_ASKS: u32 = 3;
 
 /// Why a server isn't probed, or not to the end.
-#[derive(Clone, Copy, Debug, PartialEq, Eq)]
+#[derive(Clone, Copy)]
 enum ProbeFault<'a> {
     /// Nobody has said that the port may be stopped.
     MayNotStop,

@@ -97,3 +97,12 @@ pub enum Clip {
     /// One whose ID is eight bytes FFh.
     Unknown,
 }
+
+// Steps: bursts, each sent and answered, and what the state is asked for after one.
+macro_rules! steps {
+    ($([$($step:expr),+] $(until $awaited:ident)?)+) => {
+        &[$($($step,)+ $crate::row::Step::Send, $($crate::row::Step::Await($crate::row::Awaited::$awaited),)?)+]
+    };
+}
+
+pub(crate) use steps;

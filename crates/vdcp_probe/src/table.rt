@@ -4,18 +4,19 @@ use crate::row::Ask::{
 };
 use crate::row::Clip::{First, Second, Unknown};
 use crate::row::Number::{Other, Own};
-use crate::row::Step::{Ask, Bytes, Cut, Damaged, Elsewhere, Framed, Send};
-use crate::row::{Group, Row, Start};
+use crate::row::Row;
+use crate::row::Step::{Ask, Bytes, Cut, Damaged, Elsewhere, Framed};
 use std::alloc::{AllocError, Global};
 
-macro_rules! row {
-    ($name:literal, $group:ident, $start:ident, $steps:expr) => {
-        Row {
+// Rows of one group: each a name, what the port is brought to, and the bursts that it gets then.
+macro_rules! rows {
+    ($group:ident; $($name:literal $start:ident $([$($step:expr),+] $(until $awaited:ident)?)+;)+) => {
+        [$($crate::row::Row {
             name: $name,
-            group: Group::$group,
-            start: Start::$start,
-            steps: $steps,
-        }
+            group: $crate::row::Group::$group,
+            start: $crate::row::Start::$start,
+            steps: $crate::row::steps! { $([$($step),+] $(until $awaited)?)+ },
+        }),+]
     };
 }
 
@@ -33,259 +34,74 @@ const DAY: [u8; 4] = [0x23, 0x59, 0x59, 0x23];
 const NO_TIME: [u8; 4] = [0xff, 0xff, 0xff, 0xff];
 
 // Rows of a port that isn't selected.
-const UNSELECTED: [Row; 19] = [
-    row!("closed-open", Safe, Closed, &[Ask(Open(Own)), Send]),
-    row!("closed-open-other", Safe, Closed, &[Ask(Open(Other)), Send]),
-    row!("closed-close", Safe, Closed, &[Ask(Close(Own)), Send]),
-    row!(
-        "closed-close-other",
-        Safe,
-        Closed,
-        &[Ask(Close(Other)), Send]
-    ),
-    row!("closed-select", Safe, Closed, &[Ask(Select(Own)), Send]),
-    row!("closed-cue", Safe, Closed, &[Ask(Cue(First)), Send]),
-    row!("closed-stop", Safe, Closed, &[Ask(Stop), Send]),
-    row!("closed-active", Safe, Closed, &[Ask(Active), Send]),
-    row!(
-        "closed-exists-known",
-        Safe,
-        Closed,
-        &[Ask(Exists(First)), Send]
-    ),
-    row!(
-        "closed-exists-unknown",
-        Safe,
-        Closed,
-        &[Ask(Exists(Unknown)), Send]
-    ),
-    row!("closed-size-known", Safe, Closed, &[Ask(Size(First)), Send]),
-    row!(
-        "closed-size-unknown",
-        Safe,
-        Closed,
-        &[Ask(Size(Unknown)), Send]
-    ),
-    row!("open-open", Safe, Open, &[Ask(Open(Own)), Send]),
-    row!("open-close", Safe, Open, &[Ask(Close(Own)), Send]),
-    row!("open-select-other", Safe, Open, &[Ask(Select(Other)), Send]),
-    row!("open-cue", Safe, Open, &[Ask(Cue(First)), Send]),
-    row!("open-stop", Safe, Open, &[Ask(Stop), Send]),
-    row!("open-active", Safe, Open, &[Ask(Active), Send]),
-    row!("open-exists", Safe, Open, &[Ask(Exists(First)), Send]),
-];
+const UNSELECTED: [Row; 19] = rows! {
+    Safe;
+    "closed-open" Closed [Ask(Open(Own))];
+    "closed-open-other" Closed [Ask(Open(Other))];
+    "closed-close" Closed [Ask(Close(Own))];
+    "closed-close-other" Closed [Ask(Close(Other))];
+    "closed-select" Closed [Ask(Select(Own))];
+    "closed-cue" Closed [Ask(Cue(First))];
+    "closed-stop" Closed [Ask(Stop)];
+    "closed-active" Closed [Ask(Active)];
+    "closed-exists-known" Closed [Ask(Exists(First))];
+    "closed-exists-unknown" Closed [Ask(Exists(Unknown))];
+    "closed-size-known" Closed [Ask(Size(First))];
+    "closed-size-unknown" Closed [Ask(Size(Unknown))];
+    "open-open" Open [Ask(Open(Own))];
+    "open-close" Open [Ask(Close(Own))];
+    "open-select-other" Open [Ask(Select(Other))];
+    "open-cue" Open [Ask(Cue(First))];
+    "open-stop" Open [Ask(Stop)];
+    "open-active" Open [Ask(Active)];
+    "open-exists" Open [Ask(Exists(First))];
+};
 
 // Rows of commands to one that is.
-const SELECTED: [Row; 18] = [
-    row!(
-        "selected-open",
-        Safe,
-        Selected,
-        &[Ask(Open(Own)), Send, Ask(Status(1)), Send]
-    ),
-    row!(
-        "selected-open-other",
-        Safe,
-        Selected,
-        &[Ask(Open(Other)), Send, Ask(Status(1)), Send]
-    ),
-    row!(
-        "selected-select",
-        Safe,
-        Selected,
-        &[Ask(Select(Own)), Send, Ask(Status(1)), Send]
-    ),
-    row!(
-        "selected-select-other",
-        Safe,
-        Selected,
-        &[Ask(Select(Other)), Send, Ask(Status(1)), Send]
-    ),
-    row!(
-        "close-other-keeps",
-        Safe,
-        Cued,
-        &[Ask(Close(Other)), Send, Ask(Status(1)), Send]
-    ),
-    row!(
-        "open-keeps",
-        Safe,
-        Cued,
-        &[
-            Ask(Open(Own)),
-            Send,
-            Ask(Select(Own)),
-            Send,
-            Ask(Status(1)),
-            Send
-        ]
-    ),
-    row!(
-        "stop-ends-clip",
-        Safe,
-        Cued,
-        &[
-            Ask(Play),
-            Send,
-            Ask(Stop),
-            Ask(Status(1)),
-            Ask(Active),
-            Send
-        ]
-    ),
-    row!("exists-known", Safe, Selected, &[Ask(Exists(First)), Send]),
-    row!(
-        "exists-unknown",
-        Safe,
-        Selected,
-        &[Ask(Exists(Unknown)), Send]
-    ),
-    row!("size-known", Safe, Selected, &[Ask(Size(Second)), Send]),
-    row!("size-unknown", Safe, Selected, &[Ask(Size(Unknown)), Send]),
-    row!(
-        "questions-keep-cue",
-        Safe,
-        Cued,
-        &[
-            Ask(Exists(First)),
-            Send,
-            Ask(Size(First)),
-            Send,
-            Ask(Active),
-            Send,
-            Ask(Status(1)),
-            Send
-        ]
-    ),
-    row!("active-none", Safe, Selected, &[Ask(Active), Send]),
-    row!("state-unasked", Safe, Selected, &[Ask(Status(0)), Send]),
-    row!(
-        "state-among-others",
-        Safe,
-        Selected,
-        &[Ask(Status(0xff)), Send]
-    ),
-    row!(
-        "part-too-long",
-        Safe,
-        Selected,
-        &[Ask(CuePart(First, START, DAY)), Send, Ask(Status(1)), Send]
-    ),
-    row!(
-        "part-without-frames",
-        Safe,
-        Selected,
-        &[
-            Ask(CuePart(First, START, START)),
-            Send,
-            Ask(Status(1)),
-            Send
-        ]
-    ),
-    row!(
-        "part-without-time",
-        Safe,
-        Selected,
-        &[
-            Ask(CuePart(First, NO_TIME, FRAME)),
-            Send,
-            Ask(Status(1)),
-            Send
-        ]
-    ),
-];
+const SELECTED: [Row; 18] = rows! {
+    Safe;
+    "selected-open" Selected [Ask(Open(Own))] [Ask(Status(1))];
+    "selected-open-other" Selected [Ask(Open(Other))] [Ask(Status(1))];
+    "selected-select" Selected [Ask(Select(Own))] [Ask(Status(1))];
+    "selected-select-other" Selected [Ask(Select(Other))] [Ask(Status(1))];
+    "close-other-keeps" Cued [Ask(Close(Other))] [Ask(Status(1))];
+    "open-keeps" Cued [Ask(Open(Own))] [Ask(Select(Own))] [Ask(Status(1))];
+    "stop-ends-clip" Cued [Ask(Play)] [Ask(Stop), Ask(Status(1)), Ask(Active)];
+    "exists-known" Selected [Ask(Exists(First))];
+    "exists-unknown" Selected [Ask(Exists(Unknown))];
+    "size-known" Selected [Ask(Size(Second))];
+    "size-unknown" Selected [Ask(Size(Unknown))];
+    "questions-keep-cue" Cued [Ask(Exists(First))] [Ask(Size(First))] [Ask(Active)] [Ask(Status(1))];
+    "active-none" Selected [Ask(Active)];
+    "state-unasked" Selected [Ask(Status(0))];
+    "state-among-others" Selected [Ask(Status(0xff))];
+    "part-too-long" Selected [Ask(CuePart(First, START, DAY))] [Ask(Status(1))];
+    "part-without-frames" Selected [Ask(CuePart(First, START, START))] [Ask(Status(1))];
+    "part-without-time" Selected [Ask(CuePart(First, NO_TIME, FRAME))] [Ask(Status(1))];
+};
 
 // Rows of words and bursts.
-const BURSTS: [Row; 18] = [
-    row!(
-        "unknown-type",
-        Safe,
-        Selected,
-        &[Framed(7, 0x01, &[]), Send]
-    ),
-    row!(
-        "unknown-code",
-        Safe,
-        Selected,
-        &[Framed(2, 0x7f, &[]), Send]
-    ),
-    row!(
-        "stop-with-data",
-        Safe,
-        Selected,
-        &[Framed(1, 0x00, &[0]), Send]
-    ),
-    row!(
-        "open-without-lock",
-        Safe,
-        Selected,
-        &[Framed(3, 0x01, &[1]), Send]
-    ),
-    row!(
-        "status-without-bitmap",
-        Safe,
-        Selected,
-        &[Framed(3, 0x05, &[]), Send]
-    ),
-    row!(
-        "longest-message",
-        Safe,
-        Selected,
-        &[Framed(2, 0x24, &[0x41; 253]), Send]
-    ),
-    row!("ack-unanswered", Safe, Selected, &[Bytes(&[0x04]), Send]),
-    row!(
-        "nak-unanswered",
-        Safe,
-        Selected,
-        &[Bytes(&[0x05, 0x01]), Send]
-    ),
-    row!(
-        "other-unit-status",
-        Safe,
-        Selected,
-        &[Elsewhere(Status(1)), Send]
-    ),
-    row!(
-        "other-unit-unknown",
-        Safe,
-        Selected,
-        &[Elsewhere(Exists(Unknown)), Send]
-    ),
-    row!(
-        "several-commands",
-        Safe,
-        Selected,
-        &[
-            Ask(Exists(First)),
-            Ask(Size(Second)),
-            Ask(Exists(Unknown)),
-            Send
-        ]
-    ),
-    row!("bad-start", Safe, Selected, &[Bytes(&[0xff]), Send]),
-    row!("bad-count", Safe, Selected, &[Bytes(&[0x02, 0x00]), Send]),
-    row!("bad-sum", Safe, Selected, &[Damaged(Exists(First)), Send]),
-    row!("cut-after-start", Safe, Selected, &[Bytes(&[0x02]), Send]),
-    row!(
-        "cut-before-sum",
-        Safe,
-        Selected,
-        &[Cut(Exists(First)), Send]
-    ),
-    row!(
-        "answers-before-fault",
-        Safe,
-        Selected,
-        &[Ask(Exists(First)), Damaged(Size(First)), Send]
-    ),
-    row!(
-        "answers-before-cut",
-        Safe,
-        Selected,
-        &[Ask(Exists(First)), Cut(Size(First)), Send]
-    ),
-];
+const BURSTS: [Row; 18] = rows! {
+    Safe;
+    "unknown-type" Selected [Framed(7, 0x01, &[])];
+    "unknown-code" Selected [Framed(2, 0x7f, &[])];
+    "stop-with-data" Selected [Framed(1, 0x00, &[0])];
+    "open-without-lock" Selected [Framed(3, 0x01, &[1])];
+    "status-without-bitmap" Selected [Framed(3, 0x05, &[])];
+    "longest-message" Selected [Framed(2, 0x24, &[0x41; 253])];
+    "ack-unanswered" Selected [Bytes(&[0x04])];
+    "nak-unanswered" Selected [Bytes(&[0x05, 0x01])];
+    "other-unit-status" Selected [Elsewhere(Status(1))];
+    "other-unit-unknown" Selected [Elsewhere(Exists(Unknown))];
+    "several-commands" Selected [Ask(Exists(First)), Ask(Size(Second)), Ask(Exists(Unknown))];
+    "bad-start" Selected [Bytes(&[0xff])];
+    "bad-count" Selected [Bytes(&[0x02, 0x00])];
+    "bad-sum" Selected [Damaged(Exists(First))];
+    "cut-after-start" Selected [Bytes(&[0x02])];
+    "cut-before-sum" Selected [Cut(Exists(First))];
+    "answers-before-fault" Selected [Ask(Exists(First)), Damaged(Size(First))];
+    "answers-before-cut" Selected [Ask(Exists(First)), Cut(Size(First))];
+};
 
 /// The rows of the program, those that can falsify no list first.
 pub fn rows(alloc: Global) -> Result<Vec<Row>, AllocError> {

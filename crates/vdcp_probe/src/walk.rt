@@ -8,7 +8,10 @@ use crate::follower::{Turn, add_turn, happened, may_come, state_after};
 use crate::naming::Naming;
 use crate::reading::difference;
 use crate::row::Ask::{Close, Cue, Open, Select, Status, Stop};
-use crate::row::{Awaited, Clip, Number, Row, Start, Step};
+use crate::row::Clip::First;
+use crate::row::Number::Own;
+use crate::row::Step::Ask;
+use crate::row::{Awaited, Row, Start, Step, steps};
 use std::alloc::{AllocError, Global};
 use vdcp_port::Catalogue;
 use vdcp_text::Failure;
@@ -17,58 +20,16 @@ use vdcp_wire::Wire;
 /// How often the state is asked for until it is as awaited.
 const MOST_POLLS: u32 = 250;
 
-const TO_CLOSED: [Step; 8] = [
-    Step::Ask(Open(Number::Own)),
-    Step::Send,
-    Step::Ask(Select(Number::Own)),
-    Step::Send,
-    Step::Ask(Stop),
-    Step::Send,
-    Step::Ask(Close(Number::Own)),
-    Step::Send,
-];
-
-const TO_OPEN: [Step; 10] = [
-    Step::Ask(Open(Number::Own)),
-    Step::Send,
-    Step::Ask(Select(Number::Own)),
-    Step::Send,
-    Step::Ask(Stop),
-    Step::Send,
-    Step::Ask(Close(Number::Own)),
-    Step::Send,
-    Step::Ask(Open(Number::Own)),
-    Step::Send,
-];
-
-const TO_SELECTED: [Step; 6] = [
-    Step::Ask(Open(Number::Own)),
-    Step::Send,
-    Step::Ask(Select(Number::Own)),
-    Step::Send,
-    Step::Ask(Stop),
-    Step::Send,
-];
-
-const TO_CUED: [Step; 9] = [
-    Step::Ask(Open(Number::Own)),
-    Step::Send,
-    Step::Ask(Select(Number::Own)),
-    Step::Send,
-    Step::Ask(Stop),
-    Step::Send,
-    Step::Ask(Cue(Clip::First)),
-    Step::Send,
-    Step::Await(Awaited::CueDone),
-];
-
 // The steps that bring a port there from wherever it is.
 fn steps_to(start: Start) -> &'static [Step] {
     match start {
-        Start::Closed => &TO_CLOSED,
-        Start::Open => &TO_OPEN,
-        Start::Selected => &TO_SELECTED,
-        Start::Cued => &TO_CUED,
+        Start::Closed =>
+            steps! { [Ask(Open(Own))] [Ask(Select(Own))] [Ask(Stop)] [Ask(Close(Own))] },
+        Start::Open =>
+            steps! { [Ask(Open(Own))] [Ask(Select(Own))] [Ask(Stop)] [Ask(Close(Own))] [Ask(Open(Own))] },
+        Start::Selected => steps! { [Ask(Open(Own))] [Ask(Select(Own))] [Ask(Stop)] },
+        Start::Cued =>
+            steps! { [Ask(Open(Own))] [Ask(Select(Own))] [Ask(Stop)] [Ask(Cue(First))] until CueDone },
     }
 }
 
