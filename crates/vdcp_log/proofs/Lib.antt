@@ -1,1 +1,2 @@
+-- The lemmas, file by file.
 mod Written

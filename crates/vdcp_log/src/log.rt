@@ -50,7 +50,7 @@ pub struct Log<L: io::Write> {
 }
 
 /// Which lines go to a log.
-#[derive(Clone, Copy, Debug, PartialEq, Eq)]
+#[derive(Clone, Copy)]
 enum Scope {
     All,
     /// Those of faults alone.
@@ -103,7 +103,7 @@ fn write_to<L: io::Write + Drop, T: fmt::Display>(cell: &Cell<Option<Lines<L>>>,
 }
 
 /// Which way a message goes, as a line of a log shows it at its front.
-#[derive(Clone, Copy, Debug, PartialEq, Eq)]
+#[derive(Clone, Copy)]
 pub enum Direction {
     In,
     Out,

@@ -8,10 +8,10 @@ use crate::number::{
 use crate::rate::rate_of;
 use clap::ArgMatches;
 use vdcp_auto::Mode;
+use vdcp_journal_file::AsrunSettings;
 use vdcp_lossy::{Chances, LossySettings};
 use vdcp_offline::{JudgeSettings, SimSettings};
 use vdcp_probe::{AskSettings, Only, ProbeSettings};
-use vdcp_record::AsrunSettings;
 use vdcp_serve::{Pace, ServeSettings};
 
 /// The mode that `--confirm` asks for, or plain.

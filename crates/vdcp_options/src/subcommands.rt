@@ -10,13 +10,12 @@ use crate::settings::{
 use crate::system::System;
 use clap::ArgMatches;
 use std::io::Write;
-use vdcp_files::{do_check, do_vectors};
+use vdcp_journal_file::do_asrun;
 use vdcp_log::{Lines, Screen, Telling};
 use vdcp_lossy::do_lossy;
-use vdcp_offline::{do_judge, do_sim};
+use vdcp_offline::{do_check, do_judge, do_sim, do_vectors};
 use vdcp_panel::open_panel;
 use vdcp_probe::{do_ask, do_probe, rows};
-use vdcp_record::do_asrun;
 use vdcp_serve::do_serve;
 use vdcp_text::{Failure, do_make, do_show};
 

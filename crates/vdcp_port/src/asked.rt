@@ -7,7 +7,7 @@ use vdcp_frame::Message;
 use vdcp_words::Command;
 
 /// What a message asks of a port.
-#[derive(Clone, Copy, Debug, PartialEq, Eq)]
+#[derive(Clone, Copy)]
 pub(crate) enum Asked {
     /// It is ACK or NAK, or a framed message to another unit.
     Nothing,

@@ -85,7 +85,7 @@ pub fn the_state_byte()
 {}
 
 /// A port that answers with the idle state, 01h, has nothing cued and plays nothing, so bits 1 and 7 of its state byte
-/// are off, as `vdcp_late` asks of it in confirm mode. OPEN, SELECT and STATUS change neither of its slots.
+/// are off, as a late line (`vdcp_world`) asks of it in confirm mode. OPEN, SELECT and STATUS change neither of its slots.
 pub fn an_idle_port_is_empty()
     ensures empty { (p : ClockedPort) (m : Content) (groups : ℕ) →
         answer_to p m ≡ Some (reply.State groups (Some 0x01)) →

@@ -1,1 +1,2 @@
+-- The definitions, file by file.
 pub mod Fails

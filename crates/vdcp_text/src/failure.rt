@@ -7,7 +7,7 @@ use std::alloc::AllocError;
 use std::{fmt, io};
 
 /// Why a subcommand gives up.
-#[derive(Clone, Copy, Debug, PartialEq, Eq)]
+#[derive(Clone, Copy)]
 pub enum Failure<'a> {
     /// The argument isn't an even number of hexadecimal digits.
     Hex,
@@ -196,7 +196,7 @@ impl From<AllocError> for Failure<'_> {
 }
 
 /// Why a row of a file is refused.
-#[derive(Clone, Copy, Debug, PartialEq, Eq)]
+#[derive(Clone, Copy)]
 pub enum RowFault {
     /// It has a wrong number of fields.
     Columns,
@@ -230,7 +230,7 @@ impl RowFault {
 }
 
 /// Why a line of a script or of a capture is refused.
-#[derive(Clone, Copy, Debug, PartialEq, Eq)]
+#[derive(Clone, Copy)]
 pub enum ScriptLineFault {
     /// It hasn't the words of an event, or in a capture the form of a line.
     Word,
@@ -258,7 +258,7 @@ impl ScriptLineFault {
 }
 
 /// Why a row of a journal is refused.
-#[derive(Clone, Copy, Debug, PartialEq, Eq)]
+#[derive(Clone, Copy)]
 pub enum JournalFault {
     /// There is none.
     Empty,

@@ -28,13 +28,9 @@ impl fmt::Display for TimeText {
             Some(time) => {
                 let mut text = ArrayString::<11>::new();
                 time.show(&mut text);
-                let text = text.as_str();
-                write!(f, "{text}")
+                f.write_str(text.as_str())
             }
-            None => {
-                let bytes = HexText(&self.bytes);
-                write!(f, "{bytes}")
-            }
+            None => HexText(&self.bytes).fmt(f),
         }
     }
 }
@@ -70,7 +66,7 @@ impl fmt::Display for ItemText {
         self.item.id.show(&mut id);
         let id = id.as_str();
         match self.item.part {
-            None => write!(f, "{id}"),
+            None => f.write_str(id),
             Some(part) => {
                 let bytes = part.start;
                 let start = TimeText { rate, bytes };

@@ -1,4 +1,4 @@
-// The names of files as text.
+//! The names of files as text.
 use crate::text::ByteText;
 use std::fmt;
 

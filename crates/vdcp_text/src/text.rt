@@ -37,9 +37,7 @@ impl fmt::Display for ByteText {
     ghost output = { λ b. Some (byte_text b.0) };
 
     fn fmt<W: fmt::Write>(&self, f: &mut fmt::Formatter<W>) -> fmt::Result {
-        let bytes = [self.0];
-        let digits = HexText(&bytes);
-        write!(f, "{digits}")
+        HexText(&[self.0]).fmt(f)
     }
 }
 
@@ -56,10 +54,7 @@ impl fmt::Display for DataText<'_> {
     fn fmt<W: fmt::Write>(&self, f: &mut fmt::Formatter<W>) -> fmt::Result {
         match self.0 {
             [] => f.write_str("-"),
-            bytes => {
-                let bytes = HexText(bytes);
-                write!(f, "{bytes}")
-            }
+            bytes => HexText(bytes).fmt(f),
         }
     }
 }

@@ -147,17 +147,3 @@ fn each_failure_is_told(rt: HostRuntime) {
         expect_told(&rt, rt.alloc(), *failure, line, *status);
     }
 }
-
-fn are_equal(one: &Failure, other: &Failure) -> bool {
-    one == other
-}
-
-// Failures are equal if the same line tells them.
-#[test]
-fn failures_are_equal_where_they_are_told_alike(rt: HostRuntime) {
-    for (failure, line, _) in ROWS.iter() {
-        for (other, told, _) in ROWS.iter() {
-            assert_eq!(rt; are_equal(failure, other), line == told, "{line}{told}");
-        }
-    }
-}

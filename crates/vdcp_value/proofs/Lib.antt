@@ -1,3 +1,4 @@
+-- The lemmas, file by file.
 pub mod Bytes
 pub mod Ids
 pub mod Timecodes

@@ -1,3 +1,4 @@
+-- The definitions, file by file.
 pub mod Bcd
 pub mod Bytes
 pub mod Day

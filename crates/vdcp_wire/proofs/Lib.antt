@@ -1,2 +1,3 @@
+-- The lemmas, file by file.
 pub mod Scripting
 pub mod Streaming

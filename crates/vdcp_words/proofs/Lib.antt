@@ -1,3 +1,4 @@
+-- The lemmas, file by file.
 pub mod Values
 pub mod Joining
 pub mod CommandLemmas

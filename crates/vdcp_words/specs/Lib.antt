@@ -1,3 +1,4 @@
+-- The definitions, file by file.
 pub mod Messages
 pub mod Commands
 pub mod Replies
