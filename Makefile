@@ -1,4 +1,4 @@
-# What follows 'wrong-bodies' are the names of crates.
+# What is made of the whole tree: docs/SCRIPTS.md says when. (What follows 'wrong-bodies' are the names of crates.)
 names := $(filter-out test wrong-bodies dist bench lib deb,$(MAKECMDGOALS))
 
 .PHONY: test wrong-bodies dist bench lib deb
@@ -10,7 +10,7 @@ dist:
 	@tools/dist
 bench: lib
 	@tools/measure/bench
-	@cc -O2 -Iinclude tools/measure/c_bench.c tools/measure/hand_reader.c out/libvdcp.a -o out/c_bench && out/c_bench
+	@cc -O2 -Iinclude tools/measure/c_bench.c out/libvdcp.a -o out/c_bench && out/c_bench
 lib:
 	@tools/lib
 deb:

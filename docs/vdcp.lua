@@ -30,17 +30,11 @@ local fields = {
         [0x84] = "cue done, a clip plays",
     }),
 }
-local listed = {}
-for _, field in pairs(fields) do
-    listed[#listed + 1] = field
-end
-vdcp.fields = listed
+vdcp.fields = fields
 local not_clean = ProtoExpert.new("vdcp.end", "The burst doesn't end clean", expert.group.MALFORMED, expert.severity.WARN)
 vdcp.experts = { not_clean }
 
-local function hex(range)
-    return range:bytes():tohex(true)
-end
+local function hex(range) return range:bytes():tohex(true) end
 
 -- The plain form where there is one, else the other form.
 local function id_text(range)
@@ -50,48 +44,6 @@ local function id_text(range)
         return plain
     end
     return "0x" .. hex(range)
-end
-
--- Each returns a reply's text, by its data of this length, or nothing where that is too short.
-local function read_opened(data, length, tree)
-    if length >= 1 then
-        return data(0, 1):uint() == 0 and "denied" or "granted"
-    end
-end
-
-local function read_state(data, length, tree)
-    local has_state = length >= 1 and data(0, 1):bitfield(7, 1) == 1
-    if length < (has_state and 2 or 1) then
-        return
-    end
-    tree:add(fields.bitmap, data(0, 1))
-    if not has_state then
-        return "state none"
-    end
-    tree:add(fields.state, data(1, 1))
-    return "state " .. hex(data(1, 1))
-end
-
-local function read_active(data, length, tree)
-    if length >= 1 and data(0, 1):uint() == 0 then
-        return "active none"
-    elseif length >= 9 then
-        tree:add(fields.id, data(1, 8), id_text(data(1, 8)))
-        return "active " .. id_text(data(1, 8))
-    end
-end
-
-local function read_size(data, length, tree)
-    if length >= 4 then
-        tree:add(fields.length, data(0, 4))
-        return "size " .. hex(data(0, 4))
-    end
-end
-
-local function read_present(data, length, tree)
-    if length >= 1 then
-        return data(0, 1):bitfield(7, 1) == 1 and "present" or "absent"
-    end
 end
 
 -- By type and code: what is typed for it, the bytes of its data, and the parts of these.
@@ -109,29 +61,39 @@ local commands = {
     [0x316] = { "exists", 8, { { "id", 8 } } },
 }
 
+-- Each gives a reply's text, by its data of this length, or nothing where that is too short.
 local replies = {
-    [0x381] = read_opened,
-    [0x385] = read_state,
-    [0x387] = read_active,
-    [0x394] = read_size,
-    [0x396] = read_present,
+    [0x381] = function(data, length) return length >= 1 and (data(0, 1):uint() == 0 and "denied" or "granted") end,
+    [0x385] = function(data, length, tree)
+        local has_state = length >= 1 and data(0, 1):bitfield(7, 1) == 1
+        if length < (has_state and 2 or 1) then return end
+        tree:add(fields.bitmap, data(0, 1))
+        if not has_state then return "state none" end
+        tree:add(fields.state, data(1, 1))
+        return "state " .. hex(data(1, 1))
+    end,
+    [0x387] = function(data, length, tree)
+        if length >= 1 and data(0, 1):uint() == 0 then return "active none" end
+        if length < 9 then return end
+        tree:add(fields.id, data(1, 8), id_text(data(1, 8)))
+        return "active " .. id_text(data(1, 8))
+    end,
+    [0x394] = function(data, length, tree)
+        if length < 4 then return end
+        tree:add(fields.length, data(0, 4))
+        return "size " .. hex(data(0, 4))
+    end,
+    [0x396] = function(data, length) return length >= 1 and (data(0, 1):bitfield(7, 1) == 1 and "present" or "absent") end,
 }
 
 local function read_command(command, data, length, tree)
     local text, at = command[1], 0
-    if length ~= command[2] then
-        return
-    end
+    if length ~= command[2] then return end
     for _, part in ipairs(command[3]) do
-        local name, range = part[1], data(at, part[2])
-        if name == "id" then
-            tree:add(fields.id, range, id_text(range))
-            text = text .. " " .. id_text(range)
-        else
-            tree:add(fields[name], range)
-            text = text .. " " .. hex(range)
-        end
-        at = at + part[2]
+        local range = data(at, part[2])
+        local shown = part[1] == "id" and id_text(range) or hex(range)
+        if part[1] == "id" then tree:add(fields.id, range, shown) else tree:add(fields[part[1]], range) end
+        text, at = text .. " " .. shown, at + part[2]
     end
     return text
 end
@@ -147,12 +109,8 @@ local function add_framed(message, tree)
         tree:add(fields.data, data(0, length))
         digits = hex(data(0, length))
     end
-    local word
-    if commands[kind * 256 + code] then
-        word = read_command(commands[kind * 256 + code], data, length, tree)
-    elseif replies[kind * 256 + code] then
-        word = replies[kind * 256 + code](data, length, tree)
-    end
+    local command, reply = commands[kind * 256 + code], replies[kind * 256 + code]
+    local word = command and read_command(command, data, length, tree) or reply and reply(data, length, tree)
     tree:add(fields.sum, data(length, 1))
     local line = string.format("unit %d type %d code %02x data %s", unit, kind, code, digits)
     return word and line .. " = " .. word or line, word or line

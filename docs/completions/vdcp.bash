@@ -1,4 +1,4 @@
-# What bash offers after vdcp; tools/completions makes this file from the program's help. It is read by: . vdcp.bash
+# What bash offers after vdcp. It is read by: . vdcp.bash
 
 _vdcp() {
     local words=() piece before='' word head='' subcommand='' wish='' place=0 rest='' offers='' i
@@ -54,8 +54,8 @@ _vdcp() {
     lossy:-) offers="--seed --lose --copy --cut --damage --forge --silence --within --turns --capture -h --help" ;;
     vectors:-) offers="-h --help" ;;
     make:1) offers="open close select cue cue-data play stop status active exists size" ;;
-    check:1 | check:2 | ask:2 | sim:1 | sim:2 | sim:3 | serve:2 | serve:--capture | run:2 | run:--asrun | run:--journal | run:--resume | run:--catalogue | run:--capture | asrun:2 | judge:1 | judge:2 | probe:2 | lossy:--capture | vectors:1) offers="files" ;;
-    check:--rate | ask:--rate | sim:--rate | serve:--rate | run:--rate | asrun:--rate | judge:--rate | probe:--rate) offers="24 25 30 30df" ;;
+    check:1 | check:2 | ask:2 | sim:1 | sim:2 | sim:3 | serve:2 | serve:--capture | run:2 | run:--asrun | run:--journal | run:--resume | run:--catalogue | run:--capture | asrun:1 | asrun:2 | judge:1 | judge:2 | probe:2 | lossy:--capture | vectors:1) offers="files" ;;
+    *:--rate) offers="24 25 30 30df" ;;
     probe:--only) offers="safe unsafe" ;;
     esac
     if [[ $offers == files ]]; then

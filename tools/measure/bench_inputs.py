@@ -14,29 +14,16 @@ class Dice:
     def below(self, limit):
         return int(self.throw() * limit)
 
-    def hits(self, chance):
-        return self.throw() < chance
-
     def one_of(self, choices):
         return choices[self.below(len(choices))]
-
-    def bytes(self, count):
-        return bytes(self.below(256) for _ in range(count))
-
-
-# How many events a script has for each row of the list that it plays.
-EVENTS_OF_A_ROW = 10
 
 
 def id_of(number):
     """A clip's ID as a CSV field: most plain, some with a space, or quoted, or of bytes that can't be typed."""
-    if number % 100 == 99:
-        return f"0x{0xF000000000000000 + number:016x}"
-    if number % 50 == 17:
-        return f'"C,{number}"'
-    if number % 25 == 3:
-        return f"C {number}"
-    return f"CLIP{number:04d}"
+    for divisor, rest, text in ((100, 99, "0x{:016x}"), (50, 17, '"C,{}"'), (25, 3, "C {}"), (1, 0, "CLIP{:04d}")):
+        if number % divisor == rest:
+            return text.format(number + 0xF000000000000000 * (divisor == 100))
+    return None
 
 
 def time_of(frames):
@@ -55,7 +42,7 @@ def lists(rows):
     for number in played:
         start = dice.below(lengths[number])
         duration = 1 + dice.below(lengths[number] - start)
-        parts.append(f"{time_of(start)},{time_of(duration)}" if dice.hits(0.5) else ",")
+        parts.append(f"{time_of(start)},{time_of(duration)}" if dice.throw() < 0.5 else ",")
     return {
         "catalogue.csv": [f"{id_of(number)},{time_of(lengths[number])}" for _, number in order],
         "list.csv": [id_of(number) for number in played],
@@ -65,18 +52,15 @@ def lists(rows):
 
 
 # What a command and an answer are damaged into: other messages, bursts that are cut, bytes that begin nothing.
-DAMAGED = (
-    "04", "0404", "05", "0501", "058004", "02", "0202", "02021001", "02021001ee", "04020210", "00", "9c", "0200", "03",
-)
+DAMAGED = "04 0404 05 0501 058004 02 0202 02021001 02021001ee 04020210 00 9c 0200 03".split()
 
-# What befalls an exchange in plain mode, and events between two exchanges. {} is damage.
+# What befalls an exchange in plain mode, and events between two exchanges; {} is damage. And what befalls one in confirm mode besides.
 MISHAPS = (
     "tick lose-down timeout", "tick down lose-up timeout", "tick down-copy down up", "tick down up-copy up",
     "tick down-copy down-copy lose-down timeout", "tick alter-down={} down up", "tick down-copy alter-down={} down up",
     "tick down alter-up={} up", "tick down alter-up={} up timeout", "round", "round=3", "timeout", "ready", "end",
     "take", "frame", "frame=30",
 )
-# What befalls one in confirm mode besides.
 FORGERIES = ("tick stray-ack down up", "tick stray-nak=01 lose-down timeout", "stray-nak=80")
 
 # How many events a line of this name stands for, for each 1 of its number.
@@ -84,12 +68,12 @@ EVENTS_OF = {"round": 3, "good": 6, "frame": 1}
 
 
 def script(rows, mishaps):
-    """Good rounds, a mishap after every few of them."""
-    dice, lines, left = Dice(2), [], rows * EVENTS_OF_A_ROW
+    """Good rounds, a mishap after every few of them: ten events for each row of the list that it plays."""
+    dice, lines, left = Dice(2), [], rows * 10
     while True:
         chosen = [f"good={1 + dice.below(6)}"]
-        if dice.hits(0.3):
-            damage = dice.one_of(DAMAGED) if dice.hits(0.8) else dice.bytes(1 + dice.below(20)).hex()
+        if dice.throw() < 0.3:
+            damage = dice.one_of(DAMAGED) if dice.throw() < 0.8 else bytes(dice.below(256) for _ in range(1 + dice.below(20))).hex()
             chosen = dice.one_of(mishaps).format(damage).split()
         for entry in chosen:
             name, _, number = entry.partition("=")
@@ -130,17 +114,13 @@ def framed(kind, code, data=b""):
 
 
 def journal(rows):
-    """Of a run of plain clips, to the check of the last one: ten exchanges for each event, all answered. Its events, its rows,
-    and the rows of a capture of its line."""
+    """Of a run of plain clips, to the check of the last one: ten exchanges for each event, all answered. Its events, its rows, one each ten
+    milliseconds, and the rows of a capture of its line."""
     events = [f"CLIP{number % 10000:04d}" for number in range(rows)]
     digest = sha256("".join(f"{number},{event}\n" for number, event in enumerate(events)).encode()).hexdigest()
     port, ack = b"\x01", ("ack", "04")
-    status = ("status 01", framed(3, 0x05, port))
-    waits = [(status, (f"state {state:02x}", framed(3, 0x85, bytes([1, state])))) for state in (2, 2, 2, 2, 2, 0x80)]
-    exchanges = [
-        (("open 01 01", framed(3, 0x01, b"\x01\x01")), ("granted", framed(3, 0x81, port))),
-        (("select 01", framed(2, 0x22, port)), ack),
-    ]
+    waits = [(("status 01", framed(3, 0x05, port)), (f"state {state:02x}", framed(3, 0x85, bytes([1, state])))) for state in (2, 2, 2, 2, 2, 0x80)]
+    exchanges = [(("open 01 01", framed(3, 0x01, b"\x01\x01")), ("granted", framed(3, 0x81, port))), (("select 01", framed(2, 0x22, port)), ack)]
     for event in events:
         clip = event.encode()
         exchanges += [
@@ -150,29 +130,15 @@ def journal(rows):
             (("play", framed(1, 0x01)), ack),
             (("active", framed(3, 0x07)), (f"active {event}", framed(3, 0x87, b"\x01" + clip))),
         ]
-    # (a row each ten milliseconds)
-    moments = (f"2026-11-25T{ms // 3600000:02d}:{ms // 60000 % 60:02d}:{ms // 1000 % 60:02d}.{ms % 1000:03d}Z"
-               for ms in range(0, 86400000, 10))
-    told = [("list", digest, "plain,0,1,10")]
-    captured = []
-    for sent, heard in exchanges:
-        told += [("sent", *sent), ("heard", *heard)]
-        captured += [f",down,{sent[1]}", f",up,{heard[1]}"]
-    return events, [f"{moment},{','.join(row)}" for moment, row in zip(moments, told)], captured
+    told = [("list", digest, "plain,0,1,10")] + [row for sent, heard in exchanges for row in (("sent", *sent), ("heard", *heard))]
+    moments = (f"2026-11-25T{ms // 3600000:02d}:{ms // 60000 % 60:02d}:{ms // 1000 % 60:02d}.{ms % 1000:03d}Z" for ms in range(0, 86400000, 10))
+    return events, [f"{moment},{','.join(row)}" for moment, row in zip(moments, told)], [row for sent, heard in exchanges for row in (f",down,{sent[1]}", f",up,{heard[1]}")]
 
 
 def write_inputs(folder, rows):
     """Writes them all into a folder, each line with its end."""
-    events, entries, captured = journal(rows)
-    files = {
-        **lists(rows),
-        "whole.csv": events,
-        "journal.csv": entries,
-        "capture.csv": captured,
-        "script.txt": script(rows, MISHAPS),
-        "confirm.txt": script(rows, MISHAPS + FORGERIES),
-        "bursts.csv": vectors(rows),
-    }
+    files = {**lists(rows), "script.txt": script(rows, MISHAPS), "confirm.txt": script(rows, MISHAPS + FORGERIES), "bursts.csv": vectors(rows)}
+    files["whole.csv"], files["journal.csv"], files["capture.csv"] = journal(rows)
     folder.mkdir()
     for name, lines in files.items():
         (folder / name).write_bytes("".join(f"{line}\n" for line in lines).encode())

@@ -1,11 +1,9 @@
 /* What the library for C costs: the reader beside one by hand, in ns a byte, and an exchange of the port and of the controller in ns. Each is
  * the least of ROUNDS runs: c_bench [ROUNDS [ROW]], for a count of instructions by a tool. The answers of both readers are compared; the status is 1 if they differ. */
 #define _POSIX_C_SOURCE 200809L
-#include "hand_reader.h"
-#include "vdcp.h"
+#include "hand_reader.c"
 #include <stdio.h>
 #include <stdlib.h>
-#include <string.h>
 #include <time.h>
 
 static double now(void) {

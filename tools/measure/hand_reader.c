@@ -1,8 +1,14 @@
-/* hand_reader.h says what it is. */
-#include "hand_reader.h"
+/* A reader as one would write it by hand, with the calls and answers of vdcp_reader. c_bench.c includes it. */
+#include "vdcp.h"
 #include <string.h>
 
-int32_t hand_feed(hand_reader *r, const uint8_t *p, size_t n, size_t *took, vdcp_message *m) {
+typedef struct {
+    uint32_t taken, held;
+    int failed;
+    uint8_t bytes[258];
+} hand_reader;
+
+__attribute__((noinline)) static int32_t hand_feed(hand_reader *r, const uint8_t *p, size_t n, size_t *took, vdcp_message *m) {
     size_t i = 0;
     if (!r || (!p && n) || !took || !m) return VDCP_NULL;
     if (r->failed) return *took = n, VDCP_MORE;
@@ -38,7 +44,7 @@ int32_t hand_feed(hand_reader *r, const uint8_t *p, size_t n, size_t *took, vdcp
     return *took = n, VDCP_MORE;
 }
 
-int32_t hand_silence(hand_reader *r) {
+__attribute__((noinline)) static int32_t hand_silence(hand_reader *r) {
     if (!r) return VDCP_NULL;
     int32_t ended = r->failed ? VDCP_AFTER_FAULT : r->held ? VDCP_CUT : VDCP_CLEAN;
     r->taken = r->held = 0, r->failed = 0;

@@ -80,7 +80,7 @@ static void any(void *to, size_t size) {
 static uint8_t old[2048];
 #define TRY(it, call) (HOLDS(sizeof(it) <= sizeof old), memcpy(old, &(it), sizeof(it)), code = (call), HOLDS(code < 100 || !memcmp(&(it), old, sizeof(it))))
 
-/* One call of each kind, with any structs. */
+/* One call of each kind, with any structs. What is read again is what was written. */
 static void call(void) {
     static vdcp_reader reader;
     static vdcp_message message, read;
@@ -94,32 +94,26 @@ static void call(void) {
     static vdcp_clip clips[CLIPS];
     static uint8_t out[1024], piece[300];
     uint8_t kind = 0, byte = 0, room = 0, flag = 0, other = 0;
-    size_t written = 0, taken = 0, length = 0;
+    size_t written = 0, taken = 0, length = 0, events, count;
     int32_t code = 0;
     any(&kind, 1), any(&byte, 1), any(&room, 1);
-    length = room % sizeof piece;
-    switch (kind % 13) {
+    length = room % sizeof piece, events = byte % (EVENTS + 1), count = byte % (CLIPS + 1);
+    switch (kind % 12) {
     case 0:
         any(&reader, 7u + byte), any(piece, sizeof piece);
         TRY(reader, vdcp_reader_feed(&reader, piece, length, &taken, &message));
-        HOLDS(taken <= length && (code < 100 || taken == 0) && (code != VDCP_MESSAGE || (taken && message.count <= 253)));
         if (code < 100) HOLDS(vdcp_reader_silence(&reader) < 100 && !reader.taken && !reader.held);
         break;
     case 1:
-        any(&message, sizeof message);
-        code = vdcp_message_bytes(&message, out, length, &written);
-        HOLDS(code < 100 ? written && written <= length : !written);
-        if (!code) {
-            memset(&reader, 0, sizeof reader);
-            HOLDS(vdcp_reader_feed(&reader, out, written, &taken, &read) == VDCP_MESSAGE && taken == written);
-            HOLDS(read.kind == message.kind && (message.kind != VDCP_FRAMED || !memcmp(read.data, message.data, message.count)));
-        }
+        any(&message, sizeof message), memset(&reader, 0, sizeof reader);
+        if (vdcp_message_bytes(&message, out, length, &written)) break;
+        HOLDS(vdcp_reader_feed(&reader, out, written, &taken, &read) == VDCP_MESSAGE && taken == written && read.kind == message.kind);
+        HOLDS(message.kind != VDCP_FRAMED || !memcmp(read.data, message.data, message.count));
         break;
     case 2:
-        any(&command, sizeof command);
-        code = vdcp_command_bytes(&command, byte % 20, out, length, &written);
-        HOLDS(code < 100 ? written && written <= 21 : !written);
-        if (!vdcp_command_text(&command, out, 64, &written)) HOLDS(written && written <= 64);
+        any(&command, sizeof command), any(&reply, sizeof reply);
+        code = vdcp_command_bytes(&command, byte % 20, out, length, &written) | vdcp_command_text(&command, out, 64, &written);
+        code = vdcp_reply_bytes(&reply, byte % 20, out, length, &written) | vdcp_reply_text(&reply, out, 64, &written);
         break;
     case 3:
         any(&message, sizeof message);
@@ -127,45 +121,34 @@ static void call(void) {
         TRY(reply, vdcp_reply_of_message(&message, &reply));
         break;
     case 4:
-        any(&reply, sizeof reply);
-        code = vdcp_reply_bytes(&reply, byte % 20, out, length, &written);
-        HOLDS(code < 100 ? written && written <= 21 : !written);
-        if (!vdcp_reply_text(&reply, out, 64, &written)) HOLDS(written && written <= 64);
+        any(&port, sizeof port), any(clips, sizeof clips), any(&message, sizeof message);
+        TRY(port, vdcp_server_answer(&port, clips, count, &message, out, length, &written, &aired));
         break;
     case 5:
-        any(&port, sizeof port), any(clips, sizeof clips), any(&message, sizeof message);
-        TRY(port, vdcp_server_answer(&port, clips, byte % (CLIPS + 1), &message, out, length, &written, &aired));
-        HOLDS(code < 100 ? written <= 21 : !written);
+        any(&port, sizeof port), any(clips, sizeof clips), any(piece, sizeof piece);
+        TRY(port, vdcp_server_answer_burst(&port, clips, count, piece, length, out, sizeof out, &written, &aired));
         break;
     case 6:
-        any(&port, sizeof port), any(clips, sizeof clips), any(piece, sizeof piece);
-        TRY(port, vdcp_server_answer_burst(&port, clips, byte % (CLIPS + 1), piece, length, out, sizeof out, &written, &aired));
-        HOLDS(code < 100 ? written <= 3 * length + 2 : !written);
+        any(&port, sizeof port), any(clips, sizeof clips);
+        TRY(port, vdcp_server_frame(&port, clips, count, &flag, &other));
+        HOLDS(vdcp_server_state(&port, clips, count, &flag) == (code ? VDCP_BAD_STATE : VDCP_OK));
+        code = vdcp_silence_answer(byte, out, length, &written);
         break;
     case 7:
-        any(&port, sizeof port), any(clips, sizeof clips);
-        TRY(port, vdcp_server_frame(&port, clips, byte % (CLIPS + 1), &flag, &other));
-        HOLDS(vdcp_server_state(&port, clips, byte % (CLIPS + 1), &flag) == (code ? VDCP_BAD_STATE : VDCP_OK));
-        code = vdcp_silence_answer(byte, out, length, &written);
-        HOLDS(code ? !written : written <= 2);
+        any(&controller, sizeof controller), any(list, sizeof list);
+        TRY(controller, vdcp_controller_tick(&controller, list, events, &command));
         break;
     case 8:
-        any(&controller, sizeof controller), any(list, sizeof list);
-        TRY(controller, vdcp_controller_tick(&controller, list, byte % (EVENTS + 1), &command));
-        if (code == VDCP_GIVEN) HOLDS(controller.standing == VDCP_AWAITING);
+        any(&controller, sizeof controller), any(list, sizeof list), any(&message, sizeof message);
+        TRY(controller, vdcp_controller_hear(&controller, list, events, &message, room));
+        code = vdcp_controller_timeout(&controller, list, events);
         break;
     case 9:
-        any(&controller, sizeof controller), any(list, sizeof list), any(&message, sizeof message);
-        TRY(controller, vdcp_controller_hear(&controller, list, byte % (EVENTS + 1), &message, room));
-        code = vdcp_controller_timeout(&controller, list, byte % (EVENTS + 1));
-        if (code < 100) HOLDS(controller.settled <= EVENTS && controller.standing != VDCP_AWAITING);
+        any(&controller, sizeof controller), any(list, sizeof list);
+        TRY(controller, vdcp_controller_take(&controller, list, events));
+        HOLDS(vdcp_controller_stop(&controller, list, events) == code);
         break;
     case 10:
-        any(&controller, sizeof controller), any(list, sizeof list);
-        TRY(controller, vdcp_controller_take(&controller, list, byte % (EVENTS + 1)));
-        HOLDS(vdcp_controller_stop(&controller, list, byte % (EVENTS + 1)) == code);
-        break;
-    case 11:
         any(&command, sizeof command), any(&flag, 1);
         command.word = byte % 11 + 1;
         HOLDS(!vdcp_command_text(&command, piece, 64, &length));
@@ -177,9 +160,8 @@ static void call(void) {
         break;
     default:
         any(&judging, sizeof judging), any(list, sizeof list), any(&command, sizeof command), any(&message, sizeof message);
-        if (!vdcp_judging_allows(&judging, list, byte % (EVENTS + 1), &command, &flag)) HOLDS(flag <= 1);
-        TRY(judging, room & 1 ? vdcp_judging_add(&judging, list, byte % (EVENTS + 1), &command, &message, room / 2)
-                              : vdcp_judging_add_silence(&judging, list, byte % (EVENTS + 1), &command));
+        code = vdcp_judging_allows(&judging, list, events, &command, &flag);
+        TRY(judging, room & 1 ? vdcp_judging_add(&judging, list, events, &command, &message, room / 2) : vdcp_judging_add_silence(&judging, list, events, &command));
     }
 }
 

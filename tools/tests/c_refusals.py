@@ -1,13 +1,11 @@
 #!/usr/bin/env python3
-"""Each call of the library for C given NULL for each of its pointers, and each that writes into a room given a byte too little: the code is its
-own, and nothing has changed."""
+"""Each call of the library for C given NULL for each of its pointers: the code is its own, and nothing has changed."""
 
 import ctypes
 
 import vdcp
 
-NULL, SHORT_ROOM = 106, 104
-SIZE, BYTE = ctypes.c_size_t, ctypes.c_uint8
+NULL, SIZE = 106, ctypes.c_size_t
 
 
 def is_pointer(it):
@@ -31,23 +29,5 @@ def refuses_null(name):
             assert call(*values) != NULL, (name, k)
 
 
-def refuses_room(name, least, *arguments, last=()):
-    call = getattr(vdcp._vdcp, f"vdcp_{name}")
-    for room in range(least + 1):
-        out, written = (BYTE * 64)(), SIZE(7)
-        assert call(*arguments, out, room, written, *last) == (SHORT_ROOM if room < least else 0), (name, room)
-        assert room == least or not any(out) and not written.value, (name, room)
-
-
 for _name in vdcp._CALLS:
     refuses_null(_name)
-_port, _aired = vdcp.Port({"CLIP0001": "00:00:10:00"}), vdcp._Airing()
-_lent = [_port._server, *_port._lent()]
-refuses_room("message_bytes", 1, vdcp.Message(1))
-refuses_room("command_bytes", 5, vdcp.Command(vdcp.PLAY), 0)
-refuses_room("command_text", 4, vdcp.Command(vdcp.PLAY))
-refuses_room("reply_bytes", 1, vdcp.Reply(1), 0)
-refuses_room("reply_text", 3, vdcp.Reply(1))
-refuses_room("server_answer", 21, *_lent, vdcp.Message(1), last=[_aired])
-refuses_room("server_answer_burst", 2, *_lent, b"\x09", 1, last=[_aired])
-refuses_room("silence_answer", 2, vdcp.Ended.CUT)

@@ -5,140 +5,107 @@ ADDR', serves one connection at that, and ends; what goes to air is told on stan
 
 import argparse
 import csv
-import re
 import socket
 import sys
 
 sys.dont_write_bytecode = True
-from table_server import ACK, NO_COMMAND, Port, frames_of, id_of, serve, time_code
+from table_server import ACK, COMMANDS, Port, frames_of, id_of, serve, time_code
 
-class AirsUncued(Port):
-    """PLAY airs something also where no cue is done: what is being cued, else the first clip."""
-    def play(self, data):
-        self.cued = self.cued or next((clip, frames_of(length)) for clip, length in self.lengths.items())
-        self.frames_to_cue = 0
-        return super().play(data)
+KINDS = {"right": Port}
 
+
+def wrong(name, **methods):
+    """One that has these methods, or these attributes, in place of those of Port."""
+    KINDS[name] = type(name, (Port,), methods)
+
+
+def without(port, slot, answer):
+    """What was answered, with the port's slot emptied, or as it was."""
+    setattr(port, *slot)
+    return answer
+
+
+# PLAY airs something also where no cue is done: what is being cued, else the first clip.
+def play_anything(self, data):
+    self.cued = self.cued or next((clip, frames_of(length)) for clip, length in self.lengths.items())
+    self.frames_to_cue = 0
+    return Port.play(self, data)
+
+
+wrong("airs-uncued", play=play_anything)
+
+
+# PLAY with nothing cued airs once more what was aired last, until a STOP.
 class AirsTwice(Port):
-    """PLAY with nothing cued airs once more what was aired last, until a STOP."""
     last = None
+
     def air(self, item):
         self.last = item
         super().air(item)
+
     def play(self, data):
         self.cued = self.cued or self.last
         return super().play(data)
+
     def stop(self, data):
         self.last = None
         return super().stop(data)
 
-class KeepsFirstCue(Port):
-    """A cue doesn't replace one that is there, and is answered all the same."""
-    def take_cue(self, item):
-        return ACK if self.cued else super().take_cue(item)
 
-class CueCutsClip(Port):
-    """A cue ends what plays."""
-    def take_cue(self, item):
-        self.playing = None
-        return super().take_cue(item)
+KINDS["airs-twice"] = AirsTwice
 
+
+# The state byte is that of before the last message.
 class StateLags(Port):
-    """The state byte is that of before the last message."""
     shown = 0x01
+
     def answer(self, message):
         before, answer = super().state(), super().answer(message)
         self.shown = before
         return answer
+
     def state(self):
         return self.shown
 
-class StatusDropsCue(Port):
-    """Once a STATUS is answered, nothing is cued."""
-    def status(self, data):
-        answer, self.cued = super().status(data), None
-        return answer
 
-class SaysDoneEarly(Port):
-    """What is being cued is shown as done."""
-    def state(self):
-        return super().state() & ~0x02 | (0x80 if self.cued else 0)
+KINDS["state-lags"] = StateLags
 
-class StopKeepsCue(Port):
-    """STOP leaves what is cued."""
-    def stop(self, data):
-        self.playing = None
-        return ACK
 
-class StopKeepsClip(Port):
-    """STOP leaves what plays."""
-    def stop(self, data):
-        self.cued = None
-        return ACK
-
-class CloseKeepsCue(Port):
-    """CLOSE leaves what is cued."""
-    def close(self, data):
-        cued = self.cued
-        answer, self.cued = super().close(data), cued
-        return answer
-
-class NeverRefuses(Port):
-    """ACK comes where NAK 01h is due."""
-    def refuse(self):
-        return ACK
-
-class AnyUnit(Port):
-    """Messages to other units count."""
-    def is_own(self, unit):
-        return True
-
-class AnySum(Port):
-    """Messages with a wrong checksum count."""
-    def is_sum_right(self, summed):
-        return True
-
-class NoSum(Port):
-    """A message that ends before its checksum counts."""
-    def answer_end(self, has_fault, rest):
-        is_whole = not has_fault and len(rest) > 3 and len(rest) == rest[1] + 2
-        return self.answer(rest + b"\0") if is_whole else super().answer_end(has_fault, rest)
-
-class SkipsJunk(Port):
-    """Bytes FFh before a message are passed over."""
-    def readable(self, rest):
-        return rest.lstrip(b"\xff")
-
-class UnknownPlays(Port):
-    """A framed message that is no command counts as PLAY, where it has no data."""
-    def command(self, kind, code):
-        known = super().command(kind, code)
-        return ("play", 0) if known == NO_COMMAND else known
-
-class Mute(Port):
-    """Nothing is answered."""
-    def answer(self, message):
-        return b""
-    def answer_end(self, has_fault, rest):
-        return b""
-
-class Babbles(Port):
-    """Junk comes at each silence, which the other end so never hears."""
-    def answer_end(self, has_fault, rest):
-        return b"\xff" * 64
-
+# Instead of the twelfth answer the connection is closed.
 class HangsUp(Port):
-    """Instead of the twelfth answer the connection is closed."""
     answers_left = 12
+
     def answer(self, message):
         self.answers_left -= 1
         if not self.answers_left:
             raise EOFError
         return super().answer(message)
 
-# By the words for them: airs-uncued, ..
-KINDS = {re.sub("(?<=.)(?=[A-Z])", "-", kind.__name__).lower(): kind for kind in Port.__subclasses__()}
-KINDS["right"] = Port
+
+KINDS["hangs-up"] = HangsUp
+# A cue doesn't replace one that is there, and is answered all the same; or it ends what plays.
+wrong("keeps-first-cue", take_cue=lambda self, item: ACK if self.cued else Port.take_cue(self, item))
+wrong("cue-cuts-clip", take_cue=lambda self, item: without(self, ("playing", None), Port.take_cue(self, item)))
+# Once a STATUS is answered, nothing is cued; what is being cued is shown as done.
+wrong("status-drops-cue", status=lambda self, data: without(self, ("cued", None), Port.status(self, data)))
+wrong("says-done-early", state=lambda self: Port.state(self) & ~0x02 | (0x80 if self.cued else 0))
+# STOP leaves what is cued, or what plays, and CLOSE what is cued.
+wrong("stop-keeps-cue", stop=lambda self, data: without(self, ("playing", None), ACK))
+wrong("stop-keeps-clip", stop=lambda self, data: without(self, ("cued", None), ACK))
+wrong("close-keeps-cue", close=lambda self, data: without(self, ("cued", self.cued), Port.close(self, data)))
+# ACK comes where NAK 01h is due. Messages to other units count, and messages with a wrong checksum.
+wrong("never-refuses", refuse=lambda self: ACK)
+wrong("any-unit", is_own=lambda self, unit: True)
+wrong("any-sum", is_sum_right=lambda self, summed: True)
+# A message that ends before its checksum counts.
+wrong("no-sum", answer_end=lambda self, has_fault, rest: self.answer(rest + b"\0") if not has_fault and len(rest) > 3 and len(rest) == rest[1] + 2 else Port.answer_end(self, has_fault, rest))
+# Bytes FFh before a message are passed over. A framed message that is no command counts as PLAY, where it has no data.
+wrong("skips-junk", readable=lambda self, rest: rest.lstrip(b"\xff"))
+wrong("unknown-plays", command=lambda self, kind, code: COMMANDS.get((kind, code), ("play", 0)))
+# Nothing is answered; or junk comes at each silence, which the other end so never hears.
+wrong("mute", answer=lambda self, message: b"", answer_end=lambda self, has_fault, rest: b"")
+wrong("babbles", answer_end=lambda self, has_fault, rest: b"\xff" * 64)
+
 
 def main():
     words = argparse.ArgumentParser(description="A server that keeps the profile, or breaks one thing of it.")

@@ -1,0 +1,147 @@
+#!/usr/bin/env python3
+"""page.py port URL SERVER RUN..: opens the page of a port in headless Chromium, plays a list of two clips by the command RUN, and ends the
+process SERVER. page.py run URL: opens the page of a run, takes by a click and by a key, and stops by a key that is asked twice. It fails
+if the page doesn't show each of these, or can't be read. With a last word --picture=FILE it draws the page."""
+import os
+import re
+import signal
+import subprocess
+import sys
+import time
+
+from selenium import webdriver
+from selenium.webdriver.common.by import By
+from selenium.webdriver.common.keys import Keys
+
+WHOSE, URL, *WORDS = [word for word in sys.argv[1:] if not word.startswith("--picture=")]
+PICTURES = [word.split("=", 1)[1] for word in sys.argv[3:] if word.startswith("--picture=")]
+
+
+def browser():
+    options = webdriver.ChromeOptions()
+    for word in ("--headless=new", "--no-sandbox", "--disable-gpu", "--disable-dev-shm-usage", "--window-size=1200,800"):
+        options.add_argument(word)
+    return webdriver.Chrome(options=options)
+
+
+def text(page, name):
+    return page.find_element(By.ID, name).text
+
+
+def types(page, key):
+    page.find_element(By.TAG_NAME, "body").send_keys(key)
+
+
+def awaits(page, what, seconds=15, **wanted):
+    """Waits until each part of this name has this text, or one of which this is true."""
+    end = time.monotonic() + seconds
+    while not all(it(text(page, name.replace("_", "-"))) if callable(it) else text(page, name.replace("_", "-")) == it for name, it in wanted.items()):
+        if time.monotonic() > end:
+            sys.exit(f"the page doesn't show {what}: {page.find_element(By.TAG_NAME, 'body').text!r}")
+        time.sleep(0.05)
+
+
+def must(holds, fault):
+    if not holds:
+        sys.exit(fault)
+
+
+CONTRAST = """
+const lit = c => { const [r, g, b] = c.match(/[\\d.]+/g).map(Number).map(x => x / 255).map(x => x <= .03928 ? x / 12.92 : ((x + .055) / 1.055) ** 2.4); return .2126 * r + .7152 * g + .0722 * b; };
+const ground = e => { for (; e; e = e.parentElement) { const c = getComputedStyle(e).backgroundColor; if (!/, 0\\)$/.test(c)) return c; } return 'rgb(255, 255, 255)'; };
+let worst = [99, ''];
+for (const e of document.querySelectorAll('body *')) {
+  if (!e.innerText || e.tagName === 'SCRIPT' || [...e.childNodes].every(n => n.nodeType !== 3 || !n.data.trim())) continue;
+  const [a, b] = [lit(getComputedStyle(e).color), lit(ground(e))].sort((x, y) => y - x);
+  const ratio = (a + .05) / (b + .05);
+  if (ratio < worst[0]) worst = [ratio, e.outerHTML];
+}
+return worst;
+"""
+
+NAMELESS = """
+return [...document.querySelectorAll('section, [role=region], [tabindex]')].filter(e => {
+  const by = e.getAttribute('aria-labelledby'); return !(e.getAttribute('aria-label') || by && document.getElementById(by).innerText);
+}).map(e => e.outerHTML).concat(document.documentElement.lang ? [] : ['no language'], document.title ? [] : ['no title']);
+"""
+
+
+def can_be_read(page):
+    """In dark and in light, by its names, by the keyboard, and on a telephone."""
+    for mode in ("dark", "light"):
+        page.execute_cdp_cmd("Emulation.setEmulatedMedia", {"features": [{"name": "prefers-color-scheme", "value": mode}]})
+        ratio, where = page.execute_script(CONTRAST)
+        must(ratio >= 4.5, f"{mode}: a contrast of {ratio:.1f}: {where}")
+    nameless = page.execute_script(NAMELESS)
+    must(not nameless, f"no name: {nameless}")
+    types(page, Keys.TAB)
+    must(page.switch_to.active_element.get_attribute("id") == "scroll", "the list can't be reached by the keyboard")
+    page.execute_cdp_cmd("Emulation.setDeviceMetricsOverride", {"width": 360, "height": 740, "deviceScaleFactor": 2, "mobile": True})
+    must(not page.execute_script("return document.documentElement.scrollWidth > 360"), "it is wider than a telephone")
+    page.execute_cdp_cmd("Emulation.clearDeviceMetricsOverride", {})
+
+
+def port(page):
+    server, run = int(WORDS[0]), WORDS[1:]
+    page.get(URL)
+    awaits(page, "that nobody is connected", health="nobody is connected", access="closed")
+    playing = subprocess.Popen(run, stdout=subprocess.DEVNULL)
+    awaits(page, "the first clip", playing_item="CLIP0002", state=lambda it: it.endswith("playing, cue done"))
+    awaits(page, "the next cue", cued_item="CLIP0001", cued_left="ready")
+    awaits(page, "who drives it", **{"from": lambda it: it.startswith("127.0.0.1:")}, health="connected")
+    awaits(page, "the second clip", playing_item="CLIP0001", cued_item="nothing")
+    for picture in PICTURES:
+        page.save_screenshot(picture)
+    before = text(page, "playing-left")
+    awaits(page, "that frames pass", playing_left=lambda it: it != before)
+    rows = [row.text.split()[:2] for row in page.find_elements(By.CSS_SELECTOR, "#rows tr")]
+    must(rows == [["1", "CLIP0001"], ["0", "CLIP0002"]], f"what aired: {rows}")
+    page.refresh()
+    awaits(page, "the same when it is opened again", playing_item="CLIP0001")
+    page.switch_to.new_window()
+    page.get(URL)
+    awaits(page, "the same in another window", playing_item="CLIP0001")
+    can_be_read(page)
+    playing.kill()
+    playing.wait()
+    awaits(page, "that nobody is connected any more", health="nobody is connected")
+    os.kill(server, signal.SIGTERM)
+    awaits(page, "that the server is gone", health=lambda it: it.startswith("the server has ended"), playing_item="CLIP0001")
+    asked = page.execute_script("return performance.getEntriesByType('resource').map(e => e.name)")
+    must(all(name.startswith(URL) for name in asked), f"it asked elsewhere: {asked}")
+
+
+def lasts_30(said):
+    """What the page says of the time on air, and of the time that is left, is as long as this in all."""
+    times = re.fullmatch(r"for 00:00:(\d\d), 00:00:(\d\d) left", said)
+    return times is not None and int(times[1]) + int(times[2]) in (30, 31)
+
+
+def run(page):
+    page.get(URL.split("#", maxsplit=1)[0])
+    awaits(page, "that it has no token", told=lambda it: "To make calls" in it)
+    must(not page.find_element(By.ID, "take").is_enabled(), "a page without a token makes calls")
+    page.get("about:blank")
+    page.get(URL)
+    awaits(page, "the first two", air_item="CLIP0001", next_item="CLIP0002", next_time="cued", air_time=lasts_30)
+    for picture in PICTURES:
+        page.save_screenshot(picture)
+    page.find_element(By.ID, "take").click()
+    awaits(page, "the second one", air_item="CLIP0002", next_item="CLIP0001")
+    awaits(page, "the call", told="take: made")
+    awaits(page, "that the next one is cued", next_time=lambda it: it == "cued" or text(page, "air-item") == "CLIP0001")
+    types(page, "t")
+    awaits(page, "the last one", air_item="CLIP0001", next_item="nothing")
+    types(page, "s")
+    awaits(page, "that it asks again", stop="Stop: once more")
+    must(text(page, "outcome") == "open", "one key stops the run")
+    types(page, "s")
+    awaits(page, "how it ended", health=lambda it: "the run has ended: stopped" in it)
+    must(not page.find_element(By.ID, "take").is_enabled(), "calls can be made once it has ended")
+
+
+opened = browser()
+try:
+    {"port": port, "run": run}[WHOSE](opened)
+finally:
+    opened.quit()

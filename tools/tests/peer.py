@@ -1,0 +1,147 @@
+#!/usr/bin/env python3
+"""What stands in place of a server or of a run, or between both: peer.py WHAT WORD.. What listens prints 'listening ADDR' first; bytes are
+in hexadecimal digits."""
+import contextlib
+import random
+import select
+import socket
+import struct
+import sys
+import time
+
+
+def listening(most=8):
+    door = socket.create_server(("127.0.0.1", 0), backlog=most)
+    print("listening %s:%d" % door.getsockname(), flush=True)
+    return door
+
+
+def connected(address):
+    line = socket.create_connection(address.split(":"))
+    line.setsockopt(socket.IPPROTO_TCP, socket.TCP_NODELAY, 1)
+    return line
+
+
+def server(how, *answers):
+    """A run's commands get these answers, one after another, ANSWER~MS so many milliseconds late; after the last one it closes, or resets at
+    the next command, or babbles from that on, or drips a byte each ten milliseconds, or is mute. It prints each command that it reads."""
+    line, _ = listening().accept()
+    for answer in answers:
+        if not (command := line.recv(512)):
+            return
+        print(command.hex(), flush=True)
+        digits, _, late = answer.partition("~")
+        time.sleep(int(late or 0) / 1000)
+        line.sendall(bytes.fromhex(digits))
+    if how == "closes":
+        return
+    line.recv(512, socket.MSG_PEEK)
+    if how == "resets":
+        return
+    while how in ("babbles", "drips"):
+        line.sendall(b"\x03" * 512 if how == "babbles" else b"\x55")
+        time.sleep(0.01 * (how == "drips"))
+    while command := line.recv(512):
+        print(command.hex(), flush=True)
+
+
+def client(address, *words):
+    """Connects and sends these bytes, BYTES*N so many times; at ~MS it waits so many milliseconds, at . it closes its side, and at ! it resets
+    the line. It prints what is answered until the server closes."""
+    line, answers = connected(address), b""
+    for word in words:
+        if word == "!":
+            line.setsockopt(socket.SOL_SOCKET, socket.SO_LINGER, struct.pack("ii", 1, 0))
+            return
+        if word == ".":
+            line.shutdown(socket.SHUT_WR)
+        elif word[:1] == "~":
+            time.sleep(int(word[1:]) / 1000)
+        else:
+            digits, _, times = word.partition("*")
+            line.sendall(bytes.fromhex(digits) * int(times or 1))
+    with contextlib.suppress(ConnectionResetError):
+        while piece := line.recv(4096):
+            answers += piece
+    print(answers.hex())
+
+
+class Between:
+    """Carries commands to the server, and its answers to a run, after which the next one may come. plain: as they are; cued: but first it cues
+    CLIP0001; split: each byte comes alone, and late by N milliseconds at one place after the other; twice: each answer comes twice; late: each
+    comes once the Nth command after it does; ahead: an ACK comes before each; trickle: a byte of junk comes every N milliseconds too; mute:
+    such bytes come, and no answer; junk: bytes without end, and no answer; torn: by dice of the seed N three of ten are lost, and the others come
+    in order, but late by 36 to 78 milliseconds, and most torn in two by a pause of 8 to 64."""
+
+    def __init__(self, address, how, much="0"):
+        self.address, self.how, self.much, self.count, self.held = address, how, int(much), 0, []
+        self.wait = {"junk": 0.001, "trickle": self.much / 1000, "mute": self.much / 1000}.get(how)
+        self.dice = random.Random(self.much)
+        line = self.cued() if how == "cued" else None
+        door = listening()
+        while True:
+            run, _ = door.accept()
+            run.setsockopt(socket.IPPROTO_TCP, socket.TCP_NODELAY, 1)
+            with run, line or connected(address) as line, contextlib.suppress(OSError):
+                self.carry(run, line)
+            if how != "plain":
+                return
+            line = None
+
+    def cued(self):
+        line = connected(self.address)
+        for command in ("020430010101cd", "0203202201bd", "020a2024434c495030303031d3"):
+            line.sendall(bytes.fromhex(command))
+            line.recv(512)
+        return line
+
+    def carry(self, run, line):
+        # (what comes later, each with its time)
+        later = [(time.monotonic() + self.wait, b"\x55" * (64 if self.how == "junk" else 1))] if self.wait else []
+        while True:
+            ready, _, _ = select.select([run, line], [], [], max(0, later[0][0] - time.monotonic()) if later else None)
+            while later and later[0][0] <= time.monotonic():
+                _, piece = later.pop(0)
+                run.sendall(piece)
+                if self.wait:
+                    later.append((time.monotonic() + self.wait, piece))
+            for end in ready:
+                if not (piece := end.recv(4096)):
+                    return
+                if end is line:
+                    self.answer(run, piece, later)
+                    continue
+                if self.how == "late" and len(self.held) >= self.much:
+                    run.sendall(self.held.pop(0))
+                line.sendall(piece)
+
+    def answer(self, run, answer, later):
+        if self.how == "late":
+            self.held.append(answer)
+        elif self.how == "split":
+            for at, byte in enumerate(answer):
+                time.sleep(self.much / 1000 if at == self.count % len(answer) else 0.001)
+                run.sendall(bytes([byte]))
+            self.count += 1
+        elif self.how == "torn":
+            if self.dice.random() >= 0.3:
+                due = max(time.monotonic() + self.dice.uniform(0.036, 0.078), later[-1][0] if later else 0)
+                at = self.dice.randrange(1, len(answer)) if len(answer) > 1 and self.dice.random() < 0.8 else len(answer)
+                later += [(due, answer[:at]), (due + self.dice.uniform(0.008, 0.064), answer[at:])][: 1 + (at < len(answer))]
+        elif self.how not in ("mute", "junk"):
+            run.sendall({"twice": answer + answer, "ahead": b"\x04" + answer}.get(self.how, answer))
+
+
+def full():
+    """Listens, and its queue is full, so that the system waits for long with a connection to it."""
+    held, door = [], listening(0)
+    for _ in range(8):
+        held.append(socket.socket())
+        held[-1].setblocking(False)
+        held[-1].connect_ex(door.getsockname())
+    time.sleep(60)
+
+
+if __name__ == "__main__":
+    with contextlib.suppress(OSError):
+        {"server": server, "client": client, "between": Between, "full": full}[sys.argv[1]](*sys.argv[2:])
