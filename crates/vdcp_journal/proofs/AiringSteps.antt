@@ -1,72 +1,78 @@
 -- The rows of a journal, one after another: which events they show to be aired, and when.
-use Rattle.std.proofs.Common.{◌≡◌, ℕ, ◌+◌, ◌<◌, ◌≤◌, zero, suc, arith, length, Bool, true, false, not, ◌||◌, ◌&&◌, Option, None, Some, List, [], ◌∷◌, ◌++◌, ◌⊎◌, inl, inr, map, refl, sym, ap, ap₂, subst, ◌∙◌, append_assoc}
-use Rattle.std.proofs.lemmas.List.{append-nil, length-append, length-map, map-append}
+use Rattle.std.proofs.Common.{◌≡◌, ◌≢◌, ℕ, ◌+◌, ◌<◌, ◌≤◌, arith, length, Bool, true, false, not, ◌||◌, ◌&&◌, Option, None, Some, List, [], ◌∷◌, ◌++◌, ◌⊎◌, inl, inr, refl, sym, ap, ap₂, subst, ◌∙◌, append_assoc}
+use Rattle.std.proofs.lemmas.Bool.{cases_lt, or_from, or_parts}
+use Rattle.std.proofs.lemmas.List.{append-nil, length-append, length-set}
 use Rattle.std.proofs.lemmas.List.Folds.{list_any-append}
+use Rattle.std.proofs.lemmas.Grind.{common_steps}
+use Rattle.std.proofs.lemmas.Option.{gets}
 use Rattle.std.specs.List.{list_any}
 use Rattle.std.specs.Option.{option_or}
-use Rattle.std.specs.Prelude.{if◌then◌else◌, slice_get}
-use Rattle.vdcp_auto.specs.Commands.{is_play_command}
+use Rattle.std.specs.Prelude.{if◌then◌else◌, slice_get, slice_set}
 use Rattle.vdcp_auto.specs.Log.{is_answered, is_play}
 use Rattle.vdcp_auto.specs.Settled.{has_open_play, may_have_aired, settled, settles, tells_of_play}
 use Rattle.vdcp_auto.specs.declared.exchange.Exchange.{Exchange}
-use Rattle.vdcp_auto.specs.declared.exchange.Heard.{Heard}
 use Rattle.vdcp_auto.specs.declared.phase.Mode.{Mode}
-use Rattle.vdcp_auto.specs.declared.phase.Mode.TheVariants.{Plain, Confirming}
-use Rattle.vdcp_journal.proofs.AiringEnds.{HaveEnded, Noted, all_ended, end_more, found_mapped, map_ended, noted, open_before, push_ended}
-use Rattle.vdcp_journal.specs.Airings.{AreAirings, IsAiring, announces_after, announces_from, end_in, ended_by, is_play_row, sends_play, settled_in}
+use Rattle.vdcp_journal.specs.Airings.{AreAirings, FoundSoFar, IsAiring, IsLastPlayIf, announces_after, announces_from, asked_after, asks_play, end_in, ended_by, ended_from, is_play_row, sends_play, settled_in, unsettled_event}
 use Rattle.vdcp_journal.specs.Resume.{ended_at, exchange_with, log_from, log_of, open_after}
 use Rattle.vdcp_journal.specs.declared.airings.Airing.{Airing}
+use Rattle.vdcp_journal.specs.declared.airings.AiringsSoFar.{AiringsSoFar}
 use Rattle.vdcp_journal.specs.declared.moment.Moment.{Moment}
 use Rattle.vdcp_journal.specs.declared.row.Note.{Note}
-use Rattle.vdcp_journal.specs.declared.row.Note.TheVariants as note
 use Rattle.vdcp_journal.specs.declared.row.Row.{Row}
+use Rattle.vdcp_value.specs.declared.part.Item.{Item}
 use Rattle.vdcp_words.specs.declared.command.Command.{Command}
 
 -- The exchanges that rows end, and the command that is open after them.
 
-abbrev pub asked_after : Option Command → List Row → Option Command
-asked_after asked [] = asked
-asked_after asked (row ∷ rows) = asked_after (open_after asked row.note) rows
-
-abbrev pub ended_from : Option Command → List Row → List Exchange
-ended_from asked [] = []
-ended_from asked (row ∷ rows) = ended_at asked row.note (ended_from (open_after asked row.note) rows)
-
-with_front : (came : Option Heard) (asked : Option Command) (log more : List Exchange)
-    → exchange_with came asked (log ++ more) ≡ exchange_with came asked log ++ more
-with_front came None log more = refl
-with_front came (Some c) log more = refl
-
 pub at_front : (asked : Option Command) (n : Note) (log more : List Exchange)
     → ended_at asked n (log ++ more) ≡ ended_at asked n log ++ more
-at_front asked (note.Sent c) log more = refl
-at_front asked (note.Heard h) log more = with_front (Some h) asked log more
-at_front asked note.Silence log more = with_front None asked log more
-at_front asked note.Take log more = refl
-at_front asked note.Stop log more = refl
-at_front asked (note.End outcome) log more = refl
-at_front asked (note.From k) log more = refl
+at_front asked n log more = grind arith
 
 ended_on : (asked : Option Command) (rows : List Row) (row : Row)
     → ended_from asked (rows ++ row ∷ []) ≡ ended_from asked rows ++ ended_at (asked_after asked rows) row.note []
 ended_on asked [] row = refl
-ended_on asked (first ∷ rows) row =
-    let after = open_after asked first.note in
-    ap (ended_at asked first.note) (ended_on after rows row)
-    ∙ at_front asked first.note (ended_from after rows) (ended_at (asked_after after rows) row.note [])
+ended_on asked (first ∷ rows) row = let rest = ended_on (open_after asked first.note) rows row in grind (arith, at_front)
 
-asked_on : (asked : Option Command) (rows : List Row) (row : Row)
+pub asked_on : (asked : Option Command) (rows : List Row) (row : Row)
     → asked_after asked (rows ++ row ∷ []) ≡ open_after (asked_after asked rows) row.note
 asked_on asked [] row = refl
 asked_on asked (first ∷ rows) row = asked_on (open_after asked first.note) rows row
 
-pub log_is : (asked : Option Command) (rows : List Row)
+log_is : (asked : Option Command) (rows : List Row)
     → log_from asked rows ≡ ended_from asked rows ++ exchange_with None (asked_after asked rows) []
 log_is asked [] = refl
-log_is asked (first ∷ rows) =
-    let after = open_after asked first.note in
-    ap (ended_at asked first.note) (log_is after rows)
-    ∙ at_front asked first.note (ended_from after rows) (exchange_with None (asked_after after rows) [])
+log_is asked (first ∷ rows) = let rest = log_is (open_after asked first.note) rows in grind (arith, at_front)
+
+-- the exchanges that have ended, and the command that is open, in all rows
+abbrev pub ended_in : List Row → List Exchange
+ended_in rows = ended_from None rows
+
+abbrev pub asked_in : List Row → Option Command
+asked_in rows = asked_after None rows
+
+pub ended_more : (rows : List Row) (row : Row) (asked : Option Command) → asked ≡ asked_in rows
+    → ended_in rows ++ ended_at asked row.note [] ≡ ended_in (rows ++ row ∷ [])
+ended_more rows row asked is = ap (λ c. ended_in rows ++ ended_at c row.note []) is ∙ sym (ended_on None rows row)
+
+-- a row ends no exchange, or that of the command that was open
+abbrev RowEnds : List Row → Row → Type 0
+RowEnds rows row = (ended_in (rows ++ row ∷ []) ≡ ended_in rows) ⊎ ((e : Exchange)
+    × (ended_in (rows ++ row ∷ []) ≡ ended_in rows ++ e ∷ []) × (asked_in rows ≡ Some e.command) × (asked_in (rows ++ row ∷ []) ≡ None))
+
+row_ends : (rows : List Row) (row : Row) → RowEnds rows row
+row_ends rows row =
+    let ended = ended_on None rows row in
+    let asked = asked_on None rows row in
+    grind (arith, append-nil)
+
+-- so there are no more of them than rows
+no_more : (asked : Option Command) (rows : List Row) → length (ended_from asked rows) ≤ length rows
+no_more asked [] = omega arith
+no_more asked (row ∷ rows) = let rest = no_more (open_after asked row.note) rows in grind arith
+
+pub fits : (asked : Option Command) (rows : List Row) (n : Note)
+    → length (ended_in rows) + length (ended_at asked n []) ≤ length rows + 1
+fits asked rows n = let few = no_more None rows in grind arith
 
 -- What an exchange settles.
 
@@ -78,160 +84,129 @@ abbrev pub OpenGrows : Type 0
 OpenGrows = (log : List Exchange) (e : Exchange) → has_open_play (log ++ e ∷ [])
     ≡ (if tells_of_play e then is_play e && not (is_answered e) else has_open_play log)
 
-neither : (p s o : Bool) → (p && false || s && false && o) ≡ false
-neither true true o = refl
-neither true false o = refl
-neither false true o = refl
-neither false false o = refl
-
-no_status : (s o : Bool) → ((s && false) && o) ≡ false
-no_status true o = refl
-no_status false o = refl
+abbrev pub AiringGrows : Type 0
+AiringGrows = (mode : Mode) (log : List Exchange) (e : Exchange) → may_have_aired mode (log ++ e ∷ [])
+    ≡ (not (settles mode log e) && (is_play e || may_have_aired mode log))
 
 -- nothing that was timed out
 silence_settles : (mode : Mode) (log : List Exchange) (c : Command)
     → settles mode log (record { command = c; heard = None }) ≡ false
-silence_settles Plain log c = grind (arith)
-silence_settles Confirming log c = grind (arith)
-
-one_more : SettledGrows → (mode : Mode) (log : List Exchange) (e : Exchange) (b : Bool) → settles mode log e ≡ b
-    → settled mode (log ++ e ∷ []) ≡ (if b then settled mode log + 1 else settled mode log)
-one_more law mode log e b is = law mode log e ∙ ap (λ t. if t then settled mode log + 1 else settled mode log) is
+silence_settles mode log c = grind arith
 
 silent_settled : SettledGrows → (mode : Mode) (log : List Exchange) (asked : Option Command)
     → settled mode (log ++ exchange_with None asked []) ≡ settled mode log
 silent_settled law mode log None = ap (settled mode) (append-nil log)
-silent_settled law mode log (Some c) = one_more law mode log _ false (silence_settles mode log c)
+silent_settled law mode log (Some c) = law mode log _ ∙ ap (λ b. if b then settled mode log + 1 else settled mode log) (silence_settles mode log c)
+
+silent_airing : AiringGrows → (mode : Mode) (log : List Exchange) (asked : Option Command)
+    → may_have_aired mode (log ++ exchange_with None asked []) ≡ (asks_play asked || may_have_aired mode log)
+silent_airing law mode log asked = grind (arith, append-nil, law, silence_settles)
 
 -- so the rows show as much as their exchanges that have ended
-pub shown_is : SettledGrows → (mode : Mode) (rows : List Row)
-    → settled_in mode rows ≡ settled mode (ended_from None rows)
-shown_is law mode rows =
-    ap (settled mode) (log_is None rows) ∙ silent_settled law mode (ended_from None rows) (asked_after None rows)
+shown_is : SettledGrows → (mode : Mode) (rows : List Row) → settled_in mode rows ≡ settled mode (ended_in rows)
+shown_is law mode rows = ap (settled mode) (log_is None rows) ∙ silent_settled law mode (ended_in rows) (asked_in rows)
 
--- the first k + 1 rows show as much as the first k, or one event more
-bool_grows : (b : Bool) (n m : ℕ) → m ≡ (if b then n + 1 else n) → (n ≤ m) × (m ≤ n + 1)
-bool_grows true n m e = (omega (arith, e), omega (arith, e))
-bool_grows false n m e = (omega (arith, e), omega (arith, e))
+-- and those and the command that is open say which event may have aired besides
+pub unsettled_is : {S : Type 0} (items : S → List Item) → SettledGrows → AiringGrows → (mode : Mode) (rows : List Row)
+    (so_far : AiringsSoFar S) → FoundSoFar items mode rows so_far
+    → (if (asks_play so_far.asked || so_far.judge.may_have_aired) || so_far.announced
+    then Some so_far.judge.settled else None) ≡ unsettled_event mode rows
+unsettled_is items law airs mode rows so_far found =
+    let log = ended_in rows in
+    let has = found.knows.airing ∙ ap (λ m. may_have_aired m log) found.mode_is in
+    let count = found.knows.settled ∙ ap (λ m. settled m log) found.mode_is in
+    let may : (asks_play so_far.asked || so_far.judge.may_have_aired) ≡ may_have_aired mode (log_of rows) =
+    ap₂ (λ c b. asks_play c || b) found.asked_is has
+    ∙ sym (ap (may_have_aired mode) (log_is None rows) ∙ silent_airing airs mode log (asked_in rows)) in
+    ap₂ (λ (a b : Bool). if a || b then Some so_far.judge.settled else None) may found.announced_is
+    ∙ ap (λ n. if may_have_aired mode (log_of rows) || announces_from false rows then Some n else None)
+    (count ∙ sym (shown_is law mode rows))
 
-with_grows : SettledGrows → (mode : Mode) (log : List Exchange) (came : Option Heard) (asked : Option Command)
-    → (settled mode log ≤ settled mode (log ++ exchange_with came asked []))
-    × (settled mode (log ++ exchange_with came asked []) ≤ settled mode log + 1)
-with_grows law mode log came None =
-    let same = ap (settled mode) (append-nil log) in (omega (arith, same), omega (arith, same))
-with_grows law mode log came (Some c) =
-    let e : Exchange = record { command = c; heard = came } in
-    bool_grows (settles mode log e) (settled mode log) (settled mode (log ++ e ∷ [])) (law mode log e)
-
-none_grows : (mode : Mode) (log : List Exchange)
-    → (settled mode log ≤ settled mode (log ++ [])) × (settled mode (log ++ []) ≤ settled mode log + 1)
-none_grows mode log = let same = ap (settled mode) (append-nil log) in (omega (arith, same), omega (arith, same))
-
-pub row_grows : SettledGrows → (mode : Mode) (log : List Exchange) (asked : Option Command) (n : Note)
-    → (settled mode log ≤ settled mode (log ++ ended_at asked n []))
-    × (settled mode (log ++ ended_at asked n []) ≤ settled mode log + 1)
-row_grows law mode log asked (note.Sent c) = none_grows mode log
-row_grows law mode log asked (note.Heard h) = with_grows law mode log (Some h) asked
-row_grows law mode log asked note.Silence = with_grows law mode log None asked
-row_grows law mode log asked note.Take = none_grows mode log
-row_grows law mode log asked note.Stop = none_grows mode log
-row_grows law mode log asked (note.End outcome) = none_grows mode log
-row_grows law mode log asked (note.From k) = none_grows mode log
-
--- Without a PLAY no row settles anything.
-
-abbrev pub asks_play : Option Command → Bool
-asks_play None = false
-asks_play (Some c) = is_play_command c
-
-pub record Unplayed (log : List Exchange) (asked : Option Command) : Type 0 where
-  pub shut : has_open_play log ≡ false
-  pub unasked : asks_play asked ≡ false
+-- What one row more shows.
 
 nothing_settles : (mode : Mode) (log : List Exchange) (e : Exchange) → has_open_play log ≡ false → is_play e ≡ false
     → settles mode log e ≡ false
-nothing_settles Plain log e shut other = grind (arith, shut, other)
-nothing_settles Confirming log e shut other = grind (arith, shut, other)
+nothing_settles mode log e shut other = grind arith
 
 stays_shut : OpenGrows → (log : List Exchange) (e : Exchange) → has_open_play log ≡ false → is_play e ≡ false
     → has_open_play (log ++ e ∷ []) ≡ false
-stays_shut law log e shut other = let grown = law log e in grind (arith, grown, shut, other)
+stays_shut law log e shut other = let grown = law log e in grind arith
 
--- what an exchange leaves that is no PLAY's
-record Quiet (mode : Mode) (log more : List Exchange) : Type 0 where
-  pub same : settled mode (log ++ more) ≡ settled mode log
-  pub shut : has_open_play (log ++ more) ≡ false
-
-quiet_none : (mode : Mode) (log : List Exchange) → has_open_play log ≡ false → Quiet mode log []
-quiet_none mode log shut = record {
-  same = ap (settled mode) (append-nil log);
-  shut = ap has_open_play (append-nil log) ∙ shut;
-}
-
-quiet_with : SettledGrows → OpenGrows → (mode : Mode) (log : List Exchange) (came : Option Heard)
-    (asked : Option Command) → Unplayed log asked → Quiet mode log (exchange_with came asked [])
-quiet_with law opens mode log came None h = quiet_none mode log h.shut
-quiet_with law opens mode log came (Some c) h =
-    let e : Exchange = record { command = c; heard = came } in
-    record {
-      same = one_more law mode log e false (nothing_settles mode log e h.shut h.unasked);
-      shut = stays_shut opens log e h.shut h.unasked;
-    }
-
-quiet_row : SettledGrows → OpenGrows → (mode : Mode) (log : List Exchange) (asked : Option Command) (n : Note)
-    → Unplayed log asked → Quiet mode log (ended_at asked n [])
-quiet_row law opens mode log asked (note.Sent c) h = quiet_none mode log h.shut
-quiet_row law opens mode log asked (note.Heard came) h = quiet_with law opens mode log (Some came) asked h
-quiet_row law opens mode log asked note.Silence h = quiet_with law opens mode log None asked h
-quiet_row law opens mode log asked note.Take h = quiet_none mode log h.shut
-quiet_row law opens mode log asked note.Stop h = quiet_none mode log h.shut
-quiet_row law opens mode log asked (note.End outcome) h = quiet_none mode log h.shut
-quiet_row law opens mode log asked (note.From k) h = quiet_none mode log h.shut
+-- what settles leaves no PLAY open
+shuts : OpenGrows → (mode : Mode) (log : List Exchange) (e : Exchange) → settles mode log e ≡ true
+    → has_open_play (log ++ e ∷ []) ≡ false
+shuts law mode log e is = let grown = law log e in grind arith
 
 asks_after : (asked : Option Command) (n : Note) → asks_play asked ≡ false → sends_play n ≡ false
     → asks_play (open_after asked n) ≡ false
-asks_after asked (note.Sent c) before now = now
-asks_after asked (note.Heard h) before now = refl
-asks_after asked note.Silence before now = refl
-asks_after asked note.Take before now = before
-asks_after asked note.Stop before now = before
-asks_after asked (note.End outcome) before now = before
-asks_after asked (note.From k) before now = before
+asks_after asked n before now = grind arith
+
+grows : (b : Bool) (n m : ℕ) → m ≡ (if b then n + 1 else n)
+    → (n ≤ m) × (m ≤ n + 1) × (b ≡ false → m ≡ n) × (n < m → b ≡ true)
+grows b n m is = grind arith
+
+-- a PLAY is open, whether its exchange goes on or has ended
+abbrev plays : List Row → Bool
+plays rows = has_open_play (ended_in rows) || asks_play (asked_in rows)
+
+-- a row settles one event at the most, and that only where a PLAY is open, which then is open no more; and a row that is no
+-- PLAY opens none
+record Step (mode : Mode) (rows all : List Row) (row : Row) : Type 0 where
+  pub least : settled mode (ended_in rows) ≤ settled mode (ended_in all)
+  pub most : settled mode (ended_in all) ≤ settled mode (ended_in rows) + 1
+  pub settles : plays rows ≡ false → settled mode (ended_in all) ≡ settled mode (ended_in rows)
+  pub opens : plays rows ≡ false → is_play_row row ≡ false → plays all ≡ false
+  pub shuts : settled mode (ended_in rows) < settled mode (ended_in all) → plays all ≡ false
+
+step : SettledGrows → OpenGrows → (mode : Mode) (rows : List Row) (row : Row) → Step mode rows (rows ++ row ∷ []) row
+step law opens mode rows row =
+    let log = ended_in rows in
+    elim (row_ends rows row) [
+      | inl none ↦
+          let same = ap (settled mode) none in
+          record {
+            least = omega (arith, same);
+            most = omega (arith, same);
+            settles = λ _. same;
+            opens = λ idle other.
+                let parts = or_parts (has_open_play log) (asks_play (asked_in rows)) idle in
+                or_from _ _ (ap has_open_play none ∙ parts.0)
+                (ap asks_play (asked_on None rows row) ∙ asks_after (asked_in rows) row.note parts.1 other);
+            shuts = λ more. absurd (omega (arith, more, same));
+          }
+      | inr w ↦
+          let grown = grows (settles mode log w.0) _ _ (ap (settled mode) w.1 ∙ law mode log w.0) in
+          let shut = λ (idle : plays rows ≡ false). (or_parts (has_open_play log) (asks_play (asked_in rows)) idle).0 in
+          let other = λ (idle : plays rows ≡ false).
+          ap asks_play (sym w.2) ∙ (or_parts (has_open_play log) (asks_play (asked_in rows)) idle).1 in
+          record {
+            least = grown.0;
+            most = grown.1;
+            settles = λ idle. grown.2 (nothing_settles mode log w.0 (shut idle) (other idle));
+            opens = λ idle _. or_from _ _
+                (ap has_open_play w.1 ∙ stays_shut opens log w.0 (shut idle) (other idle)) (ap asks_play w.3);
+            shuts = λ more. or_from _ _
+                (ap has_open_play w.1 ∙ shuts opens mode log w.0 (grown.3 more)) (ap asks_play w.3);
+          }
+    ]
+
+quiet_rows : SettledGrows → OpenGrows → (mode : Mode) (rows more : List Row) → plays rows ≡ false
+    → list_any is_play_row more ≡ false
+    → (settled mode (ended_in (rows ++ more)) ≡ settled mode (ended_in rows)) × (plays (rows ++ more) ≡ false)
+quiet_rows law opens mode rows [] idle none =
+    let all = append-nil rows in (ap (λ (l : List Row). settled mode (ended_in l)) all, ap plays all ∙ idle)
+quiet_rows law opens mode rows (row ∷ more) idle none =
+    let parts = or_parts (is_play_row row) (list_any is_play_row more) none in
+    let first = step law opens mode rows row in
+    let rest = quiet_rows law opens mode (rows ++ row ∷ []) more (first.opens idle parts.0) parts.1 in
+    let all = sym (append_assoc rows (row ∷ []) more) in
+    (ap (λ (l : List Row). settled mode (ended_in l)) all ∙ rest.0 ∙ first.settles idle, ap plays all ∙ rest.1)
 
 -- The last PLAY that went out.
 
-pub record IsLastPlay (rows : List Row) (time : Moment) : Type 0 where
-  pub before : List Row
-  pub play : Row
-  pub after : List Row
-  pub in_order : rows ≡ before ++ (play ∷ after)
-  pub is_play : is_play_row play ≡ true
-  pub last : list_any is_play_row after ≡ false
-  pub time_is : time ≡ play.time
-
-abbrev pub LastPlay : List Row → Option Moment → Type 0
-LastPlay rows None = Unit {0}
-LastPlay rows (Some time) = IsLastPlay rows time
-
-or_false : (a b : Bool) → a ≡ false → b ≡ false → (a || (b || false)) ≡ false
-or_false a b e f = grind (arith, e, f)
-
-old_play : (rows : List Row) (row : Row) (played : Option Moment) → LastPlay rows played → is_play_row row ≡ false
-    → LastPlay (rows ++ row ∷ []) played
-old_play rows row None h other = tt
-old_play rows row (Some time) h other = record {
-  before = h.before;
-  play = h.play;
-  after = h.after ++ row ∷ [];
-  in_order = ap (λ l. l ++ row ∷ []) h.in_order ∙ append_assoc h.before (h.play ∷ h.after) (row ∷ []);
-  is_play = h.is_play;
-  last = list_any-append is_play_row h.after (row ∷ [])
-      ∙ or_false (list_any is_play_row h.after) (is_play_row row) h.last other;
-  time_is = h.time_is;
-}
-
-new_play : (rows : List Row) (row : Row) → is_play_row row ≡ true → IsLastPlay (rows ++ row ∷ []) row.time
-new_play rows row is = record {
+pub played_on : (rows : List Row) (row : Row) (b : Bool) (played : Option Moment) → is_play_row row ≡ b
+    → IsLastPlayIf rows played → IsLastPlayIf (rows ++ row ∷ []) (if b then Some row.time else played)
+played_on rows row true played is h = record {
   before = rows;
   play = row;
   after = [];
@@ -240,10 +215,50 @@ new_play rows row is = record {
   last = refl;
   time_is = refl;
 }
+played_on rows row false None is h =
+    list_any-append is_play_row rows (row ∷ []) ∙ ap₂ (λ a b. a || (b || false)) h is
+played_on rows row false (Some time) is h = record {
+  before = h.before;
+  play = h.play;
+  after = h.after ++ row ∷ [];
+  in_order = ap (λ l. l ++ row ∷ []) h.in_order ∙ append_assoc h.before (h.play ∷ h.after) (row ∷ []);
+  is_play = h.is_play;
+  last = list_any-append is_play_row h.after (row ∷ []) ∙ ap₂ (λ a b. a || (b || false)) h.last is;
+  time_is = h.time_is;
+}
+
+-- The ends of airings.
+
+end_more : (rows : List Row) (row : Row) → end_in (rows ++ row ∷ []) ≡ option_or (end_in rows) (end_in (row ∷ []))
+end_more [] row = refl
+end_more (first ∷ rows) row =
+    let rest = end_more rows row in
+    grind arith
+
+no_plays : (rows : List Row) → end_in rows ≡ None → list_any is_play_row rows ≡ false
+no_plays [] e = refl
+no_plays (row ∷ rows) e = let rest = no_plays rows in grind arith
+
+-- nothing is settled after an airing whose end wasn't seen
+open_is_last : SettledGrows → OpenGrows → (mode : Mode) (rows : List Row) (k : ℕ) (airing : Airing)
+    → IsAiring mode rows k airing → airing.ended ≡ None → settled mode (ended_in rows) ≡ k + 1
+open_is_last law opens mode rows k airing h unended =
+    let front = h.before ++ (h.play ∷ h.between) in
+    let upto = front ++ h.settling ∷ [] in
+    let whole : upto ++ h.after ≡ rows = append_assoc front (h.settling ∷ []) h.after
+    ∙ append_assoc h.before (h.play ∷ h.between) (h.settling ∷ h.after) ∙ sym h.in_order in
+    let was : settled mode (ended_in front) ≡ k = sym (shown_is law mode front) ∙ h.unsettled in
+    let now : settled mode (ended_in upto) ≡ k + 1 = sym (shown_is law mode upto)
+    ∙ ap (settled_in mode) (append_assoc h.before (h.play ∷ h.between) (h.settling ∷ [])) ∙ h.settles in
+    let idle = (step law opens mode front h.settling).shuts (omega (arith, was, now)) in
+    let none = or_parts _ _ (no_plays (h.settling ∷ h.after) (sym h.ended ∙ unended)) in
+    ap (λ (l : List Row). settled mode (ended_in l)) (sym whole)
+    ∙ (quiet_rows law opens mode upto h.after idle none.1).0
+    ∙ now
 
 -- The airings so far.
 
-abbrev pub Are : Mode → List Row → List Airing → Type 0
+abbrev Are : Mode → List Row → List Airing → Type 0
 Are mode rows airings =
     (k : ℕ) (airing : Airing) → slice_get airings k ≡ Some airing → IsAiring mode rows k airing
 
@@ -267,330 +282,136 @@ more_rows mode rows row k airing h = record {
   ended = ap (λ t. option_or t (end_in (row ∷ []))) h.ended ∙ sym (end_more (h.settling ∷ h.after) row);
 }
 
--- the airing of an event that the next row settles
-settled_now : SettledGrows → (mode : Mode) (rows : List Row) (row : Row) (k : ℕ) (time : Moment)
-    → IsLastPlay rows time → settled_in mode rows ≡ k → settled_in mode (rows ++ row ∷ []) ≡ k + 1
-    → IsAiring mode (rows ++ row ∷ []) k (record { played = time; known = row.time; ended = end_in (row ∷ []) })
-settled_now law mode rows row k time h was now =
-    let all : rows ++ row ∷ [] ≡ h.before ++ (h.play ∷ (h.after ++ row ∷ [])) =
-    ap (λ l. l ++ row ∷ []) h.in_order ∙ append_assoc h.before (h.play ∷ h.after) (row ∷ []) in
-    record {
-      before = h.before;
-      play = h.play;
-      between = h.after;
-      settling = row;
-      after = [];
-      in_order = all;
-      is_play = h.is_play;
-      last_play = h.last;
-      unsettled = ap (settled_in mode) (sym h.in_order) ∙ was;
-      settles = ap (settled_in mode) (sym all) ∙ now;
-      played = h.time_is;
-      known = refl;
-      ended = refl;
-    }
+stays : (airing : Airing) (row : Row) → airing.ended ≢ None → ended_by row airing ≡ airing
+stays airing row some = grind arith
 
-one_airing : (a b : Airing) → ◌≡◌ {A = Option Airing} (Some a) (Some b) → a ≡ b
-one_airing a b e = cc e
+-- what stands in a list after a write was written, or stood there
+found_set : (xs : List Airing) (n k : ℕ) (x y : Airing) → slice_get (slice_set xs n x) k ≡ Some y
+    → ((n ≡ k) × (x ≡ y)) ⊎ ((n ≢ k) × (slice_get xs k ≡ Some y))
+found_set xs n k x y e = grind (arith, common_steps, gets)
+
+some_last : (a : Airing) (airings : List Airing) → (last : Airing) × (slice_get (a ∷ airings) (length airings) ≡ Some last)
+some_last a [] = (a, refl)
+some_last a (b ∷ airings) = some_last b airings
+
+-- what a row leaves of the airings so far, of which all but the last have ended
+pub record Noted (row : Row) (airings airings' : List Airing) : Type 0 where
+  pub last : (k : ℕ) (last : Airing) → length airings ≡ k + 1 → slice_get airings k ≡ Some last
+      → airings' ≡ slice_set airings k (ended_by row last)
+  pub none : airings ≡ [] → airings' ≡ []
+
+noted : SettledGrows → OpenGrows → (mode : Mode) (rows : List Row) (row : Row) (airings airings' : List Airing)
+    → Are mode rows airings → length airings ≡ settled mode (ended_in rows) → Noted row airings airings'
+    → Are mode (rows ++ row ∷ []) airings' × (length airings' ≡ length airings)
+noted law opens mode rows row [] airings' are one_each n =
+    let is = n.none refl in (λ k airing at. cc (ap (λ l. slice_get l k) (sym is) ∙ at), ap length is)
+noted law opens mode rows row (a ∷ airings) airings' are one_each n =
+    let old = a ∷ airings in
+    let place = length airings in
+    let last = some_last a airings in
+    let size : length old ≡ place + 1 = omega arith in
+    let is = n.last place last.0 size last.1 in
+    let found = λ (k : ℕ) (airing : Airing) (at : slice_get airings' k ≡ Some airing).
+    found_set old place k (ended_by row last.0) airing (ap (λ l. slice_get l k) (sym is) ∙ at) in (
+      λ k airing at. elim (found k airing at) [
+        | inl w ↦ subst (λ (n : ℕ). IsAiring mode (rows ++ row ∷ []) n airing) w.0
+            (subst (IsAiring mode (rows ++ row ∷ []) place) w.1
+            (more_rows mode rows row place last.0 (are place last.0 last.1)))
+        | inr w ↦
+            let here = are k airing w.1 in
+            let has_ended : airing.ended ≢ None = λ unended. w.0
+            (omega (arith, size, one_each, open_is_last law opens mode rows k airing here unended)) in
+            subst (IsAiring mode (rows ++ row ∷ []) k) (stays airing row has_ended)
+            (more_rows mode rows row k airing here)
+      ],
+      ap length is ∙ length-set old place (ended_by row last.0),
+    )
 
 -- what stands in a longer list stood in the shorter one, or is the last
-found_in : (xs : List Airing) (x y : Airing) (k : ℕ) → slice_get (xs ++ x ∷ []) k ≡ Some y
-    → (slice_get xs k ≡ Some y) ⊎ ((k ≡ length xs) × (x ≡ y))
-found_in [] x y zero e = inr (refl, one_airing x y e)
-found_in [] x y (suc k) e = cc e
-found_in (first ∷ xs) x y zero e = inl e
-found_in (first ∷ xs) x y (suc k) e = elim (found_in xs x y k e) [
-  | inl w ↦ inl w
-  | inr w ↦ inr (ap suc w.0, w.1)
-]
+found_push : (xs : List Airing) (x y : Airing) (k : ℕ) → slice_get (xs ++ x ∷ []) k ≡ Some y
+    → (slice_get xs k ≡ Some y) ⊎ ((length xs ≡ k) × (x ≡ y))
+found_push xs x y k e = grind (arith, common_steps, gets)
 
-are_more : (mode : Mode) (rows : List Row) (row : Row) (airings : List Airing) → Are mode rows airings
-    → Are mode (rows ++ row ∷ []) (map (ended_by row) airings)
-are_more mode rows row airings h = λ k airing at.
-    let old = found_mapped row airings k airing at in
-    subst (IsAiring mode (rows ++ row ∷ []) k) (sym old.2) (more_rows mode rows row k old.0 (h k old.0 old.1))
-
-are_one_more : (mode : Mode) (rows : List Row) (airings : List Airing) (a : Airing) → Are mode rows airings
+one_more : (mode : Mode) (rows : List Row) (airings : List Airing) (a : Airing) → Are mode rows airings
     → IsAiring mode rows (length airings) a → Are mode rows (airings ++ a ∷ [])
-are_one_more mode rows airings a h new = λ k airing at. elim (found_in airings a airing k at) [
-  | inl w ↦ h k airing w
-  | inr w ↦ subst (λ (n : ℕ). IsAiring mode rows n airing) (sym w.0)
-      (subst (λ x. IsAiring mode rows (length airings) x) w.1 new)
+one_more mode rows airings a are new = λ k airing at. elim (found_push airings a airing k at) [
+  | inl w ↦ are k airing w
+  | inr w ↦ subst (λ (n : ℕ). IsAiring mode rows n airing) w.0 (subst (IsAiring mode rows (length airings)) w.1 new)
 ]
 
--- what is known of the rows so far
-pub record SoFar (mode : Mode) (rows : List Row) (asked : Option Command) (played : Option Moment)
-    (airings : List Airing) : Type 0 where
-  pub asked_is : asked ≡ asked_after None rows
-  pub few : length (ended_from None rows) + length (exchange_with None asked []) ≤ length rows
-  pub one_each : length airings ≡ settled mode (ended_from None rows)
-  pub are : Are mode rows airings
-  pub last : LastPlay rows played
-  pub unplayed : played ≡ None → Unplayed (ended_from None rows) asked
-  pub ended : HaveEnded airings
-  pub over : all_ended airings ≡ false → Unplayed (ended_from None rows) asked
+-- the airing of an event that was played then, and that a row settles
+abbrev new_airing : Moment → Row → Airing
+new_airing time row = record { played = time; known = row.time; ended = end_in (row ∷ []) }
 
--- an exchange that ends was open
-with_room : (came : Option Heard) (asked : Option Command)
-    → length (exchange_with came asked []) ≡ length (exchange_with None asked [])
-with_room came None = refl
-with_room came (Some c) = refl
+-- if a row settles an event, a PLAY went out
+settled_now : SettledGrows → OpenGrows → (mode : Mode) (rows : List Row) (row : Row) (k : ℕ) (played : Option Moment)
+    → IsLastPlayIf rows played → settled mode (ended_in rows) ≡ k → settled mode (ended_in (rows ++ row ∷ [])) ≡ k + 1
+    → (time : Moment) × (played ≡ Some time) × IsAiring mode (rows ++ row ∷ []) k (new_airing time row)
+settled_now law opens mode rows row k None none was now =
+    let idle = (quiet_rows law opens mode [] rows refl none).1 in
+    absurd (omega (arith, was, now, (step law opens mode rows row).settles idle))
+settled_now law opens mode rows row k (Some time) h was now =
+    let all : rows ++ row ∷ [] ≡ h.before ++ (h.play ∷ (h.after ++ row ∷ [])) =
+    ap (λ l. l ++ row ∷ []) h.in_order ∙ append_assoc h.before (h.play ∷ h.after) (row ∷ []) in (
+      time,
+      refl,
+      record {
+        before = h.before;
+        play = h.play;
+        between = h.after;
+        settling = row;
+        after = [];
+        in_order = all;
+        is_play = h.is_play;
+        last_play = h.last;
+        unsettled = ap (settled_in mode) (sym h.in_order) ∙ shown_is law mode rows ∙ was;
+        settles = ap (settled_in mode) (sym all) ∙ shown_is law mode (rows ++ row ∷ []) ∙ now;
+        played = h.time_is;
+        known = refl;
+        ended = refl;
+      },
+    )
 
-room : (asked : Option Command) (n : Note)
-    → length (ended_at asked n []) + length (exchange_with None (open_after asked n) [])
-    ≤ length (exchange_with None asked []) + 1
-room asked (note.Sent c) = omega arith
-room asked (note.Heard h) = omega (arith, with_room (Some h) asked)
-room asked note.Silence = omega arith
-room asked note.Take = omega arith
-room asked note.Stop = omega arith
-room asked (note.End outcome) = omega arith
-room asked (note.From k) = omega arith
+-- what is added to the airings for so many settled events
+pub record Added (played : Option Moment) (row : Row) (count : ℕ) (airings airings' : List Airing) : Type 0 where
+  pub same : count ≤ length airings → airings' ≡ airings
+  pub more : length airings < count → (time : Moment) → played ≡ Some time → airings' ≡ airings ++ new_airing time row ∷ []
 
--- what came of one row more: the command that is open, the last PLAY and the airings
-pub record Steps (mode : Mode) (rows : List Row) (row : Row) (asked asked' : Option Command)
-    (played played' : Option Moment) (airings added airings' : List Airing) (settled' : ℕ) : Type 0 where
-  pub asks : asked' ≡ open_after asked row.note
-  pub settles : settled' ≡ settled mode (ended_from None rows ++ ended_at asked row.note [])
-  pub same : settled' ≤ length airings → added ≡ airings
-  pub more : length airings < settled' → (play : Moment) → played ≡ Some play
-      → added ≡ airings ++ record { played = play; known = row.time; ended = None } ∷ []
-  pub notes : Noted row added airings'
-  pub plays : is_play_row row ≡ true → played' ≡ Some row.time
-  pub plays_not : is_play_row row ≡ false → played' ≡ played
-
--- the log after the row
-pub log_on : (rows : List Row) (row : Row) (asked : Option Command) → asked ≡ asked_after None rows
-    → ended_from None (rows ++ row ∷ []) ≡ ended_from None rows ++ ended_at asked row.note []
-log_on rows row asked is =
-    ended_on None rows row ∙ ap (λ a. ended_from None rows ++ ended_at a row.note []) (sym is)
-
-record Aired (mode : Mode) (rows : List Row) (asked : Option Command) (airings : List Airing) : Type 0 where
-  pub one_each : length airings ≡ settled mode (ended_from None rows)
-  pub are : Are mode rows airings
-  pub ended : HaveEnded airings
-  pub over : all_ended airings ≡ false → Unplayed (ended_from None rows) asked
-
-ordered : (n m : ℕ) → (m ≤ n) ⊎ (n < m)
-ordered zero zero = inl (omega arith)
-ordered zero (suc m) = inr (omega arith)
-ordered (suc n) zero = inl (omega arith)
-ordered (suc n) (suc m) = elim (ordered n m) [
-  | inl w ↦ inl (omega (arith, w))
-  | inr w ↦ inr (omega (arith, w))
-]
-
--- a row that is no PLAY opens none
-quiet_on : SettledGrows → OpenGrows → (mode : Mode) (rows : List Row) (row : Row) (asked asked' : Option Command)
-    → asked ≡ asked_after None rows → asked' ≡ open_after asked row.note → Unplayed (ended_from None rows) asked
-    → sends_play row.note ≡ false → Unplayed (ended_from None (rows ++ row ∷ [])) asked'
-quiet_on law opens mode rows row asked asked' is asks old other = record {
-  shut = ap has_open_play (log_on rows row asked is)
-      ∙ (quiet_row law opens mode (ended_from None rows) asked row.note old).shut;
-  unasked = ap asks_play asks ∙ asks_after asked row.note old.unasked other;
-}
-
--- what settles leaves no PLAY open
-shuts : OpenGrows → (mode : Mode) (log : List Exchange) (e : Exchange) → settles mode log e ≡ true
-    → has_open_play (log ++ e ∷ []) ≡ false
-shuts law Plain log e is = let grown = law log e in grind (arith, grown, is)
-shuts law Confirming log e is = let grown = law log e in grind (arith, grown, is)
-
-settles_if : (mode : Mode) (log : List Exchange) (e : Exchange) (b : Bool) → settles mode log e ≡ b
-    → settled mode (log ++ e ∷ []) ≡ (if settles mode log e then settled mode log + 1 else settled mode log)
-    → settled mode log < settled mode (log ++ e ∷ []) → settles mode log e ≡ true
-settles_if mode log e true is grown more = is
-settles_if mode log e false is grown more =
-    absurd (omega (arith, more, grown ∙ ap (λ t. if t then settled mode log + 1 else settled mode log) is))
-
-with_shut : SettledGrows → OpenGrows → (mode : Mode) (log : List Exchange) (came : Option Heard)
-    (asked : Option Command) → settled mode log < settled mode (log ++ exchange_with came asked [])
-    → Unplayed (log ++ exchange_with came asked []) None
-with_shut law opens mode log came None more = absurd (omega (arith, more, ap (settled mode) (append-nil log)))
-with_shut law opens mode log came (Some c) more =
-    let e : Exchange = record { command = c; heard = came } in
-    record {
-      shut = shuts opens mode log e (settles_if mode log e (settles mode log e) refl (law mode log e) more);
-      unasked = refl;
-    }
-
-settled_shut : SettledGrows → OpenGrows → (mode : Mode) (log : List Exchange) (asked : Option Command) (n : Note)
-    → settled mode log < settled mode (log ++ ended_at asked n []) → Unplayed (log ++ ended_at asked n []) (open_after asked n)
-settled_shut law opens mode log asked (note.Sent c) more = absurd (omega (arith, more, ap (settled mode) (append-nil log)))
-settled_shut law opens mode log asked (note.Heard h) more = with_shut law opens mode log (Some h) asked more
-settled_shut law opens mode log asked note.Silence more = with_shut law opens mode log None asked more
-settled_shut law opens mode log asked note.Take more = absurd (omega (arith, more, ap (settled mode) (append-nil log)))
-settled_shut law opens mode log asked note.Stop more = absurd (omega (arith, more, ap (settled mode) (append-nil log)))
-settled_shut law opens mode log asked (note.End outcome) more =
-    absurd (omega (arith, more, ap (settled mode) (append-nil log)))
-settled_shut law opens mode log asked (note.From k) more = absurd (omega (arith, more, ap (settled mode) (append-nil log)))
-
-aired_same : SettledGrows → OpenGrows → (mode : Mode) (rows : List Row) (row : Row) (asked asked' : Option Command)
-    (played : Option Moment) (airings airings' : List Airing) → SoFar mode rows asked played airings
-    → asked' ≡ open_after asked row.note
-    → settled mode (ended_from None rows ++ ended_at asked row.note []) ≤ length airings
-    → airings' ≡ map (ended_by row) airings → Aired mode (rows ++ row ∷ []) asked' airings'
-aired_same law opens mode rows row asked asked' played airings airings' h asks few is =
-    let grown = (row_grows law mode (ended_from None rows) asked row.note).0 in
-    let log = ap (settled mode) (log_on rows row asked h.asked_is) in
-    record {
-      one_each = ap length is ∙ length-map airings (ended_by row) ∙ (omega (arith, grown, few, log, h.one_each));
-      are = subst (Are mode (rows ++ row ∷ [])) (sym is) (are_more mode rows row airings h.are);
-      ended = subst HaveEnded (sym is) (map_ended airings row h.ended);
-      over = λ e.
-          let old = open_before airings row (ap all_ended (sym is) ∙ e) in
-          quiet_on law opens mode rows row asked asked' h.asked_is asks (h.over old.0) old.1;
-    }
-
-aired_few : SettledGrows → OpenGrows → (mode : Mode) (rows : List Row) (row : Row) (asked asked' : Option Command)
-    (played played' : Option Moment) (airings added airings' : List Airing) (settled' : ℕ)
-    → SoFar mode rows asked played airings
-    → Steps mode rows row asked asked' played played' airings added airings' settled'
-    → settled mode (ended_from None rows ++ ended_at asked row.note []) ≤ length airings
-    → Aired mode (rows ++ row ∷ []) asked' airings'
-aired_few law opens mode rows row asked asked' played played' airings added airings' settled' h s few =
-    let same = s.same (omega (arith, few, s.settles)) in
-    aired_same law opens mode rows row asked asked' played airings airings' h s.asks few
-    (noted added airings' row (subst HaveEnded (sym same) h.ended) s.notes ∙ ap (map (ended_by row)) same)
-
--- nothing is settled while one hasn't ended
-none_open : SettledGrows → OpenGrows → (mode : Mode) (rows : List Row) (row : Row) (asked : Option Command)
-    (played : Option Moment) (airings : List Airing) (b : Bool) → all_ended airings ≡ b
-    → SoFar mode rows asked played airings
-    → length airings < settled mode (ended_from None rows ++ ended_at asked row.note []) → b ≡ true
-none_open law opens mode rows row asked played airings true is h many = refl
-none_open law opens mode rows row asked played airings false is h many =
-    let quiet = quiet_row law opens mode (ended_from None rows) asked row.note (h.over is) in
-    absurd (omega (arith, quiet.same, h.one_each, many))
-
-aired_more : SettledGrows → OpenGrows → (mode : Mode) (rows : List Row) (row : Row) (asked asked' : Option Command)
-    (time : Moment) (airings airings' : List Airing) → SoFar mode rows asked (Some time) airings
-    → asked' ≡ open_after asked row.note
-    → length airings < settled mode (ended_from None rows ++ ended_at asked row.note [])
-    → airings' ≡ map (ended_by row) (airings ++ record { played = time; known = row.time; ended = None } ∷ [])
-    → Aired mode (rows ++ row ∷ []) asked' airings'
-aired_more law opens mode rows row asked asked' time airings airings' h asks many is =
-    let a : Airing = record { played = time; known = row.time; ended = None } in
-    let b : Airing = record { played = time; known = row.time; ended = end_in (row ∷ []) } in
-    let old = map (ended_by row) airings in
-    let all = none_open law opens mode rows row asked (Some time) airings (all_ended airings) refl h many in
-    let grown = (row_grows law mode (ended_from None rows) asked row.note).1 in
-    let log = log_on rows row asked h.asked_is in
-    let now : settled mode (ended_from None (rows ++ row ∷ [])) ≡ length airings + 1 =
-    omega (arith, grown, many, ap (settled mode) log, h.one_each) in
-    let new = settled_now law mode rows row (length airings) time h.last
-    (shown_is law mode rows ∙ sym h.one_each)
-    (shown_is law mode (rows ++ row ∷ []) ∙ now) in
-    let pushed : airings' ≡ old ++ b ∷ [] = is ∙ map-append (ended_by row) airings (a ∷ []) in
-    record {
-      one_each = ap length is ∙ length-map (airings ++ a ∷ []) (ended_by row) ∙ length-append airings (a ∷ []) ∙ sym now;
-      are = subst (Are mode (rows ++ row ∷ [])) (sym pushed)
-          (are_one_more mode (rows ++ row ∷ []) old b (are_more mode rows row airings h.are)
-          (subst (λ n. IsAiring mode (rows ++ row ∷ []) n b) (sym (length-map airings (ended_by row))) new));
-      ended = subst HaveEnded (sym is) (map_ended (airings ++ a ∷ []) row (push_ended airings a all));
-      over = λ e. subst (Unplayed (ended_from None (rows ++ row ∷ []))) (sym asks)
-          (subst (λ l. Unplayed l (open_after asked row.note)) (sym log)
-          (settled_shut law opens mode (ended_from None rows) asked row.note (omega (arith, many, h.one_each))));
-    }
-
-aired_on : SettledGrows → OpenGrows → (mode : Mode) (rows : List Row) (row : Row) (asked asked' : Option Command)
-    (played played' : Option Moment) (airings added airings' : List Airing) (settled' : ℕ)
-    → SoFar mode rows asked played airings
-    → Steps mode rows row asked asked' played played' airings added airings' settled'
-    → Aired mode (rows ++ row ∷ []) asked' airings'
-aired_on law opens mode rows row asked asked' None played' airings added airings' settled' h s =
-    let quiet = quiet_row law opens mode (ended_from None rows) asked row.note (h.unplayed refl) in
-    let few : settled mode (ended_from None rows ++ ended_at asked row.note []) ≤ length airings =
-    omega (arith, quiet.same, h.one_each) in
-    aired_few law opens mode rows row asked asked' None played' airings added airings' settled' h s few
-aired_on law opens mode rows row asked asked' (Some time) played' airings added airings' settled' h s =
-    elim (ordered (length airings) settled') [
-      | inl w ↦ aired_few law opens mode rows row asked asked' (Some time) played' airings added airings' settled' h s
-          (omega (arith, w, s.settles))
-      | inr w ↦
-          let many : length airings < settled mode (ended_from None rows ++ ended_at asked row.note []) =
-          omega (arith, w, s.settles) in
-          let all = none_open law opens mode rows row asked (Some time) airings (all_ended airings) refl h many in
-          let more = s.more w time refl in
-          aired_more law opens mode rows row asked asked' time airings airings' h s.asks many
-          (noted added airings' row (subst HaveEnded (sym more) (push_ended airings _ all)) s.notes
-          ∙ ap (map (ended_by row)) more)
+added : SettledGrows → OpenGrows → (mode : Mode) (rows : List Row) (row : Row) (played : Option Moment)
+    (airings airings' : List Airing) → IsLastPlayIf rows played → length airings ≡ settled mode (ended_in rows)
+    → Are mode (rows ++ row ∷ []) airings
+    → Added played row (settled mode (ended_in (rows ++ row ∷ []))) airings airings'
+    → Are mode (rows ++ row ∷ []) airings' × (length airings' ≡ settled mode (ended_in (rows ++ row ∷ [])))
+added law opens mode rows row played airings airings' last one_each are a =
+    let all = rows ++ row ∷ [] in
+    let grown = step law opens mode rows row in
+    elim (cases_lt (length airings) (settled mode (ended_in all))) [
+      | inl many ↦
+          let now : settled mode (ended_in all) ≡ length airings + 1 = omega (arith, many, grown.most, one_each) in
+          let new = settled_now law opens mode rows row (length airings) played last (sym one_each) now in
+          let is = a.more many new.0 new.1 in (
+            subst (Are mode all) (sym is) (one_more mode all airings (new_airing new.0 row) are new.2),
+            ap length is ∙ length-append airings (new_airing new.0 row ∷ []) ∙ sym now,
+          )
+      | inr few ↦
+          let is = a.same few in (subst (Are mode all) (sym is) are, ap length is ∙ (omega (arith, few, grown.least, one_each)))
     ]
 
-record Played (rows : List Row) (asked : Option Command) (played : Option Moment) : Type 0 where
-  pub last : LastPlay rows played
-  pub unplayed : played ≡ None → Unplayed (ended_from None rows) asked
-
-some_none : (time : Moment) → ◌≡◌ {A = Option Moment} (Some time) None → ⊥
-some_none time e = cc e
-
-played_on : SettledGrows → OpenGrows → (mode : Mode) (rows : List Row) (row : Row) (asked asked' : Option Command)
-    (played played' : Option Moment) (airings added airings' : List Airing) (settled' : ℕ) (b : Bool)
-    → is_play_row row ≡ b → SoFar mode rows asked played airings
-    → Steps mode rows row asked asked' played played' airings added airings' settled'
-    → Played (rows ++ row ∷ []) asked' played'
-played_on law opens mode rows row asked asked' played played' airings added airings' settled' true is h s = record {
-  last = subst (LastPlay (rows ++ row ∷ [])) (sym (s.plays is)) (new_play rows row is);
-  unplayed = λ e. absurd (some_none row.time (sym (s.plays is) ∙ e));
-}
-played_on law opens mode rows row asked asked' played played' airings added airings' settled' false is h s = record {
-  last = subst (LastPlay (rows ++ row ∷ [])) (sym (s.plays_not is)) (old_play rows row played h.last is);
-  unplayed = λ e.
-      quiet_on law opens mode rows row asked asked' h.asked_is s.asks (h.unplayed (sym (s.plays_not is) ∙ e)) is;
-}
-
-few_on : (rows : List Row) (row : Row) (asked asked' : Option Command) → asked ≡ asked_after None rows
-    → asked' ≡ open_after asked row.note
-    → length (ended_from None rows) + length (exchange_with None asked []) ≤ length rows
-    → length (ended_from None (rows ++ row ∷ [])) + length (exchange_with None asked' []) ≤ length (rows ++ row ∷ [])
-few_on rows row asked asked' is asks few =
-    let log = ap length (log_on rows row asked is)
-    ∙ length-append (ended_from None rows) (ended_at asked row.note []) in
-    let asked_size = ap (λ a. length (exchange_with None a [])) asks in
-    omega (arith, few, log, asked_size, room asked row.note, length-append rows (row ∷ []))
-
-pub one_row_more : SettledGrows → OpenGrows → (mode : Mode) (rows : List Row) (row : Row)
-    (asked asked' : Option Command) (played played' : Option Moment) (airings added airings' : List Airing) (settled' : ℕ)
-    → SoFar mode rows asked played airings
-    → Steps mode rows row asked asked' played played' airings added airings' settled'
-    → SoFar mode (rows ++ row ∷ []) asked' played' airings'
-one_row_more law opens mode rows row asked asked' played played' airings added airings' settled' h s =
-    let aired = aired_on law opens mode rows row asked asked' played played' airings added airings' settled' h s in
-    let plays = played_on law opens mode rows row asked asked' played played' airings added airings' settled'
-    (is_play_row row) refl h s in
+-- the airings after one row more
+pub airings_more : SettledGrows → OpenGrows → (mode : Mode) (rows : List Row) (row : Row) (played : Option Moment)
+    (airings airings' airings'' : List Airing) (count : ℕ) (event : Option ℕ) → AreAirings mode rows airings event
+    → IsLastPlayIf rows played → Noted row airings airings' → count ≡ settled mode (ended_in (rows ++ row ∷ []))
+    → Added played row count airings' airings''
+    → AreAirings mode (rows ++ row ∷ []) airings'' (unsettled_event mode (rows ++ row ∷ []))
+airings_more law opens mode rows row played airings airings' airings'' count event h last n count_is a =
+    let one_each = h.one_each ∙ shown_is law mode rows in
+    let old = noted law opens mode rows row airings airings' h.are one_each n in
+    let new = added law opens mode rows row played airings' airings'' last (old.1 ∙ one_each) old.0
+    (subst (λ (m : ℕ). Added played row m airings' airings'') count_is a) in
     record {
-      asked_is = s.asks ∙ ap (λ a. open_after a row.note) h.asked_is ∙ sym (asked_on None rows row);
-      few = few_on rows row asked asked' h.asked_is s.asks h.few;
-      one_each = aired.one_each;
-      are = aired.are;
-      last = plays.last;
-      unplayed = plays.unplayed;
-      ended = aired.ended;
-      over = aired.over;
-    }
-
--- what ends an exchange leaves room for it
-pub fits : (mode : Mode) (rows : List Row) (asked : Option Command) (played : Option Moment) (airings : List Airing)
-    (n : Note) → SoFar mode rows asked played airings
-    → length (ended_from None rows) + length (ended_at asked n []) ≤ length rows + 1
-fits mode rows asked played airings n h = omega (arith, h.few, room asked n)
-
--- all rows: the exchange that is open is timed out
-pub all_shown : SettledGrows → (mode : Mode) (rows : List Row) (asked : Option Command) (played : Option Moment)
-    (airings : List Airing) (event : Option ℕ) (has announced : Bool) (count : ℕ) → SoFar mode rows asked played airings
-    → has ≡ may_have_aired mode (ended_from None rows ++ exchange_with None asked [])
-    → count ≡ settled mode (ended_from None rows ++ exchange_with None asked [])
-    → event ≡ (if has || announced then Some count else None) → announced ≡ announces_from false rows
-    → AreAirings mode rows airings event
-all_shown law mode rows asked played airings event has announced count h has_is count_is event_is announced_is =
-    let log : ended_from None rows ++ exchange_with None asked [] ≡ log_of rows =
-    ap (λ a. ended_from None rows ++ exchange_with None a []) h.asked_is ∙ sym (log_is None rows) in
-    record {
-      one_each = h.one_each ∙ sym (shown_is law mode rows);
-      are = h.are;
-      besides = event_is
-          ∙ ap (λ (b : Bool). if has || b then Some count else None) announced_is
-          ∙ ap₂ (λ (b : Bool) (n : ℕ). if b || announces_from false rows then Some n else None) (has_is ∙ ap (may_have_aired mode) log) (count_is ∙ ap (settled mode) log);
+      one_each = new.1 ∙ sym (shown_is law mode (rows ++ row ∷ []));
+      are = new.0;
+      besides = refl;
     }
 
 -- what is announced after one row more

@@ -1,5 +1,5 @@
 -- Ends that rows show, computed.
-use Rattle.std.proofs.Common.{◌≡◌, ℕ, Option, None, Some, List, [], ◌∷◌, refl}
+use Rattle.std.proofs.Common.{◌≡◌, ℕ, None, Some, [], ◌∷◌, refl}
 use Rattle.vdcp_auto.specs.declared.exchange.Heard.TheVariants as heard
 use Rattle.vdcp_journal.specs.Airings.{end_in}
 use Rattle.vdcp_journal.specs.declared.moment.Moment.{Moment}

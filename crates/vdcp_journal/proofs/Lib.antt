@@ -7,12 +7,14 @@ mod Moments
 mod BeforePlay
 mod Commands
 mod Told
+mod Raised
+mod RunsSoFar
 mod Lines
+mod LinesLeft
 mod CsvRows
 mod FieldTexts
-mod JournalRows
+mod RowFields
 mod JournalSteps
-mod AiringEnds
 mod EndExamples
 mod AiringSteps
 mod RunSteps

@@ -1,10 +1,9 @@
 -- Lines, and what is left of a text that is cut short.
-use Rattle.std.proofs.Common.{◌≡◌, ℕ, ◌+◌, ◌-◌, ◌<◌, ◌≤◌, get_or, zero, suc, Bool, true, false, List, [], ◌∷◌, ◌++◌, length, take, refl, sym, ap, ◌∙◌, append_assoc, arith, inl, inr}
-use Rattle.std.proofs.Math.Seq.{take-append-add, take-suc}
-use Rattle.std.proofs.lemmas.Bool.{ne_eqb}
+use Rattle.std.proofs.Common.{◌≡◌, ℕ, ◌+◌, ◌-◌, ◌<◌, ◌≤◌, zero, suc, Bool, true, false, List, [], ◌∷◌, ◌++◌, length, take, refl, sym, ap, ◌∙◌, append_assoc, arith, inl, inr}
+use Rattle.std.proofs.Math.Seq.{take-append-add}
 use Rattle.std.proofs.lemmas.List.{length-append, take-append-le}
 use Rattle.std.specs.List.{list_any}
-use Rattle.std.specs.Prelude.{◌≢◌, ◌==◌, ◌||◌, ◌⊎◌}
+use Rattle.std.specs.Prelude.{◌==◌, ◌||◌, ◌⊎◌}
 use Rattle.vdcp_journal.specs.Reading.{line_before, whole_lines}
 
 abbrev pub has_feed : List ℕ → Bool
@@ -67,19 +66,20 @@ before-some : (byte : ℕ) (body w : List ℕ) → line_before byte (body ++ 10 
 before-some byte [] w = refl
 before-some byte (x ∷ body) w = refl
 
-pub line-whole : (body rest : List ℕ) → whole_lines (body ++ 10 ∷ rest) ≡ body ++ 10 ∷ whole_lines rest
+line-whole : (body rest : List ℕ) → whole_lines (body ++ 10 ∷ rest) ≡ body ++ 10 ∷ whole_lines rest
 line-whole [] rest = before-feed (whole_lines rest)
 line-whole (x ∷ body) rest = ap (line_before x) (line-whole body rest) ∙ before-some x body (whole_lines rest)
 
-line-first : (line rest : List ℕ) → IsLine line → whole_lines (line ++ rest) ≡ line ++ whole_lines rest
-line-first line rest h =
-    ap (λ l. whole_lines (l ++ rest)) h.is ∙ ap whole_lines (append_assoc h.body (10 ∷ []) rest)
-    ∙ line-whole h.body rest
-    ∙ sym (append_assoc h.body (10 ∷ []) (whole_lines rest)) ∙ ap (λ l. l ++ whole_lines rest) (sym h.is)
+pub line-first : (body line rest : List ℕ) → line ≡ body ++ 10 ∷ []
+    → whole_lines (line ++ rest) ≡ line ++ whole_lines rest
+line-first body line rest is =
+    ap (λ l. whole_lines (l ++ rest)) is ∙ ap whole_lines (append_assoc body (10 ∷ []) rest)
+    ∙ line-whole body rest
+    ∙ sym (append_assoc body (10 ∷ []) (whole_lines rest)) ∙ ap (λ l. l ++ whole_lines rest) (sym is)
 
 pub all-whole : (lines : List (List ℕ)) → AreLines lines → whole_lines (joined lines) ≡ joined lines
 all-whole [] h = refl
-all-whole (line ∷ lines) h = line-first line (joined lines) h.0 ∙ ap (λ l. line ++ l) (all-whole lines h.1)
+all-whole (line ∷ lines) h = line-first h.0.body line (joined lines) h.0.is ∙ ap (λ l. line ++ l) (all-whole lines h.1)
 
 -- ---- a beginning of lines
 
@@ -113,7 +113,7 @@ beginning-of line lines n h more (inr long) =
       suc m,
       ap (λ (x : ℕ). whole_lines (take x (line ++ joined lines))) k
           ∙ ap whole_lines (take-append-add line (joined lines) (n - length line))
-          ∙ line-first line (take (n - length line) (joined lines)) h ∙ ap (λ l. line ++ l) is,
+          ∙ line-first h.body line (take (n - length line) (joined lines)) h.is ∙ ap (λ l. line ++ l) is,
     )
 
 either : (n m : ℕ) → (n ≤ m) ⊎ (m < n)
@@ -129,24 +129,3 @@ pub beginning : (lines : List (List ℕ)) → AreLines lines → (n : ℕ) → W
 beginning [] h zero = (0, refl)
 beginning [] h (suc n) = (0, refl)
 beginning (line ∷ lines) h n = beginning-of line lines n h.0 (beginning lines h.1) (either n (length line - 1))
-
--- ---- from the end
-
-last-plain : (xs : List ℕ) (b : ℕ) → (b == 10) ≡ false → whole_lines (xs ++ b ∷ []) ≡ whole_lines xs
-last-plain [] b e = before-none b e
-last-plain (x ∷ xs) b e = ap (line_before x) (last-plain xs b e)
-
--- the front of k + 1 bytes, by its last one
-
-pub torn-more : (text : List ℕ) (k : ℕ) → k < length text → get_or text k 0 ≢ 10
-    → whole_lines (take (suc k) text) ≡ whole_lines (take k text)
-torn-more text k below ne =
-    ap whole_lines (take-suc text k 0 below) ∙ last-plain (take k text) (get_or text k 0)
-    (ne_eqb (get_or text k 0) 10 ne)
-
-pub feed-last : (text : List ℕ) (k : ℕ) → k < length text → get_or text k 0 ≡ 10
-    → whole_lines (take (suc k) text) ≡ take (suc k) text
-feed-last text k below is =
-    let parts : take (suc k) text ≡ take k text ++ 10 ∷ [] =
-    take-suc text k 0 below ∙ ap (λ b. take k text ++ b ∷ []) is in
-    ap whole_lines parts ∙ line-whole (take k text) [] ∙ sym parts

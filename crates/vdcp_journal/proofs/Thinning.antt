@@ -21,7 +21,7 @@ use Rattle.vdcp_journal.specs.Thinned.{AreThinned, IsThinned, asks_state, before
 use Rattle.vdcp_journal.specs.declared.row.Note.{Note}
 use Rattle.vdcp_journal.specs.declared.row.Note.TheVariants as note
 use Rattle.vdcp_journal.specs.declared.row.Row.{Row}
-use Rattle.vdcp_journal.proofs.BeforePlay.{PlaysAlike, heard_after, plays, plays_alike}
+use Rattle.vdcp_journal.proofs.BeforePlay.{plays, plays_alike}
 use Rattle.vdcp_journal.proofs.StateAgain.{again, asks, once}
 use Rattle.vdcp_words.specs.declared.command.Command.{Command}
 use Rattle.vdcp_words.specs.declared.command.Command.TheVariants as command

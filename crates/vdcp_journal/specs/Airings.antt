@@ -3,16 +3,21 @@ use Rattle.std.specs.List.{list_any}
 use Rattle.std.specs.Option.{option_or}
 use Rattle.std.specs.Prelude.{◌≡◌, ℕ, ◌+◌, ◌||◌, ◌&&◌, Bool, false, IsTrue, Option, None, Some, List, [], ◌∷◌, ◌++◌, if◌then◌else◌, length, slice_get}
 use Rattle.vdcp_auto.specs.Commands.{is_play_command, is_status_command, is_stop_command}
+use Rattle.vdcp_auto.specs.Judging.{Knows}
 use Rattle.vdcp_auto.specs.Log.{hears}
 use Rattle.vdcp_auto.specs.Replies.{has_off, is_done, is_playing}
 use Rattle.vdcp_auto.specs.Settled.{may_have_aired, settled}
+use Rattle.vdcp_auto.specs.declared.exchange.Exchange.{Exchange}
 use Rattle.vdcp_auto.specs.declared.phase.Mode.{Mode}
-use Rattle.vdcp_journal.specs.Resume.{log_of}
+use Rattle.vdcp_journal.specs.Resume.{ended_at, log_of, open_after}
 use Rattle.vdcp_journal.specs.declared.airings.Airing.{Airing}
+use Rattle.vdcp_journal.specs.declared.airings.AiringsSoFar.{AiringsSoFar}
 use Rattle.vdcp_journal.specs.declared.moment.Moment.{Moment}
 use Rattle.vdcp_journal.specs.declared.row.Note.{Note}
 use Rattle.vdcp_journal.specs.declared.row.Note.TheVariants as note
 use Rattle.vdcp_journal.specs.declared.row.Row.{Row}
+use Rattle.vdcp_value.specs.declared.part.Item.{Item}
+use Rattle.vdcp_words.specs.declared.command.Command.{Command}
 
 -- a PLAY goes out
 abbrev pub sends_play : Note → Bool
@@ -95,3 +100,43 @@ pub record AreAirings (mode : Mode) (rows : List Row) (airings : List Airing) (e
   pub one_each : length airings ≡ settled_in mode rows
   pub are : (k : ℕ) (airing : Airing) → slice_get airings k ≡ Some airing → IsAiring mode rows k airing
   pub besides : event ≡ unsettled_event mode rows
+
+-- the command that is open after rows, if this one was open before them
+abbrev pub asked_after : Option Command → List Row → Option Command
+asked_after asked [] = asked
+asked_after asked (row ∷ rows) = asked_after (open_after asked row.note) rows
+
+-- the exchanges that the rows end
+abbrev pub ended_from : Option Command → List Row → List Exchange
+ended_from asked [] = []
+ended_from asked (row ∷ rows) = ended_at asked row.note (ended_from (open_after asked row.note) rows)
+
+-- a PLAY is open
+abbrev pub asks_play : Option Command → Bool
+asks_play None = false
+asks_play (Some c) = is_play_command c
+
+-- the last PLAY went out then
+pub record IsLastPlay (rows : List Row) (time : Moment) : Type 0 where
+  pub before : List Row
+  pub play : Row
+  pub after : List Row
+  pub in_order : rows ≡ before ++ (play ∷ after)
+  pub is_play : IsTrue (is_play_row play)
+  pub last : list_any is_play_row after ≡ false
+  pub time_is : time ≡ play.time
+
+-- when the last PLAY went out, if one did
+abbrev pub IsLastPlayIf : List Row → Option Moment → Type 0
+IsLastPlayIf rows None = list_any is_play_row rows ≡ false
+IsLastPlayIf rows (Some time) = IsLastPlay rows time
+
+-- what is found of the rows so far: their airings, what the judge knows of their exchanges that have ended, and what goes on
+pub record FoundSoFar {S : Type 0} (items : S → List Item) (mode : Mode) (rows : List Row) (so_far : AiringsSoFar S) :
+    Type 0 where
+  pub mode_is : so_far.judge.mode ≡ mode
+  pub knows : Knows items (ended_from None rows) so_far.judge
+  pub asked_is : so_far.asked ≡ asked_after None rows
+  pub announced_is : so_far.announced ≡ announces_from false rows
+  pub played : IsLastPlayIf rows so_far.played
+  pub are : AreAirings mode rows so_far.airings.items (unsettled_event mode rows)

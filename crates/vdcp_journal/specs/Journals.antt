@@ -1,7 +1,7 @@
 -- Which journal lines are, and which of them is refused.
 use Rattle.hex.specs.Hex.{encode_lower}
-use Rattle.std.specs.Prelude.{◌≡◌, ◌≢◌, ℕ, ◌+◌, ◌<◌, ◌≤◌, ◌^◌, ◌⊎◌, ⊤, Some, List, [], ◌∷◌, codes, decimal, drop, length, take, slice_get}
-use Rattle.vdcp_journal.specs.Reading.{AreWritable, IsWritableHeading, IsWritableNote, whole_lines}
+use Rattle.std.specs.Prelude.{◌≡◌, ◌≢◌, ℕ, ◌+◌, ◌<◌, ◌≤◌, ◌^◌, ◌⊎◌, ⊤, Option, Some, List, [], ◌∷◌, codes, decimal, drop, length, option_map, take, slice_get}
+use Rattle.vdcp_journal.specs.Reading.{AreWritable, IsWritableHeading, IsWritableNote}
 use Rattle.vdcp_journal.specs.Rows.{Fields, heading_fields, journal_fields, mode_text, note_fields, row_fields}
 use Rattle.vdcp_journal.specs.Times.{moment_text}
 use Rattle.vdcp_journal.specs.declared.faults.JournalReadFault.TheVariants as refused
@@ -9,12 +9,13 @@ use Rattle.vdcp_journal.specs.declared.faults.JournalReadFault.{JournalReadFault
 use Rattle.vdcp_journal.specs.declared.faults.JournalRowFault.TheVariants as wrong
 use Rattle.vdcp_journal.specs.declared.faults.JournalRowFault.{JournalRowFault}
 use Rattle.vdcp_journal.specs.declared.moment.Moment.{Moment}
-use Rattle.vdcp_journal.specs.declared.read.Journal.{Journal}
+use Rattle.vdcp_journal.specs.declared.read.JournalRows.{JournalRows}
 use Rattle.vdcp_journal.specs.declared.row.Heading.{Heading}
 use Rattle.vdcp_journal.specs.declared.row.Note.{Note}
 use Rattle.vdcp_journal.specs.declared.row.Row.{Row}
 use Rattle.vdcp_auto.specs.declared.phase.Mode.{Mode}
-use Rattle.vdcp_list.specs.Rows.{rows_of}
+use Rattle.vdcp_list.specs.Reading.{IsFront, IsSet, rows_left}
+use Rattle.vdcp_list.specs.Rows.{FileBytes, HasRows, rows_of}
 use Rattle.vdcp_value.specs.Bytes.{AreBytes}
 
 -- a heading that can be written, of a server at unit 0 to 15
@@ -97,11 +98,31 @@ IsLinesFault lines (refused.Long k) = ⊤
 IsLinesFault lines refused.Memory = ⊤
 IsLinesFault lines refused.Device = ⊤
 
--- the whole lines of the bytes, read as CSV, are the rows of a journal
-pub record IsJournal (bytes : List ℕ) (journal : Journal) : Type 0 where
-  pub lines : AreLinesOf (rows_of (whole_lines bytes)) journal.time journal.heading journal.rows.items
-  pub whole : journal.whole ≡ length (whole_lines bytes)
+-- a journal: when it was begun, what it is of, and its rows, the heading apart
+pub record Journal : Type 0 where
+  pub time : Moment
+  pub heading : Heading
+  pub rows : List Row
 
--- why bytes are no journal
-abbrev pub IsJournalFault : List ℕ → JournalReadFault → Type 0
-IsJournalFault bytes fault = IsLinesFault (rows_of (whole_lines bytes)) fault
+-- the lines of a file, if its bytes are known, read as CSV, are the rows of a journal
+abbrev pub IsJournal : FileBytes → Journal → Type 0
+IsJournal file journal = HasRows file (λ lines. AreLinesOf lines journal.time journal.heading journal.rows)
+
+-- why they are none
+abbrev pub IsJournalFault : FileBytes → JournalReadFault → Type 0
+IsJournalFault file fault = HasRows file (λ lines. IsLinesFault lines fault)
+
+-- the rows of a journal are being read: neither the end nor a fault has come
+pub record IsReading {R : Type 0} (journal : JournalRows R) : Type 0 where
+  pub set : IsSet journal.lines
+  pub unit : journal.heading.unit ≤ 15
+
+-- these rows were taken of a file, if its bytes are known: the lines that were read are the heading and they, and the
+-- others are left
+pub record TookRows {R : Type 0} (remaining : R → Option (List ℕ)) (file : Option (List ℕ)) (journal : JournalRows R)
+    (rows : List Row) : Type 0 where
+  pub reading : IsReading journal
+  pub lines : List Fields
+  pub front : IsFront (option_map rows_of file) (rows_left remaining journal.lines) lines
+  pub lines_are : AreLinesOf lines journal.time journal.heading rows
+  pub number : journal.number ≡ length lines

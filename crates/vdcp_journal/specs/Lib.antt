@@ -4,6 +4,7 @@ pub mod Times
 pub mod Clocks
 pub mod Rows
 pub mod Resume
+pub mod RunsSoFar
 pub mod Airings
 pub mod Thinned
 pub mod Runs

@@ -1,5 +1,5 @@
 -- What is read of a journal's bytes.
-use Rattle.std.specs.Prelude.{ℕ, ◌<◌, ◌^◌, ◌==◌, ⊤, List, [], ◌∷◌, if◌then◌else◌}
+use Rattle.std.specs.Prelude.{ℕ, ◌<◌, ◌^◌, ◌==◌, ⊤, List, [], ◌∷◌, ◌++◌, Option, if◌then◌else◌, option_map, slice_range}
 use Rattle.vdcp_auto.specs.declared.exchange.Heard.TheVariants as heard
 use Rattle.vdcp_auto.specs.declared.outcome.Outcome.{Outcome}
 use Rattle.vdcp_auto.specs.declared.outcome.Outcome.TheVariants.{Done, Stopped, Lost, Denied, Missing, Refused, Foreign, Strange}
@@ -7,6 +7,7 @@ use Rattle.vdcp_journal.specs.declared.row.Heading.{Heading}
 use Rattle.vdcp_journal.specs.declared.row.Note.{Note}
 use Rattle.vdcp_journal.specs.declared.row.Note.TheVariants as note
 use Rattle.vdcp_journal.specs.declared.row.Row.{Row}
+use Rattle.vdcp_journal.specs.declared.whole.WholeLines.{WholeLines}
 use Rattle.vdcp_value.specs.Bytes.{AreBytes}
 use Rattle.vdcp_words.specs.Commands.{IsWritableCommand}
 use Rattle.vdcp_words.specs.Replies.{IsWritableReply}
@@ -20,6 +21,19 @@ line_before byte (next ∷ more) = byte ∷ next ∷ more
 abbrev pub whole_lines : List ℕ → List ℕ
 whole_lines [] = []
 whole_lines (byte ∷ more) = line_before byte (whole_lines more)
+
+-- what is held of whole lines, and isn't given yet
+abbrev pub line_held : {R : Type 0} → WholeLines R → List ℕ
+line_held lines = slice_range lines.held.items lines.given lines.whole
+
+-- what is held after them: the beginning of a line, or lines that aren't found yet
+abbrev pub begun_held : {R : Type 0} → WholeLines R → List ℕ
+begun_held lines = slice_range lines.held.items lines.whole lines.filled
+
+-- the whole lines that are left, if the bytes that their reader has are known
+abbrev pub lines_left : {R : Type 0} → (R → Option (List ℕ)) → WholeLines R → Option (List ℕ)
+lines_left remaining lines =
+    option_map (λ more. line_held lines ++ whole_lines (begun_held lines ++ more)) (remaining lines.reader)
 
 -- the event's number is one of the machine's
 abbrev pub IsWritableOutcome : Outcome → Type 0

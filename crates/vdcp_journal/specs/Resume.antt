@@ -1,11 +1,12 @@
 -- What the rows of a journal make of a controller, and the log that they show.
-use Rattle.std.specs.Prelude.{◌≡◌, ℕ, ◌+◌, ◌*◌, min, ⊤, Bool, true, false, IsTrue, Option, None, Some, is_some, List, [], ◌∷◌, take, slice_get, count_by}
+use Rattle.std.specs.Prelude.{◌≡◌, ◌⊎◌, ℕ, ◌+◌, ◌*◌, min, ⊤, Bool, true, false, IsTrue, Option, None, Some, is_some, List, [], ◌∷◌, take, slice_get, count_by}
 use Rattle.vdcp_auto.specs.Course.{Call, Tick, Receive, Take, Stop, after_call}
 use Rattle.vdcp_auto.specs.Plan.{Plan}
 use Rattle.vdcp_auto.specs.State.{State}
 use Rattle.vdcp_auto.specs.Turn.{came_to, ended_by, given, outcome_of, start}
 use Rattle.vdcp_auto.specs.declared.exchange.Exchange.{Exchange}
 use Rattle.vdcp_auto.specs.declared.exchange.Heard.{Heard}
+use Rattle.vdcp_auto.specs.declared.outcome.Outcome.{Outcome as Ending}
 use Rattle.vdcp_auto.specs.declared.outcome.Outcome.TheVariants.{Lost}
 use Rattle.vdcp_journal.specs.declared.faults.ResumeFault.{ResumeFault}
 use Rattle.vdcp_journal.specs.declared.faults.ResumeFault.TheVariants.{Command, Unawaited, Outcome}
@@ -35,7 +36,7 @@ after_rows plan state (row ∷ rows) = after_rows plan (after_call_if plan (call
 
 -- the note is what the controller does there: a command is the one that it gives, what came ends an exchange,
 -- the operator's calls come while it goes on, and an end is the one that it came to. A loss may be gone on from, under a
--- greater limit: `WereLost` says where it stands. No controller begins another run
+-- greater limit: `Stands` says where it stands. No controller begins another run
 abbrev pub Tells : Plan → State → Note → Type 0
 Tells plan state (note.Sent c) = given plan state ≡ Some c
 Tells plan state (note.Heard h) = IsTrue (is_some (ended_by plan (Some h) state))
@@ -72,42 +73,41 @@ plan_after plan rows = record plan { limit = limit_after plan.limit (losses rows
 abbrev pub IsLostAfter : Plan → List Row → Type 0
 IsLostAfter plan rows = outcome_of (after_rows (plan_after plan rows) start rows).stage ≡ Some Lost
 
--- the run was lost wherever a row says so
-abbrev pub WereLost : Plan → List Row → Type 0
-WereLost plan rows =
-    (k : ℕ) (row : Row) → slice_get rows k ≡ Some row → IsTrue (is_loss row.note) → IsLostAfter plan (take k rows)
+-- a run may go on: it hasn't ended, or it was lost
+abbrev pub MayGoOn : Option Ending → Type 0
+MayGoOn outcome = (outcome ≡ None) ⊎ (outcome ≡ Some Lost)
 
--- row k says that the run was lost, if it wasn't
-pub record IsFalseLoss (plan : Plan) (rows : List Row) (fault : ResumeFault) : Type 0 where
-  pub k : ℕ
-  pub row : Row
-  pub at_k : slice_get rows k ≡ Some row
-  pub says : IsTrue (is_loss row.note)
-  pub goes_on : ¬ IsLostAfter plan (take k rows)
-  pub fault_is : fault ≡ Outcome k
+-- a note stands after these rows of a run: it tells what the controller does that went on then, and a loss stands where
+-- that was lost
+abbrev pub Stands : Plan → List Row → Note → Type 0
+Stands plan rows n = Tells (plan_after plan rows) (after_rows (plan_after plan rows) start rows) n
+    × (IsTrue (is_loss n) → IsLostAfter plan rows)
+
+-- each row stands where it is
+abbrev pub AllStand : Plan → List Row → Type 0
+AllStand plan rows = (k : ℕ) (row : Row) → slice_get rows k ≡ Some row → Stands plan (take k rows) row.note
 
 -- the exchange that is open is timed out
 abbrev pub timed_out : Plan → State → State
 timed_out plan state = came_to plan None state
 
--- the fault of a note that doesn't tell what the controller does
-abbrev pub fault_of : ℕ → Note → ResumeFault
-fault_of k (note.Sent c) = Command k
-fault_of k (note.Heard h) = Unawaited k
-fault_of k note.Silence = Unawaited k
-fault_of k note.Take = Unawaited k
-fault_of k note.Stop = Unawaited k
-fault_of k (note.End outcome) = Outcome k
-fault_of k (note.From event) = Unawaited k
+-- the fault of a note that doesn't stand
+abbrev pub fault_of : Note → ResumeFault
+fault_of (note.Sent c) = Command
+fault_of (note.Heard h) = Unawaited
+fault_of note.Silence = Unawaited
+fault_of note.Take = Unawaited
+fault_of note.Stop = Unawaited
+fault_of (note.End outcome) = Outcome
+fault_of (note.From event) = Unawaited
 
--- row k is the first that doesn't tell what the controller does there
-pub record IsResumeFault (plan : Plan) (state : State) (rows : List Row) (fault : ResumeFault) : Type 0 where
-  pub k : ℕ
+-- row k is the first that doesn't stand
+pub record IsResumeFault (plan : Plan) (rows : List Row) (k : ℕ) (fault : ResumeFault) : Type 0 where
   pub row : Row
   pub at_k : slice_get rows k ≡ Some row
-  pub told : AreTold plan state (take k rows)
-  pub untold : ¬ Tells plan (after_rows plan state (take k rows)) row.note
-  pub fault_is : fault ≡ fault_of k row.note
+  pub before : AllStand plan (take k rows)
+  pub falls : ¬ Stands plan (take k rows) row.note
+  pub fault_is : fault ≡ fault_of row.note
 
 -- The log that rows show, whatever controller they are of: each command, and what ended its exchange. The
 -- command that stands last, with nothing after it, was timed out.

@@ -1,9 +1,8 @@
 -- The runs of a journal, one after another. Each has a controller of its own, which begins with an event of the list.
-use Rattle.std.specs.Prelude.{ℕ, ◌+◌, ◌-◌, List, [], ◌∷◌, ◌++◌, Option, None, Some, drop, length, take}
+use Rattle.std.specs.Prelude.{ℕ, ◌+◌, List, [], ◌∷◌, ◌++◌, Option, None, Some, length}
 use Rattle.vdcp_journal.specs.declared.row.Note.{Note}
 use Rattle.vdcp_journal.specs.declared.row.Note.TheVariants as note
 use Rattle.vdcp_journal.specs.declared.row.Row.{Row}
-use Rattle.vdcp_journal.specs.declared.runs.JournalRun.{JournalRun}
 
 pub record Run : Type 0 where
   -- the event that its controller begins with
@@ -38,10 +37,27 @@ runs_after run [] = run ∷ []
 runs_after run (row ∷ rows) =
     ended_runs (begins_at row.note) run ++ runs_after (run_after (begins_at row.note) row run) rows
 
--- the runs of a journal's rows: the first begins with event 0
-abbrev pub runs_of : List Row → List Run
-runs_of rows = runs_after (record { from = 0; begin = 0; rows = [] }) rows
+-- the run that goes on after them
+abbrev pub last_after : Run → List Row → Run
+last_after run [] = run
+last_after run (row ∷ rows) = last_after (run_after (begins_at row.note) row run) rows
 
--- the run that has its rows at these places
-abbrev pub run_at : List Row → JournalRun → Run
-run_at rows run = record { from = run.from; begin = run.begin; rows = take (run.end - run.begin) (drop run.begin rows) }
+-- the runs before that
+abbrev pub ended_after : Run → List Row → List Run
+ended_after run [] = []
+ended_after run (row ∷ rows) =
+    ended_runs (begins_at row.note) run ++ ended_after (run_after (begins_at row.note) row run) rows
+
+-- the first run begins with event 0
+abbrev pub first_run : Run
+first_run = record { from = 0; begin = 0; rows = [] }
+
+-- the runs of a journal's rows; the last of them; and those before that
+abbrev pub runs_of : List Row → List Run
+runs_of rows = runs_after first_run rows
+
+abbrev pub last_run : List Row → Run
+last_run rows = last_after first_run rows
+
+abbrev pub ended_in : List Row → List Run
+ended_in rows = ended_after first_run rows

@@ -1,17 +1,19 @@
 //! When the events aired that the rows of a run report.
-ghost use Rattle.std.specs.Prelude.{◌≡◌, ◌≤◌, ◌<◌, ◌+◌, ◌^◌, ◌∷◌, ◌++◌, ◌||◌, [], IfOk, IsFalse, IsTrue, List, None, OnOk, Some, false, length, if◌then◌else◌, slice_get, slice_set, ℕ};
-ghost use Rattle.vdcp_auto.specs.declared.exchange.Exchange.{Exchange};
+ghost use Rattle.std.specs.Prelude.{◌≡◌, ◌≤◌, ◌<◌, ◌+◌, ◌^◌, ◌∷◌, ◌++◌, ◌||◌, [], List, None, OnOk, Some, length, if◌then◌else◌, slice_get, slice_set, ℕ};
+ghost use Rattle.vdcp_auto.specs.Judging.{Knows};
 ghost use Rattle.vdcp_auto.specs.Log.{hears};
 ghost use Rattle.vdcp_auto.specs.Replies.{has_off, is_done, is_playing};
-ghost use Rattle.vdcp_journal.specs.Airings.{AreAirings, announces_after, announces_from, ended_by, is_play_row, shows_end};
+ghost use Rattle.vdcp_auto.specs.declared.exchange.Exchange.{Exchange};
+ghost use Rattle.vdcp_auto.specs.declared.phase.Mode.{Mode};
+ghost use Rattle.vdcp_journal.specs.Airings.{AreAirings, FoundSoFar, announces_after, asks_play, end_in, ended_by, is_play_row, shows_end, unsettled_event};
 ghost use Rattle.vdcp_journal.specs.Resume.{ended_at, exchange_with, open_after};
-ghost use Rattle.vdcp_auto.specs.Judging.{Knows};
+ghost use Rattle.vdcp_journal.specs.declared.row.Row.{Row};
 
 use crate::moment::Moment;
 use crate::row::{Note, Row};
 use std::alloc::{AllocError, Global};
 use vdcp_auto::laws::a_log_grows;
-use vdcp_auto::{Controller, Exchange, Heard, Judge, Source};
+use vdcp_auto::{Exchange, Heard, Judge, Mode, Source};
 use vdcp_list::Timed;
 use vdcp_words::{Command, Reply};
 
@@ -61,39 +63,72 @@ pub struct Airings {
     pub unsettled: Option<usize>,
 }
 
-/// When the events aired that the rows of a journal report, and which may have aired besides. The controller is one of
-/// the journal's list and mode.
-pub fn airings_in<S: Source>(
-    alloc: Global,
-    controller: &Controller<S>,
-    rows: &[Row],
-) -> Result<Airings, AllocError>
-    ensures { IfOk result (λ found. AreAirings controller.now.mode rows.now found.airings.items found.unsettled) }
-{
-    a_log_grows();
-    let mut judge = judge_of(controller);
-    let mut asked = None;
-    let mut played = None;
-    let mut airings = Vec::new(alloc);
-    for k in 0..rows.len() {
-        let row = &rows[k];
-        follow(&mut judge, &mut asked, &row.note);
-        add_airing(&mut airings, judge.settled(), played, row.time)?;
-        note_end(&mut airings, row);
-        played = last_play(played, row);
-    }
-    end(&mut judge, &mut asked, None);
-    let announced = announces(rows);
-    let unsettled = unsettled_event(&judge, announced);
-    Ok(Airings { airings, unsettled })
+/// When the events aired that a run reports, by its rows so far.
+///
+/// - `add` takes the row that comes next.
+/// - `unsettled` only looks, and `finish` gives all that is found.
+///
+/// What a clause says of rows holds of whichever were added, from the first on.
+#[derive(Drop)]
+pub struct AiringsSoFar<S: Source> {
+    judge: Judge<S>,
+    // The command that is open.
+    asked: Option<Command>,
+    // The rows end with what announces a PLAY.
+    announced: bool,
+    // When the last PLAY went out.
+    played: Option<Moment>,
+    airings: Vec<Airing>,
 }
 
-/// A judge of a controller that is new.
-fn judge_of<S: Source>(controller: &Controller<S>) -> Judge<&S>
-    ensures mode { result.mode ≡ controller.now.mode }
-    ensures knows { Knows (λ source. S.items source.now) [] result }
-{
-    Judge::new(controller.source(), controller.snapshot().mode)
+impl<S: Source + Drop> AiringsSoFar<S> {
+    /// Of no rows yet, in this mode. Of which list they are doesn't matter: the log alone says what aired.
+    pub fn new(alloc: Global, source: S, mode: Mode) -> Self
+        ensures { FoundSoFar S.items mode [] result }
+    {
+        AiringsSoFar {
+            judge: Judge::new(source, mode),
+            asked: None,
+            announced: false,
+            played: None,
+            airings: Vec::new(alloc),
+        }
+    }
+
+    /// Takes the row that comes next, after fewer than 2^64 - 1. Where memory is refused it is of no more use.
+    pub fn add(&mut self, row: &Row) -> Result<(), AllocError>
+        ensures { (mode : Mode) (rows : List Row) → FoundSoFar S.items mode rows self.old → length rows + 1 < 2 ^ 64 →
+            OnOk result (FoundSoFar S.items mode (rows ++ row.now ∷ []) self.new) }
+    {
+        a_log_grows();
+        follow(&mut self.judge, &mut self.asked, &row.note);
+        note_end(&mut self.airings, row);
+        let settled = self.judge.settled();
+        add_airing(&mut self.airings, settled, self.played, row)?;
+        self.played = last_play(self.played, row);
+        self.announced = announces_after(self.announced, &row.note);
+        Ok(())
+    }
+
+    /// The event that may have aired besides those that the rows show to be aired.
+    #[tactic(auto, using(crate::proofs::AiringSteps::unsettled_is))]
+    pub fn unsettled(&self) -> Option<usize>
+        ensures { (mode : Mode) (rows : List Row) → FoundSoFar S.items mode rows self.now →
+            result ≡ unsettled_event mode rows }
+    {
+        a_log_grows();
+        unsettled_event(&self.judge, self.asked, self.announced)
+    }
+
+    /// When the events aired that the rows report, and which may have aired besides.
+    pub fn finish(self) -> Airings
+        ensures { (mode : Mode) (rows : List Row) → FoundSoFar S.items mode rows self →
+            AreAirings mode rows result.airings.items result.unsettled }
+    {
+        let unsettled = self.unsettled();
+        let AiringsSoFar { airings, .. } = self;
+        Airings { airings, unsettled }
+    }
 }
 
 /// Gives a judge the exchange that a note ends, if it ends one, and notes which command is open.
@@ -124,23 +159,27 @@ fn end<S: Source>(judge: &mut Judge<S>, asked: &mut Option<Command>, heard: Opti
     *asked = None;
 }
 
-/// Adds an airing if more events are settled than have one.
+/// Adds an airing if more events are settled than have one, which then this row settles.
 fn add_airing(
     airings: &mut Vec<Airing>,
     settled: usize,
     played: Option<Moment>,
-    known: Moment,
+    row: &Row,
 ) -> Result<(), AllocError>
     ensures same { OnOk result (settled ≤ length airings.old.items → airings.new.items ≡ airings.old.items) }
     ensures more { OnOk result (length airings.old.items < settled → (play : Moment) → played ≡ Some play →
-        airings.new.items ≡ airings.old.items ++ record { played = play; known = known; ended = None } ∷ []) }
+        airings.new.items ≡ airings.old.items
+        ++ record { played = play; known = row.now.time; ended = end_in (row.now ∷ []) } ∷ []) }
 {
     match played {
-        Some(played) if airings.len() < settled => airings.push(Airing {
-            played,
-            known,
-            ended: None,
-        })?,
+        Some(played) if airings.len() < settled => {
+            let airing = Airing {
+                played,
+                known: row.time,
+                ended: None,
+            };
+            airings.push(ended_by(airing, row))?;
+        }
         _ => {}
     }
     Ok(())
@@ -183,8 +222,7 @@ fn shows_end(note: &Note) -> bool
 
 /// When the last PLAY went out, this row included.
 fn last_play(before: Option<Moment>, row: &Row) -> Option<Moment>
-    ensures play { IsTrue (is_play_row row.now) → result ≡ Some row.now.time }
-    ensures other { IsFalse (is_play_row row.now) → result ≡ before }
+    ensures { result ≡ (if is_play_row row.now then Some row.now.time else before) }
 {
     match row.note {
         Note::Sent(Command::Play) => Some(row.time),
@@ -192,18 +230,7 @@ fn last_play(before: Option<Moment>, row: &Row) -> Option<Moment>
     }
 }
 
-/// Whether the rows end with what announces a PLAY.
-fn announces(rows: &[Row]) -> bool
-    ensures { result ≡ announces_from false rows.now }
-{
-    let mut announced = false;
-    for k in 0..rows.len() {
-        announced = announces_after(announced, &rows[k].note);
-    }
-    announced
-}
-
-/// Whether that is so after a note, if it was before.
+/// Whether the rows announce a PLAY after this note, `before` saying whether they did without it.
 fn announces_after(before: bool, note: &Note) -> bool
     ensures { result ≡ announces_after before note.now }
 {
@@ -249,13 +276,25 @@ fn hears_idle(heard: &Heard) -> bool
     }
 }
 
-/// The event that may have aired besides those that are settled, by what a judge knows, or as its PLAY is announced.
-fn unsettled_event<S: Source>(judge: &Judge<S>, announced: bool) -> Option<usize>
-    ensures { result ≡ (if judge.now.may_have_aired || announced then Some judge.now.settled else None) }
+/// The first event that isn't settled, if its PLAY is open or was sent, or is announced.
+fn unsettled_event<S: Source>(
+    judge: &Judge<S>,
+    asked: Option<Command>,
+    announced: bool,
+) -> Option<usize>
+    ensures { result ≡ (if (asks_play asked || judge.now.may_have_aired) || announced
+        then Some judge.now.settled else None) }
 {
-    if judge.may_have_aired() || announced {
+    if asks_play(asked) || judge.may_have_aired() || announced {
         Some(judge.settled())
     } else {
         None
     }
+}
+
+/// Whether a PLAY is open.
+fn asks_play(asked: Option<Command>) -> bool
+    ensures { result ≡ asks_play asked }
+{
+    matches!(asked, Some(Command::Play))
 }

@@ -12,19 +12,18 @@ pub enum JournalWriteFault {
     Memory,
 }
 
-/// Why a controller can't go on from a journal's rows: they aren't what a controller of this kind and list does.
-/// The row is counted from 0, the heading apart.
+/// Why a row doesn't stand after those before it: the controller that goes on from them doesn't send, await or come to that.
 #[derive(Clone, Copy, Debug, PartialEq, Eq, Error)]
 pub enum ResumeFault {
-    /// The controller doesn't send the command of this row there.
-    #[error("note {0} has a command that the controller doesn't send there")]
-    Command(usize),
+    /// The controller doesn't send the row's command there.
+    #[error("has a command that the controller doesn't send there")]
+    Command,
     /// Nothing is awaited at this row, or what came doesn't end the exchange; or the controller has ended before it.
-    #[error("note {0} has something that the controller doesn't await there")]
-    Unawaited(usize),
+    #[error("has something that the controller doesn't await there")]
+    Unawaited,
     /// The controller hasn't ended so at this row.
-    #[error("note {0} has an end that the controller doesn't come to there")]
-    Outcome(usize),
+    #[error("has an end that the controller doesn't come to there")]
+    Outcome,
 }
 
 /// Why bytes are no journal. Lines are tested one after another, and the first refusal is given.

@@ -1,16 +1,17 @@
 //! The laws of the definitions in `specs/`. What a law says is the contract of its function.
 
-ghost use Rattle.std.specs.Prelude.{◌≡◌, ◌≤◌, ℕ, List, take};
+ghost use Rattle.std.specs.Prelude.{◌≡◌, ◌≤◌, ℕ, List, [], ◌∷◌, ◌++◌, ◌+◌, length, take};
 ghost use Rattle.vdcp_auto.specs.Course.{Reached};
 ghost use Rattle.vdcp_auto.specs.Law.{IsLawful};
 ghost use Rattle.vdcp_auto.specs.Plan.{Plan};
 ghost use Rattle.vdcp_auto.specs.Settled.{may_have_aired};
-ghost use Rattle.vdcp_auto.specs.Turn.{start};
+ghost use Rattle.vdcp_auto.specs.Turn.{outcome_of, start};
 ghost use Rattle.vdcp_auto.specs.declared.phase.Mode.{Mode};
 ghost use Rattle.vdcp_journal.specs.Airings.{settled_in};
-ghost use Rattle.vdcp_journal.specs.Resume.{AreTold, after_rows, log_of, timed_out};
+ghost use Rattle.vdcp_journal.specs.Resume.{AreTold, MayGoOn, after_rows, log_of, timed_out};
 ghost use Rattle.vdcp_journal.specs.Reading.{AreWritable, IsWritableHeading, whole_lines};
 ghost use Rattle.vdcp_journal.specs.Rows.{journal_fields, journal_text};
+ghost use Rattle.vdcp_journal.specs.Runs.{begins_at, ended_in, ended_runs, last_run, run_after, runs_of};
 ghost use Rattle.vdcp_journal.specs.Thinned.{AreThinned};
 ghost use Rattle.vdcp_journal.specs.declared.moment.Moment.{Moment};
 ghost use Rattle.vdcp_journal.specs.declared.row.Heading.{Heading};
@@ -31,6 +32,24 @@ pub fn what_is_told_is_lawful()
 {
     reached_is_lawful();
 }
+
+/// What a run did that was lost, or goes on, each controller with a greater limit would have done: its rows tell what that
+/// one does. So it may go on as that one.
+pub fn a_greater_limit_tells_the_same()
+    ensures { (plan : Plan) (limit : ℕ) (rows : List Row) → plan.limit ≤ limit → AreTold plan start rows →
+        MayGoOn (outcome_of (after_rows plan start rows).stage) →
+        AreTold (record plan { limit = limit }) start rows }
+{}
+
+/// The runs of a journal follow one another: a further row belongs to its last run, or begins another one after it.
+pub fn runs_follow_one_another()
+    ensures all { (rows : List Row) → runs_of rows ≡ ended_in rows ++ last_run rows ∷ [] }
+    ensures goes_on { (rows : List Row) (row : Row) → last_run (rows ++ row ∷ [])
+        ≡ run_after (begins_at row.note) row (last_run rows) }
+    ensures ends { (rows : List Row) (row : Row) → ended_in (rows ++ row ∷ [])
+        ≡ ended_in rows ++ ended_runs (begins_at row.note) (last_run rows) }
+    ensures counts { (rows : List Row) → (last_run rows).begin + length (last_run rows).rows ≡ length rows }
+{}
 
 /// The whole lines of a journal, read as CSV, are its rows. Of a journal that is cut short anywhere, as by a
 /// writer that was killed, the whole lines are a front of its rows: a torn row is left out.

@@ -6,18 +6,14 @@
 //!
 //! `Moment::of_unix_millis` is the moment of a clock's time, and `digest_of` the digest of a list.
 //!
-//! `read_journal` reads a journal's bytes, and leaves out a last row that was torn.
+//! `JournalRows` reads a journal's rows, one after another, and `WholeLines` leaves out a last one that was torn.
 //!
-//! `resume` gives a new controller the rows of a journal, and times out the exchange that was open.
-//! `airings_in` finds in them when each reported event aired, and which event may have aired besides.
+//! A journal may have the rows of several runs, one after another: `begins_at` says whether a row begins another one.
+//! `RunSoFar` makes the controller of a run anew, row by row; where the run was lost it goes on under a greater limit.
+//! `AiringsSoFar` finds when each reported event aired, and which event may have aired besides.
 //!
-//! A journal may have the rows of several runs, one after another: `runs_in` finds them. `resume` and `airings_in` are
-//! given those of one run.
-//!
-//! A run that was lost goes on from its journal, too: `limit_after` is the limit under which it does.
-//!
-//! Files, in reading order: `moment`, `digest`, `row`, `fields`, `texts`, `write`, `read`, `faults`, `replay`,
-//! `losses`, `airings`, `runs`, `laws`.
+//! Files, in reading order: `moment`, `digest`, `row`, `fields`, `texts`, `write`, `whole`, `size`, `read`, `faults`,
+//! `replay`, `losses`, `airings`, `runs`, `laws`.
 #![tactic(auto)]
 
 mod airings;
@@ -31,16 +27,19 @@ mod read;
 mod replay;
 mod row;
 mod runs;
+mod size;
 mod texts;
+mod whole;
 mod write;
 
-pub use airings::{Airing, Airings, airings_in};
+pub use airings::{Airing, Airings, AiringsSoFar};
 pub use digest::digest_of;
 pub use faults::{JournalReadFault, JournalRowFault, JournalWriteFault, ResumeFault};
-pub use losses::{are_lost, is_loss, limit_after};
 pub use moment::Moment;
-pub use read::{Journal, read_journal};
-pub use replay::{Resumed, resume};
+pub use read::JournalRows;
+pub use replay::{Resumed, RunSoFar};
 pub use row::{Heading, Note, Row};
-pub use runs::{JournalRun, runs_in};
+pub use runs::begins_at;
+pub use size::size_of_lines;
+pub use whole::WholeLines;
 pub use write::{write_heading, write_row};

@@ -1,11 +1,12 @@
-//! How a journal is read from its bytes.
+//! How the rows of a journal are read.
 ghost use Rattle.csv.specs.Records.{fields_of};
-ghost use Rattle.std.specs.Prelude.{List, ◌≡◌, ◌≢◌, ◌≤◌, ◌<◌, ◌^◌, ◌∷◌, ◌↔◌, [], ℕ, IfErr, IfOk, IfSome, IfNone, IsTrue, Some, codes, decimal, length, slice_get, take};
+ghost use Rattle.std.specs.Prelude.{List, Option, ◌≡◌, ◌≢◌, ◌≤◌, ◌<◌, ◌^◌, ◌++◌, ◌∷◌, ◌↔◌, [], ℕ, IfErr, IfOk, IfSome, IfNone, IsTrue, OnSome, Some, codes, decimal, length, slice_get};
 ghost use Rattle.vdcp_auto.specs.declared.phase.Mode.{Mode};
-ghost use Rattle.vdcp_journal.specs.Journals.{AreLinesOf, IsFaultOfWord, IsHeading, IsHeadingFault, IsJournal, IsJournalFault, IsLinesFault, IsRow, IsRowFault};
-ghost use Rattle.vdcp_journal.specs.Reading.{IsWritableNote, whole_lines};
+ghost use Rattle.vdcp_journal.specs.Journals.{IsFaultOfWord, IsJournal, IsJournalFault, IsHeading, IsHeadingFault, IsLinesFault, IsReading, IsRow, IsRowFault, TookRows};
+ghost use Rattle.vdcp_journal.specs.Reading.{IsWritableNote};
 ghost use Rattle.vdcp_journal.specs.Rows.{mode_text, note_fields};
 ghost use Rattle.vdcp_journal.specs.Rows.{Fields};
+ghost use Rattle.vdcp_journal.specs.declared.row.Row.{Row};
 ghost use Rattle.vdcp_list.specs.Reading.{IsReadFault};
 ghost use Rattle.vdcp_list.specs.Rows.{HasRows};
 
@@ -14,25 +15,12 @@ use crate::fields::fields_of;
 use crate::moment::Moment;
 use crate::row::{Heading, Note, Row};
 use crate::texts::{digest_in, note_in, number_in};
-use csv::ByteRecord;
+use csv::{ByteRecord, Reader};
 use std::alloc::Global;
 use std::io::Read;
 use vdcp_auto::Mode;
 use vdcp_list::laws::rows_are_read_in_order;
-use vdcp_list::{ListFault, next_row, rows_in};
-
-/// What was read of a journal.
-#[derive(Debug, Drop)]
-pub struct Journal {
-    /// When it was begun.
-    pub time: Moment,
-    /// What it is of.
-    pub heading: Heading,
-    /// Its rows, the heading apart.
-    pub rows: Vec<Row>,
-    /// How many bytes its whole lines are. What follows them is a torn row, or nothing.
-    pub whole: usize,
-}
+use vdcp_list::{Bounded, ListFault, next_row, rows_in};
 
 /// Whether these are a note's fields.
 fn is_written(unit: u8, note: &Note, word: &[u8], text: &[u8], detail: &[u8]) -> bool
@@ -211,87 +199,80 @@ fn fault_in(fault: ListFault) -> JournalReadFault
     }
 }
 
-/// Heading and rows, and when the journal was begun.
+/// The rows of a journal, read one after another.
 #[derive(Drop)]
-struct Lines {
-    time: Moment,
-    heading: Heading,
-    rows: Vec<Row>,
+pub struct JournalRows<R> {
+    /// When the journal was begun.
+    pub time: Moment,
+    /// Which list it is of, and how that is played.
+    pub heading: Heading,
+    lines: Reader<Bounded<R>>,
+    line: ByteRecord,
+    // The number of the last row that was taken: the heading is row 1.
+    number: usize,
 }
 
-/// Reads whole lines.
-fn read_lines<R: Read + Drop>(alloc: Global, reader: R) -> Result<Lines, JournalReadFault>
-    ensures lines { IfOk result (λ read. HasRows (R.remaining reader)
-        (λ lines. AreLinesOf lines read.time read.heading read.rows.items)) }
-    ensures fault { IfErr result (λ fault. HasRows (R.remaining reader) (λ lines. IsLinesFault lines fault)) }
-{
-    rows_are_read_in_order();
-    let mut lines = rows_in(alloc, reader);
-    let mut line = ByteRecord::new(alloc);
-    match next_row(&mut lines, &mut line) {
-        Ok(true) => {}
-        Ok(false) => return Err(JournalReadFault::Empty),
-        Err(fault) => return Err(fault_in(fault)),
-    }
-    let (time, heading) = match heading_in(&line) {
-        Ok(read) => read,
-        Err(fault) => return Err(JournalReadFault::Heading(fault)),
-    };
-    let mut rows = Vec::new(alloc);
-    for read in 0..usize::MAX - 1 {
+impl<R: Read + Drop> JournalRows<R> {
+    /// Reads the heading of the journal that a reader gives, as CSV. It is to give whole rows: `WholeLines` leaves out one
+    /// that is torn.
+    ///
+    /// `Empty` where there is no row, `Heading` where the first one is no heading, and `Long`, `Memory` or `Device`
+    /// where it can't be read.
+    pub fn begin(alloc: Global, reader: R) -> Result<JournalRows<R>, JournalReadFault>
+        ensures begun { IfOk result (λ journal. TookRows R.remaining (R.remaining reader) journal []) }
+        ensures refused { IfErr result (IsJournalFault (R.remaining reader)) }
+    {
+        rows_are_read_in_order();
+        let mut lines = rows_in(alloc, reader);
+        let mut line = ByteRecord::new(alloc);
         match next_row(&mut lines, &mut line) {
             Ok(true) => {}
-            Ok(false) => {
-                return Ok(Lines {
-                    time,
-                    heading,
-                    rows,
-                });
-            }
+            Ok(false) => return Err(JournalReadFault::Empty),
             Err(fault) => return Err(fault_in(fault)),
         }
-        let row = match row_in(&line, heading.unit) {
-            Ok(row) => row,
-            Err(fault) => return Err(JournalReadFault::Row(read + 2, fault)),
+        match heading_in(&line) {
+            Ok((time, heading)) => Ok(JournalRows {
+                time,
+                heading,
+                lines,
+                line,
+                number: 1,
+            }),
+            Err(fault) => Err(JournalReadFault::Heading(fault)),
+        }
+    }
+
+    /// The next row, or None at the end. `Row` where it isn't the row of a journal of this heading, and `Long`, `Memory` or
+    /// `Device` where it can't be read. After the end and after a fault no row can be asked for.
+    pub fn next_row(&mut self) -> Result<Option<Row>, JournalReadFault>
+        requires { IsReading self.old }
+        ensures reading { IfOk result (λ found. OnSome found (IsReading self.new)) }
+        ensures row { (file : Option (List ℕ)) (rows : List Row) → TookRows R.remaining file self.old rows
+            → IfOk result (λ found. IfSome found (λ row. TookRows R.remaining file self.new (rows ++ row ∷ []))) }
+        ensures all { (file : Option (List ℕ)) (rows : List Row) → TookRows R.remaining file self.old rows
+            → IfOk result (λ found. IfNone found
+            (IsJournal file (record { time = self.old.time; heading = self.old.heading; rows = rows }))) }
+        ensures refused { (file : Option (List ℕ)) (rows : List Row) → TookRows R.remaining file self.old rows
+            → IfErr result (IsJournalFault file) }
+        ensures time { self.new.time ≡ self.old.time }
+        ensures heading { self.new.heading ≡ self.old.heading }
+    {
+        rows_are_read_in_order();
+        match next_row(&mut self.lines, &mut self.line) {
+            Ok(true) => {}
+            Ok(false) => return Ok(None),
+            Err(fault) => return Err(fault_in(fault)),
+        }
+        // (no file has more rows than this counts)
+        let Some(number) = self.number.checked_add(1) else {
+            return Err(JournalReadFault::Device);
         };
-        if rows.push(row).is_err() {
-            return Err(JournalReadFault::Memory);
+        match row_in(&self.line, self.heading.unit) {
+            Ok(row) => {
+                self.number = number;
+                Ok(Some(row))
+            }
+            Err(fault) => Err(JournalReadFault::Row(number, fault)),
         }
     }
-    Err(JournalReadFault::Device)
-}
-
-/// How many bytes the whole lines at the beginning of a text are.
-fn whole_size(text: &[u8]) -> usize
-    ensures within { result ≤ length text.now }
-    ensures whole { take result text.now ≡ whole_lines text.now }
-{
-    for torn in 0..text.len() {
-        if text[text.len() - 1 - torn] == b'\n' {
-            return text.len() - torn;
-        }
-    }
-    0
-}
-
-/// Reads a journal from its bytes: the whole lines, as CSV. What follows the last line feed is a row that was
-/// torn when its writer was killed, and is left out.
-///
-/// The first line that isn't the row of a journal of one server is refused, with what is wrong.
-pub fn read_journal(alloc: Global, bytes: &[u8]) -> Result<Journal, JournalReadFault>
-    ensures journal { IfOk result (IsJournal bytes.now) }
-    ensures refused { IfErr result (IsJournalFault bytes.now) }
-{
-    let whole = whole_size(bytes);
-    let Lines {
-        time,
-        heading,
-        rows,
-    } = read_lines(alloc, &bytes[..whole])?;
-    Ok(Journal {
-        time,
-        heading,
-        rows,
-        whole,
-    })
 }

@@ -1,16 +1,22 @@
-//! How a new controller goes on from the rows of a journal.
-ghost use Rattle.std.specs.Prelude.{◌≡◌, ◌≤◌, ◌↔◌, IfErr, IfOk, IsFalse, IsTrue, OnOk, not, ◌&&◌, Some, None, if◌then◌else◌, Option, Bool};
-ghost use Rattle.vdcp_auto.specs.Law.{IsLawful};
+//! How a controller is made anew from the rows of a run, one after another.
+ghost use Rattle.std.specs.Borrow.{Bor};
+ghost use Rattle.std.specs.Prelude.{List, ◌≡◌, ◌≤◌, ◌↔◌, ◌+◌, ◌∷◌, ◌++◌, [], IfErr, IsFalse, IsTrue, OnErr, OnOk, Some, None, if◌then◌else◌, Option, Bool, length};
 ghost use Rattle.vdcp_auto.specs.Log.{is_answered, is_play};
-ghost use Rattle.vdcp_auto.specs.Plan.{plan_of};
-ghost use Rattle.vdcp_auto.specs.Turn.{awaited, start};
-ghost use Rattle.vdcp_journal.specs.Resume.{AreTold, IsResumeFault, Tells, after_call_if, after_rows, call_of, fault_of, log_of, timed_out};
+ghost use Rattle.vdcp_auto.specs.Plan.{Plan, plan_of};
+ghost use Rattle.vdcp_auto.specs.Snapshots.{CanStand};
+ghost use Rattle.vdcp_auto.specs.Turn.{awaited, new_controller, outcome_of};
+ghost use Rattle.vdcp_auto.specs.declared.outcome.Outcome.TheVariants as outcomes;
+ghost use Rattle.vdcp_journal.specs.RunsSoFar.{IsMadeBy, IsCalled, IsRaised, again_of};
+ghost use Rattle.vdcp_journal.specs.Resume.{Stands, Tells, after_call_if, call_of, fault_of, is_loss, limit_after, timed_out};
+ghost use Rattle.vdcp_list.specs.Rests.{FromEvent, items_left};
 
 use crate::faults::ResumeFault;
-use crate::laws::what_is_told_is_lawful;
+use crate::losses::{is_loss, limit_after};
 use crate::row::{Note, Row};
-use vdcp_auto::{Controller, Outcome, Source};
+use std::marker::Model;
+use vdcp_auto::{Controller, Mode, Outcome, Snapshot, Source};
 use vdcp_frame::laws::a_spelling_is_its_message;
+use vdcp_list::Rest;
 use vdcp_words::Command;
 use vdcp_words::laws::{command_is_read_first, written_command_is_read};
 
@@ -23,46 +29,174 @@ pub struct Resumed<S: Source> {
     pub open: Option<Command>,
 }
 
-/// Gives a new controller the rows of a journal, in order, and then times out the exchange that is open, if
-/// one is. If the rows have an end, the controller has that outcome.
-///
-/// A row that isn't what the controller does there is refused: the first that isn't.
-pub fn resume<S: Source + Drop>(
-    mut controller: Controller<S>,
-    rows: &[Row],
-) -> Result<Resumed<S>, ResumeFault>
-    requires new { controller.state ≡ start }
-    requires some { 1 ≤ controller.limit }
-    requires few { controller.limit ≤ 1000 }
-    ensures told { OnOk result (AreTold (plan_of S.items controller) start rows.now) }
-    ensures controller { IfOk result (λ resumed. resumed.controller ≡ record controller {
-      state = timed_out (plan_of S.items controller) (after_rows (plan_of S.items controller) start rows.now);
-    }) }
-    ensures open { IfOk result (λ resumed. resumed.open
-        ≡ awaited (plan_of S.items controller) (after_rows (plan_of S.items controller) start rows.now)) }
-    ensures lawful { IfOk result
-        (λ resumed. IsLawful (plan_of S.items controller) resumed.controller.state (log_of rows.now)) }
-    ensures refused { IfErr result (IsResumeFault (plan_of S.items controller) start rows.now) }
-{
-    what_is_told_is_lawful();
-    for k in 0..rows.len() {
-        let note = &rows[k].note;
-        if !goes_on(&mut controller, note) {
-            return Err(fault_of(k, note));
-        }
-    }
-    let open = controller.awaited();
-    controller.timeout();
-    Ok(Resumed { controller, open })
+/// A run of a list that is made anew from its rows, one after another. Each time that it was lost its limit grows by the one
+/// that it was begun with, up to 1,000.
+#[derive(Drop)]
+pub struct RunSoFar<'s, S: Source> {
+    controller: Controller<Rest<&'s S>>,
+    // The controller before the last row that tells of a call, and that row's note: under a greater limit it goes on from
+    // there.
+    before: Snapshot,
+    last: Option<Note>,
+    // The limit that the run was begun with, and how often it was lost: 1,000 times is as good as more.
+    limit: u32,
+    lost: u32,
 }
 
-/// Whether a note is what the controller does there. If it is, the controller has done it.
+impl<'s, S: Source> Model for RunSoFar<'s, S> {
+    ghost use Rattle.std.specs.Borrow.{Bor};
+    ghost use Rattle.vdcp_journal.specs.RunsSoFar.{CanBeRun, RunView, view_in};
+    ghost use Rattle.vdcp_list.specs.Rests.{FromEvent, items_left};
+
+    ghost Value = { RunView (FromEvent (Bor S)) };
+
+    ghost view = { λ r. view_in r.controller r.before r.last r.limit r.lost };
+
+    ghost invariant = { λ r. CanBeRun (items_left (λ s. S.items s.now))
+        (view_in r.controller r.before r.last r.limit r.lost) };
+}
+
+impl<'s, S: Source> RunSoFar<'s, S> {
+    /// A run that begins with this event of a list, for the port of this number, with a limit of 1 to 1,000.
+    pub fn new(source: &'s S, from: usize, mode: Mode, port: u8, limit: u32) -> Self
+        requires from { from ≤ length (S.items source.now) }
+        requires some { 1 ≤ limit }
+        requires few { limit ≤ 1000 }
+        ensures { IsMadeBy (items_left (λ s. S.items s.now)) (plan_of (items_left (λ s. S.items s.now))
+            (new_controller (record { source = source.entry; from = from }) mode port limit)) (record { source = source.entry; from = from }) [] result }
+    {
+        let controller = new_controller(source, from, mode, port, limit);
+        let before = controller.snapshot();
+        RunSoFar {
+            controller,
+            before,
+            last: None,
+            limit,
+            lost: 0,
+        }
+    }
+
+    /// Takes the next row, if the controller does there what it notes. `Command` where it sends another command or none,
+    /// `Unawaited` where it awaits nothing or not that, and `Outcome` where it hasn't ended so; then the run is of no more use.
+    pub fn follow(&mut self, row: &Row) -> Result<(), ResumeFault>
+        ensures stands { (plan : Plan) (source : FromEvent (Bor S)) (rows : List Row)
+            → IsMadeBy (items_left (λ s. S.items s.now)) plan source rows self.old
+            → OnOk result (IsMadeBy (items_left (λ s. S.items s.now)) plan source (rows ++ row.now ∷ []) self.new) }
+        ensures falls { (plan : Plan) (source : FromEvent (Bor S)) (rows : List Row)
+            → IsMadeBy (items_left (λ s. S.items s.now)) plan source rows self.old
+            → OnErr result (¬ Stands plan rows row.now.note) }
+        ensures fault { IfErr result (λ fault. fault ≡ fault_of row.now.note) }
+    {
+        let stands = if is_loss(&row.note) {
+            self.raise_if_lost()
+        } else {
+            self.call_as_noted(&row.note)
+        };
+        if !stands {
+            return Err(fault_of(&row.note));
+        }
+        Ok(())
+    }
+
+    // Gives the controller what a note tells of, which is no loss. False if it doesn't do that there.
+    fn call_as_noted(&mut self, note: &Note) -> bool
+        ensures told { IsTrue result → Tells (plan_of (items_left (λ s. S.items s.now)) self.old.controller)
+            self.old.controller.state note.now }
+        ensures untold { IsFalse result → ¬ Tells (plan_of (items_left (λ s. S.items s.now)) self.old.controller)
+            self.old.controller.state note.now }
+        ensures called { IsTrue result → IsCalled (items_left (λ s. S.items s.now)) note.now self.old self.new }
+    {
+        let before = self.controller.snapshot();
+        if !goes_on(&mut self.controller, note) {
+            return false;
+        }
+        if !matches!(note, Note::End(_)) {
+            self.before = before;
+            self.last = Some(*note);
+        }
+        true
+    }
+
+    // Puts the run under its next limit if it was lost, and says whether it was.
+    fn raise_if_lost(&mut self) -> bool
+        ensures lost { IsTrue result ↔ (outcome_of self.old.controller.state.stage ≡ Some outcomes.Lost) }
+        ensures raised { IsTrue result → IsRaised (items_left (λ s. S.items s.now)) self.old self.new }
+    {
+        if self.controller.outcome() != Some(Outcome::Lost) {
+            return false;
+        }
+        let limit = limit_after(self.limit, self.lost + 1);
+        self.controller = under_limit(self.controller.source(), &self.before, self.last, limit);
+        if self.lost < 1000 {
+            self.lost += 1;
+        }
+        true
+    }
+
+    /// The controller that goes on, once the exchange that is open is timed out, if one is. If the rows have an end, it has
+    /// that outcome.
+    pub fn resume(mut self) -> Resumed<Rest<&'s S>>
+        ensures controller { result.controller ≡ record self.entry.controller {
+          state = timed_out (plan_of (items_left (λ s. S.items s.now)) self.entry.controller) self.entry.controller.state;
+        } }
+        ensures open { result.«open» ≡ awaited (plan_of (items_left (λ s. S.items s.now)) self.entry.controller) self.entry.controller.state }
+    {
+        let open = self.controller.awaited();
+        self.controller.timeout();
+        Resumed {
+            controller: self.controller,
+            open,
+        }
+    }
+}
+
+fn new_controller<'s, S: Source>(
+    source: &'s S,
+    from: usize,
+    mode: Mode,
+    port: u8,
+    limit: u32,
+) -> Controller<Rest<&'s S>>
+    requires from { from ≤ length (S.items source.now) }
+    requires some { 1 ≤ limit }
+    requires few { limit ≤ 1000 }
+    ensures { result ≡ new_controller (record { source = source.entry; from = from }) mode port limit }
+{
+    let rest = Rest::new(source, from);
+    match mode {
+        Mode::Plain => Controller::new(rest, port, limit),
+        Mode::Confirming => Controller::confirming(rest, port, limit),
+    }
+}
+
+// What the last call makes of the controller before it, under a limit that is no less.
+fn under_limit<'s, S: Source>(
+    events: &Rest<&'s S>,
+    before: &Snapshot,
+    last: Option<Note>,
+    limit: u32,
+) -> Controller<Rest<&'s S>>
+    requires few { limit ≤ 1000 }
+    requires less { before.now.limit ≤ limit }
+    requires can_stand { CanStand (length (items_left (λ s. S.items s.now) events.now)) before.now }
+    ensures { result ≡ again_of (items_left (λ s. S.items s.now)) events.now before.now last limit }
+{
+    let rest = Rest::new(*events.whole(), events.from());
+    let mut controller = Controller::of_snapshot(rest, &Snapshot { limit, ..*before });
+    if let Some(note) = last {
+        give(&mut controller, &note);
+    }
+    controller
+}
+
+// Whether a note is what the controller does there. If it is, the controller has done it.
 fn goes_on<S: Source>(controller: &mut Controller<S>, note: &Note) -> bool
     ensures told { IsTrue result → Tells (plan_of S.items controller.old) controller.old.state note.now }
     ensures untold { IsFalse result → ¬ Tells (plan_of S.items controller.old) controller.old.state note.now }
     ensures after { IsTrue result → controller.new ≡ record controller.old {
       state = after_call_if (plan_of S.items controller.old) (call_of note.now) controller.old.state;
     } }
+    ensures made_with { controller.new ≡ record controller.old { state = controller.new.state } }
 {
     match note {
         Note::Sent(command) => match controller.tick() {
@@ -87,19 +221,38 @@ fn goes_on<S: Source>(controller: &mut Controller<S>, note: &Note) -> bool
     }
 }
 
-fn fault_of(k: usize, note: &Note) -> ResumeFault
-    ensures { result ≡ fault_of k note.now }
+// Makes the call of a controller that a note tells of.
+fn give<S: Source>(controller: &mut Controller<S>, note: &Note)
+    ensures { controller.new ≡ record controller.old {
+      state = after_call_if (plan_of S.items controller.old) (call_of note.now) controller.old.state;
+    } }
 {
     match note {
-        Note::Sent(_) => ResumeFault::Command(k),
-        Note::Heard(_) | Note::Silence | Note::Take | Note::Stop | Note::From(_) => {
-            ResumeFault::Unawaited(k)
+        Note::Sent(_) => {
+            controller.tick();
         }
-        Note::End(_) => ResumeFault::Outcome(k),
+        Note::Heard(heard) => controller.hear(heard),
+        Note::Silence => controller.timeout(),
+        Note::Take => controller.take(),
+        Note::Stop => controller.stop(),
+        Note::End(_) | Note::From(_) => {}
     }
 }
 
-/// Commands are compared by their bytes: these are of one command.
+// The fault of a note that doesn't stand.
+fn fault_of(note: &Note) -> ResumeFault
+    ensures { result ≡ fault_of note.now }
+{
+    match note {
+        Note::Sent(_) => ResumeFault::Command,
+        Note::Heard(_) | Note::Silence | Note::Take | Note::Stop | Note::From(_) => {
+            ResumeFault::Unawaited
+        }
+        Note::End(_) => ResumeFault::Outcome,
+    }
+}
+
+// Commands are compared by their bytes: these are of one command.
 fn is_same(a: &Command, b: &Command) -> bool
     ensures { IsTrue result ↔ (a.now ≡ b.now) }
 {

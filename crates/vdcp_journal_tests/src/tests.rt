@@ -1,16 +1,15 @@
 //! What is written of a run, what its rows bring about, and failing writers.
 
-ghost use Rattle.std.specs.Prelude.{◌≡◌};
-ghost use Rattle.vdcp_auto.specs.Turn.{start};
+ghost use Rattle.std.specs.Prelude.{◌≤◌};
 
 use std::alloc::Global;
 use std::process::Abort;
-use vdcp_auto::{Controller, Heard, Mode, Outcome, Source};
+use vdcp_auto::{Heard, Mode, Outcome, Source};
 use vdcp_journal::{
-    Airing, Heading, JournalWriteFault, Moment, Note, ResumeFault, Resumed, Row, are_lost, is_loss,
-    limit_after, resume, runs_in, write_heading, write_row,
+    Airing, AiringsSoFar, Heading, JournalWriteFault, Moment, Note, ResumeFault, Resumed, Row,
+    RunSoFar, begins_at, write_heading, write_row,
 };
-use vdcp_list::{List, read_list, write_timed_events, write_timed_heading};
+use vdcp_list::{List, Rest, read_list, write_timed_events, write_timed_heading};
 use vdcp_testing::{FailingWriter, Fails};
 use vdcp_value::{ClipId, Rate};
 use vdcp_words::{Command, Reply};
@@ -185,35 +184,53 @@ fn a_failing_writer_gets_a_beginning_of_the_row(rt: HostRuntime) {
     );
 }
 
-fn controller(rt: &impl Abort, alloc: Global) -> Controller<List>
-    ensures { result.state ≡ start }
-{
+// A list of one clip.
+fn list(rt: &impl Abort, alloc: Global) -> List {
     let text = b"CLIP0001\n";
     let Ok(list) = read_list(alloc, text.as_slice(), Rate::F25) else {
         panic!(rt; "the list is read");
     };
-    Controller::new(list, 1, 3)
+    list
+}
+
+// A row of this note.
+fn row_of(rt: &impl Abort, note: Note) -> Row {
+    Row {
+        time: time(rt),
+        note,
+    }
 }
 
 pub fn rows_of(rt: &impl Abort, notes: &[TableNote], alloc: Global) -> Vec<Row> {
     let mut rows = Vec::new(alloc);
     for note in notes {
-        let row = Row {
-            time: time(rt),
-            note: note.note(),
-        };
-        rows.push(row).expect(rt, "memory");
+        rows.push(row_of(rt, note.note())).expect(rt, "memory");
     }
     rows
 }
 
-// The controller of the list after rows of these notes.
-fn resumed(
+// A new run of a list.
+fn run_of(list: &List, limit: u32) -> RunSoFar<'_, List>
+    requires some { 1 ≤ limit }
+    requires few { limit ≤ 1000 }
+{
+    RunSoFar::new(list, 0, Mode::Plain, 1, limit)
+}
+
+// The run after rows of these notes, or which of them doesn't stand.
+fn resumed<'l>(
     rt: &(impl Abort + AllocGlobal),
+    list: &'l List,
     notes: &[TableNote],
-) -> Result<Resumed<List>, ResumeFault> {
-    let rows = rows_of(rt, notes, rt.alloc());
-    resume(controller(rt, rt.alloc()), rows.as_slice())
+) -> Result<Resumed<Rest<&'l List>>, (usize, ResumeFault)> {
+    let mut run = run_of(list, 3);
+    for (k, note) in notes.iter().enumerate() {
+        let row = row_of(rt, note.note());
+        if let Err(fault) = run.follow(&row) {
+            return Err((k, fault));
+        }
+    }
+    Ok(run.resume())
 }
 
 // After rows of these notes this command is open, and this one is next.
@@ -223,7 +240,8 @@ fn expect_on(
     open: Option<Command>,
     next: Command,
 ) {
-    let Ok(mut resumed) = resumed(rt, notes) else {
+    let list = list(rt, rt.alloc());
+    let Ok(mut resumed) = resumed(rt, &list, notes) else {
         panic!(rt; "the rows are told: {notes:?}");
     };
     let ticked = resumed.controller.tick();
@@ -254,7 +272,8 @@ fn an_end_is_told(rt: HostRuntime) {
         TableNote::Denied,
         TableNote::End(Outcome::Denied),
     ];
-    let Ok(resumed) = resumed(&rt, &NOTES) else {
+    let list = list(&rt, rt.alloc());
+    let Ok(resumed) = resumed(&rt, &list, &NOTES) else {
         panic!(rt; "the rows are told");
     };
     let controller = &resumed.controller;
@@ -264,54 +283,69 @@ fn an_end_is_told(rt: HostRuntime) {
     );
 }
 
+// A run that begins with a limit leaves as many exchanges unanswered; and then it is said to be lost, before which that is
+// refused. How many it may leave unanswered then, and whether it goes on.
+fn lost(rt: &(impl Abort + AllocGlobal), list: &List, limit: u32) -> (u32, bool)
+    requires some { 1 ≤ limit }
+    requires few { limit ≤ 1000 }
+{
+    let open = row_of(rt, Note::Sent(Command::Open(1, 1)));
+    let silence = row_of(rt, Note::Silence);
+    let end = row_of(rt, Note::End(Outcome::Lost));
+    let mut early = run_of(list, limit);
+    assert_eq!(rt; early.follow(&end), Err(ResumeFault::Outcome));
+    let mut run = run_of(list, limit);
+    for _ in 0..limit {
+        assert_eq!(rt; (run.follow(&open), run.follow(&silence)), (Ok(()), Ok(())));
+    }
+    assert_eq!(rt; run.follow(&open), Err(ResumeFault::Command));
+    assert_eq!(rt; run.follow(&end), Ok(()));
+    let Resumed { controller, .. } = run.resume();
+    (controller.snapshot().limit, controller.outcome().is_none())
+}
+
 #[test]
 fn a_lost_run_has_more_to_spend(rt: HostRuntime) {
-    static NOTES: [TableNote; 7] = [
-        TableNote::Open(1),
-        TableNote::Silence,
-        TableNote::Open(1),
-        TableNote::Silence,
-        TableNote::Open(1),
-        TableNote::Silence,
-        TableNote::End(Outcome::Lost),
-    ];
-    let rows = rows_of(&rt, &NOTES, rt.alloc());
-    let rows = rows.as_slice();
-    for k in 0..rows.len() {
-        let before = &rows[..k];
-        let lost = are_lost(controller(&rt, rt.alloc()), before);
-        let seen = (lost, is_loss(&rows[k].note), limit_after(3, before));
-        assert_eq!(rt; seen, (k == 6, k == 6, 3), "{k}");
-    }
-    // (a limit is 1,000 at most)
+    let list = list(&rt, rt.alloc());
     let raised = [
-        limit_after(1, rows),
-        limit_after(3, rows),
-        limit_after(500, rows),
-        limit_after(501, rows),
-        limit_after(1000, rows),
+        lost(&rt, &list, 1),
+        lost(&rt, &list, 3),
+        lost(&rt, &list, 500),
+        lost(&rt, &list, 501),
+        lost(&rt, &list, 1000),
     ];
-    assert_eq!(rt; raised, [2, 6, 1000, 1000, 1000]);
+    // (a limit is 1,000 at most)
+    let wanted = [
+        (2, true),
+        (6, true),
+        (1000, true),
+        (1000, true),
+        (1000, false),
+    ];
+    assert_eq!(rt; raised, wanted);
 }
 
 #[test]
 fn what_the_controller_does_not_do_is_refused(rt: HostRuntime) {
-    static CASES: [(&[TableNote], ResumeFault); 10] = [
-        (&[TableNote::Play], ResumeFault::Command(0)),
-        (&[TableNote::Open(2)], ResumeFault::Command(0)),
+    static CASES: [(&[TableNote], usize, ResumeFault); 10] = [
+        (&[TableNote::Play], 0, ResumeFault::Command),
+        (&[TableNote::Open(2)], 0, ResumeFault::Command),
         (
             &[TableNote::Open(1), TableNote::Open(1)],
-            ResumeFault::Command(1),
+            1,
+            ResumeFault::Command,
         ),
-        (&[TableNote::Granted], ResumeFault::Unawaited(0)),
-        (&[TableNote::Silence], ResumeFault::Unawaited(0)),
+        (&[TableNote::Granted], 0, ResumeFault::Unawaited),
+        (&[TableNote::Silence], 0, ResumeFault::Unawaited),
         (
             &[TableNote::Open(1), TableNote::Granted, TableNote::Granted],
-            ResumeFault::Unawaited(2),
+            2,
+            ResumeFault::Unawaited,
         ),
         (
             &[TableNote::Open(1), TableNote::Denied, TableNote::Take],
-            ResumeFault::Unawaited(2),
+            2,
+            ResumeFault::Unawaited,
         ),
         (
             &[
@@ -319,59 +353,59 @@ fn what_the_controller_does_not_do_is_refused(rt: HostRuntime) {
                 TableNote::Denied,
                 TableNote::End(Outcome::Done),
             ],
-            ResumeFault::Outcome(2),
+            2,
+            ResumeFault::Outcome,
         ),
-        (&[TableNote::End(Outcome::Done)], ResumeFault::Outcome(0)),
+        (&[TableNote::End(Outcome::Done)], 0, ResumeFault::Outcome),
         (
             &[TableNote::Open(1), TableNote::From(0)],
-            ResumeFault::Unawaited(1),
+            1,
+            ResumeFault::Unawaited,
         ),
     ];
-    for (notes, fault) in CASES.iter() {
-        assert_eq!(rt; resumed(&rt, notes).err(), Some(*fault), "{notes:?}");
+    let list = list(&rt, rt.alloc());
+    for (notes, place, fault) in CASES.iter() {
+        assert_eq!(rt;
+            resumed(&rt, &list, notes).err(),
+            Some((*place, *fault)),
+            "{notes:?}"
+        );
     }
-}
-
-// Of each run in rows of these notes the event that it is from, where it begins and where it ends.
-fn run_places(rt: &(impl Abort + AllocGlobal), notes: &[TableNote]) -> Vec<(usize, usize, usize)> {
-    let rows = rows_of(rt, notes, rt.alloc());
-    let mut places = Vec::new(rt.alloc());
-    for run in runs_in(rt.alloc(), rows.as_slice()).expect(rt, "memory") {
-        let place = (run.from, run.begin, run.end);
-        places.push(place).expect(rt, "memory");
-    }
-    places
 }
 
 #[test]
-fn each_run_has_its_rows(rt: HostRuntime) {
-    static CASES: [(&[TableNote], &[(usize, usize, usize)]); 5] = [
-        (&[], &[(0, 0, 0)]),
-        (&[TableNote::Silence, TableNote::Take], &[(0, 0, 2)]),
-        (&[TableNote::From(3)], &[(0, 0, 0), (3, 1, 1)]),
-        (
-            &[
-                TableNote::Silence,
-                TableNote::From(2),
-                TableNote::Take,
-                TableNote::Take,
-            ],
-            &[(0, 0, 1), (2, 2, 4)],
-        ),
-        (
-            &[
-                TableNote::From(1),
-                TableNote::Take,
-                TableNote::From(5),
-                TableNote::From(0),
-            ],
-            &[(0, 0, 0), (1, 1, 2), (5, 3, 3), (0, 4, 4)],
-        ),
+fn a_run_begins_where_a_row_says_so(rt: HostRuntime) {
+    let found = [begins_at(&Note::From(3)), begins_at(&Note::Take)];
+    assert_eq!(rt; found, [Some(3), None]);
+}
+
+#[test]
+fn events_air_row_by_row(rt: HostRuntime) {
+    // (with each row, the event that may have aired besides)
+    static CASES: [(TableNote, Option<usize>); 3] = [
+        (TableNote::Play, Some(0)),
+        (TableNote::Ack, None),
+        (TableNote::Play, Some(1)),
     ];
-    for (notes, wanted) in CASES.iter() {
-        let places = run_places(&rt, notes);
-        assert_eq!(rt; places.as_slice(), *wanted, "{notes:?}");
+    let mut so_far = AiringsSoFar::new(rt.alloc(), list(&rt, rt.alloc()), Mode::Plain);
+    for (note, unsettled) in CASES.iter() {
+        let row = Row {
+            time: time(&rt),
+            note: note.note(),
+        };
+        so_far.add(&row).expect(&rt, "memory");
+        assert_eq!(rt; so_far.unsettled(), *unsettled, "{note:?}");
     }
+    let found = so_far.finish();
+    let airing = Airing {
+        played: time(&rt),
+        known: time(&rt),
+        ended: Some(time(&rt)),
+    };
+    assert_eq!(rt;
+        (found.airings.as_slice(), found.unsettled),
+        ([airing].as_slice(), Some(1))
+    );
 }
 
 #[test]

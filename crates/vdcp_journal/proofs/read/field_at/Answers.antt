@@ -1,7 +1,7 @@
 use Rattle.csv.specs.Records.{fields_of}
 use Rattle.std.proofs.Common.{sym, ap, ◌∙◌}
 use Rattle.std.specs.Prelude.{is_some, option_map}
-use Rattle.vdcp_journal.proofs.JournalRows.{at-is, at-some, some-before}
+use Rattle.vdcp_journal.proofs.RowFields.{at-is, at-some, some-before}
 use Rattle.vdcp_journal.proofs.read.field_at.Goals as goal
 
 pub unwrap-requires : goal.unwrap-requires

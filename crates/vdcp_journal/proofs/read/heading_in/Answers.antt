@@ -1,7 +1,7 @@
 use Rattle.csv.specs.Records.{fields_of}
 use Rattle.std.proofs.Common.{◌≡◌, length, sym, subst, arith}
 use Rattle.std.specs.Prelude.{IfOk}
-use Rattle.vdcp_journal.proofs.JournalRows.{seven}
+use Rattle.vdcp_journal.proofs.RowFields.{seven}
 use Rattle.vdcp_journal.proofs.read.heading_in.Goals as goal
 use Rattle.vdcp_journal.specs.Journals.{IsHeading}
 

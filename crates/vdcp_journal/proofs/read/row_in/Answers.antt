@@ -1,7 +1,7 @@
 use Rattle.csv.specs.Records.{fields_of}
 use Rattle.std.proofs.Common.{◌≡◌, length, sym, subst, arith}
 use Rattle.std.specs.Prelude.{IfErr, IfOk}
-use Rattle.vdcp_journal.proofs.JournalRows.{four}
+use Rattle.vdcp_journal.proofs.RowFields.{four}
 use Rattle.vdcp_journal.proofs.read.row_in.Goals as goal
 use Rattle.vdcp_journal.specs.Journals.{IsRow, IsRowFault}
 

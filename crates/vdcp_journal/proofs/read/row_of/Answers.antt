@@ -1,4 +1,4 @@
-use Rattle.vdcp_journal.proofs.JournalRows.{row_fault}
+use Rattle.vdcp_journal.proofs.RowFields.{row_fault}
 use Rattle.vdcp_journal.proofs.read.row_of.Goals as goal
 
 pub returns-in_default-note_in-clause-fault : goal.returns-in_default-note_in-clause-fault
