@@ -1,6 +1,6 @@
 -- The lemmas, file by file.
 pub mod Chains
-pub mod Losses
+pub mod RowSteps
 pub mod OpenedAgain
 pub mod Shown
 mod Disking

@@ -1,30 +1,89 @@
 -- A journal that is opened again.
 use Rattle.std.specs.Borrow.{Bor}
-use Rattle.std.proofs.Common.{ℕ, ◌≡◌, ◌⊎◌, inl, inr, List, refl}
-use Rattle.std.specs.Prelude.{IsTrue, Option, None}
-use Rattle.vdcp_auto.specs.Plan.{Plan}
+use Rattle.std.proofs.Common.{ℕ, ◌≡◌, ◌+◌, ◌-◌, ◌≤◌, Bool, true, false, List, ap, arith, length, refl, subst, sym, ◌∙◌}
+use Rattle.std.proofs.lemmas.List.{length-drop}
+use Rattle.std.specs.Prelude.{IfOk, IsFalse, IsSome, IsTrue, Option, None, Some, Result, Ok, Err, if◌then◌else◌}
+use Rattle.vdcp_auto.specs.Plan.{Plan, View, plan_of}
 use Rattle.vdcp_auto.specs.State.{State}
+use Rattle.vdcp_journal.specs.Airings.{settled_in}
 use Rattle.vdcp_journal.specs.Runs.{Run}
 use Rattle.vdcp_journal.specs.declared.row.Heading.{Heading}
-use Rattle.vdcp_journal_file.specs.Resuming.{IsNoBeginning, IsReplayed, IsUnopenedAgain, bad, may_have, next_event, next_may_have_aired, no_event, no_memory, not_listed, out_of_memory, unresumed, unsettled}
+use Rattle.vdcp_journal_file.specs.Resuming.{BeginsAfter, Continues, IsNoBeginning, IsReplayed, IsRunOn, IsUnopenedAgain, may_have, next_event, next_may_have_aired, no_event, not_listed, unsettled}
 use Rattle.vdcp_text.specs.declared.failure.Failure.{Failure}
 use Rattle.vdcp_text.specs.declared.failure.Failure.TheVariants as failures
+use Rattle.vdcp_list.specs.Rests.{FromEvent, items_left}
+use Rattle.vdcp_list.specs.Rows.{FileBytes}
 use Rattle.vdcp_value.specs.declared.part.Item.{Item}
+use Rattle.vdcp_words.specs.declared.command.Command.{Command}
 
 -- nothing begins after the last run of this journal
-pub not_begun : (items : List Item) (name : Bor (List ℕ)) (wanted : Heading) (word : Option ℕ) (bytes : List ℕ) (run : Run)
-    (ended : Plan) (end : State) (whole : ℕ) (failure : Failure) → IsReplayed items wanted bytes run ended end whole
+pub not_begun : (items : List Item) (name : Bor (List ℕ)) (wanted : Heading) (word : Option ℕ) (lines : FileBytes) (run : Run)
+    (ended : Plan) (end : State) (failure : Failure) → IsReplayed items wanted lines run ended end
     → IsNoBeginning items wanted run word failure → IsUnopenedAgain items name wanted word failure
-not_begun items name wanted word bytes run ended end whole failure replayed (may_have unsaid may is) =
-    unsettled unsaid bytes run ended end whole replayed may is
-not_begun items name wanted word bytes run ended end whole failure replayed (not_listed k said past is) =
+not_begun items name wanted word lines run ended end failure replayed (may_have unsaid may is) =
+    unsettled unsaid lines run ended end replayed may is
+not_begun items name wanted word lines run ended end failure replayed (not_listed k said past is) =
     no_event k said past is
-not_begun items name wanted word bytes run ended end whole failure replayed (out_of_memory is) =
-    unresumed (bad bytes (no_memory is))
 
 -- where the operator says nothing
-pub none_next : (items : List Item) (heading : Heading) (run : Run) (failure : Failure)
-    → (failure ≡ failures.Memory) ⊎ (IsTrue (next_may_have_aired heading run) × (failure ≡ failures.MayHaveAired (next_event heading run)))
-    → IsNoBeginning items heading run None failure
-none_next items heading run failure (inl is) = out_of_memory is
-none_next items heading run failure (inr p) = may_have refl p.0 p.1
+
+unsettled_none : (is_one : Bool) (n : ℕ) → (if is_one then Some n else None) ≡ None → IsFalse is_one
+unsettled_none true n is = cc
+unsettled_none false n is = refl
+
+unsettled_some : (is_one : Bool) (n : ℕ) → IsSome (if is_one then Some n else None) → IsTrue is_one
+unsettled_some true n is = refl
+unsettled_some false n is = cc
+
+event_is : {S : Type 0} (items : S → List Item) (wanted : Heading) (list : List Item) (run : Run)
+    (controller : View (FromEvent S)) (asked : Option Command) (unsettled : Option ℕ)
+    → IsRunOn items wanted list run controller asked unsettled
+    → controller.source.from + controller.state.settled ≡ next_event wanted run
+event_is items wanted list run controller asked may on =
+    ap (λ (n : ℕ). n + controller.state.settled) on.from_is ∙ ap (λ (n : ℕ). run.from + n) on.resumes.lawful.is_settled
+
+pub next_begins : {S : Type 0} (items : S → List Item) (wanted : Heading) (list : List Item) (run : Run)
+    (controller : View (FromEvent S)) (asked : Option Command) (unsettled : Option ℕ) (k : ℕ)
+    → IsRunOn items wanted list run controller asked unsettled
+    → k ≡ controller.source.from + controller.state.settled → unsettled ≡ None
+    → k ≤ controller.source.from + length (items_left items controller.source)
+    → BeginsAfter wanted run None k × (k ≤ length list)
+next_begins items wanted list run controller asked may k on is none few =
+    let left : length (items_left items controller.source) ≡ length list - run.from =
+    ap (λ (p : Plan). length p.list) on.resumes.plan_is ∙ length-drop run.from list in (
+      (
+        is ∙ event_is items wanted list run controller asked may on,
+        unsettled_none (next_may_have_aired wanted run) (settled_in wanted.mode run.rows) (sym on.unsettled_is ∙ none),
+      ),
+      omega (arith, few, left, on.from_is, on.within),
+    )
+
+pub none_next : {S : Type 0} (items : S → List Item) (wanted : Heading) (list : List Item) (run : Run)
+    (controller : View (FromEvent S)) (asked : Option Command) (unsettled : Option ℕ) (failure : Failure)
+    → IsRunOn items wanted list run controller asked unsettled → IsSome unsettled
+    → failure ≡ failures.MayHaveAired (controller.source.from + controller.state.settled)
+    → IsNoBeginning list wanted run None failure
+none_next items wanted list run controller asked may failure on some is =
+    may_have refl
+    (unsettled_some (next_may_have_aired wanted run) (settled_in wanted.mode run.rows) (subst IsSome on.unsettled_is some))
+    (is ∙ ap failures.MayHaveAired (event_is items wanted list run controller asked may on))
+
+pub both : {A E : Type 0} (result : Result A E) (P Q : A → Type 0) → IfOk result P → IfOk result Q
+    → IfOk result (λ x. P x × Q x)
+both (Ok x) P Q p q = (p, q)
+both (Err e) P Q p q = tt
+
+-- what continues was replayed
+pub replayed_of : {S : Type 0} (items : S → List Item) (wanted : Heading) (list : List Item) (lines : FileBytes)
+    (controller : View (FromEvent S)) (asked : Option Command) (may : Option ℕ)
+    → (c : Continues items wanted list lines controller asked may)
+    → IsReplayed list wanted lines c.run (plan_of (items_left items) controller) controller.state
+replayed_of items wanted list lines controller asked may c = record {
+  journal = c.journal;
+  reads = c.reads;
+  wanted_is = c.wanted_is;
+  last = c.last;
+  within = c.on.within;
+  stand = c.on.stand;
+  resumes = c.on.resumes;
+}

@@ -1,24 +1,30 @@
 -- What the runs of a journal show, one after another.
-use Rattle.std.proofs.Common.{ℕ, ◌≡◌, ◌+◌, ◌-◌, ◌<◌, ◌≤◌, ◌^◌, Bool, true, false, List, [], ◌∷◌, ◌++◌, ap, append_assoc, append-nil, arith, get_or, length, map, refl, subst, sym, take, ◌∙◌}
-use Rattle.std.proofs.lemmas.List.{length-drop, map-append, take_more}
-use Rattle.std.specs.Prelude.{Option, None, Some, IfSome, if◌then◌else◌}
+use Rattle.std.proofs.Common.{ℕ, ◌≡◌, ◌+◌, ◌-◌, ◌<◌, ◌≤◌, ◌^◌, Bool, true, false, List, [], ◌∷◌, ◌++◌, ap, append_assoc, append-nil, arith, length, refl, subst, sym, ◌∙◌}
+use Rattle.std.proofs.lemmas.List.{length-drop}
+use Rattle.std.specs.Prelude.{Option, None, Some, IfOk, IfSome, Ok, Err, Result, if◌then◌else◌}
 use Rattle.vdcp_auto.specs.Law.{IsLawful}
-use Rattle.vdcp_auto.specs.Plan.{Plan}
+use Rattle.vdcp_auto.specs.Plan.{Plan, View, plan_of}
 use Rattle.vdcp_auto.specs.State.{State}
 use Rattle.vdcp_auto.specs.declared.phase.Mode.{Mode}
 use Rattle.vdcp_journal.specs.Airings.{AreAirings, may_have_played, settled_in}
-use Rattle.vdcp_journal.specs.Journals.{IsJournal}
-use Rattle.vdcp_journal.specs.Resume.{WereLost, log_of}
-use Rattle.vdcp_journal.specs.Runs.{Run, run_at}
-use Rattle.vdcp_journal.specs.declared.airings.Airing.{Airing}
-use Rattle.vdcp_journal.specs.declared.read.Journal.{Journal}
-use Rattle.vdcp_journal.specs.declared.row.Heading.{Heading}
+use Rattle.vdcp_auto.specs.Turn.{awaited, start}
+use Rattle.vdcp_journal.specs.RunsSoFar.{RunView}
+use Rattle.vdcp_journal.specs.Journals.{IsJournal, Journal}
+use Rattle.vdcp_journal.specs.Resume.{AllStand, AreTold, after_rows, log_of, timed_out}
 use Rattle.vdcp_journal.specs.declared.row.Row.{Row}
-use Rattle.vdcp_journal.specs.declared.runs.JournalRun.{JournalRun}
-use Rattle.vdcp_journal_file.specs.Resuming.{IsResumed, plan_begun, plan_of_run}
-use Rattle.vdcp_journal_file.specs.Showing.{ShowRuns, ShowsRun, open_text, reported_text}
+use Rattle.vdcp_journal_file.proofs.RowSteps.{runs_on}
+use Rattle.vdcp_journal_file.specs.declared.reading.Refusal.{Refusal}
+use Rattle.vdcp_journal.specs.Runs.{Run, runs_of}
+use Rattle.vdcp_journal.specs.declared.airings.Airing.{Airing}
+use Rattle.vdcp_journal.specs.declared.row.Heading.{Heading}
+use Rattle.vdcp_journal_file.specs.Resuming.{IsMadeOrRefused, IsResumed, IsRunOn, plan_begun, plan_of_run}
+use Rattle.vdcp_journal_file.specs.Showing.{AreShown, ShowsJournal, ShowRuns, ShowsRun, heading_text, open_text, reported_text}
 use Rattle.vdcp_journal_file.specs.declared.asrun.AsrunSettings.{AsrunSettings}
+use Rattle.vdcp_journal_file.specs.declared.asrun.Shown.{Shown}
+use Rattle.vdcp_list.specs.Rests.{FromEvent, items_left}
+use Rattle.vdcp_list.specs.Rows.{FileBytes}
 use Rattle.vdcp_value.specs.declared.part.Item.{Item}
+use Rattle.vdcp_words.specs.declared.command.Command.{Command}
 
 -- a run more
 pub one_run_more : (settings : AsrunSettings) (items : List Item) (heading : Heading) (runs : List Run) (run : Run)
@@ -47,19 +53,13 @@ one_run_more settings items heading (first ∷ runs) run text told more more_tol
       ap (λ (l : List ℕ). l ++ more_told) told_is ∙ append_assoc d rest_told more_told,
     )
 
--- the runs up to the next one
-pub mapped_more : {X Y : Type 0} (f : X → Y) (xs : List X) (k : ℕ) (d : X) → k < length xs
-    → map f (take (k + 1) xs) ≡ map f (take k xs) ++ f (get_or xs k d) ∷ []
-mapped_more f xs k d below =
-    ap (map f) (take_more xs k d below) ∙ map-append f (take k xs) (get_or xs k d ∷ [])
-
 -- the number of an unsettled event in the whole list is one of the machine's
 unsettled_counts : (is_one : Bool) (from n : ℕ) → from + n < 2 ^ 64
     → IfSome (if is_one then Some n else None) (λ k. from + k < 2 ^ 64)
 unsettled_counts true from n few = few
 unsettled_counts false from n few = tt
 
-unsettled_counts_in : (items : List Item) (heading : Heading) (run : Run) (plan : Plan) (state : State) (reported : ℕ)
+pub unsettled_counts_in : (items : List Item) (heading : Heading) (run : Run) (plan : Plan) (state : State) (reported : ℕ)
     (airings : List Airing) (event : Option ℕ) → IsResumed (plan_of_run heading items run) run.rows plan state
     → AreAirings plan.mode run.rows airings event → reported ≡ state.settled → reported ≤ length plan.list
     → run.from ≤ length items → length items < 2 ^ 64 → IfSome event (λ k. run.from + k < 2 ^ 64)
@@ -73,16 +73,6 @@ unsettled_counts_in items heading run plan state reported airings event resumed 
     (unsettled_counts (may_have_played plan.mode run.rows) run.from (settled_in plan.mode run.rows)
     (omega (arith, settled_is, count, within, left, listed, few)))
 
--- it is of rows that are these
-pub event_counts : (items : List Item) (heading : Heading) (rows rows' : List Row) (run : JournalRun) (plan : Plan)
-    (state : State) (reported : ℕ) (airings : List Airing) (event : Option ℕ) → rows' ≡ rows
-    → IsResumed (plan_of_run heading items (run_at rows' run)) (run_at rows' run).rows plan state
-    → AreAirings plan.mode (run_at rows' run).rows airings event → reported ≡ state.settled
-    → reported ≤ length plan.list → run.from ≤ length items → length items < 2 ^ 64
-    → IfSome event (λ k. run.from + k < 2 ^ 64)
-event_counts items heading rows rows' run plan state reported airings event same resumed are count within listed few =
-    unsettled_counts_in items heading (run_at rows' run) plan state reported airings event resumed are count within listed few
-
 -- each event that is reported has its times
 pub one_each : (items : List Item) (heading : Heading) (run : Run) (plan : Plan) (state : State) (reported : ℕ)
     (airings : List Airing) (event : Option ℕ) → IsResumed (plan_of_run heading items run) run.rows plan state
@@ -91,15 +81,15 @@ one_each items heading run plan state reported airings event resumed are count =
     are.one_each ∙ ap (λ (m : Mode). settled_in m run.rows) (ap (λ (p : Plan). p.mode) resumed.plan_is)
     ∙ sym resumed.lawful.is_settled ∙ sym count
 
-run_shows_so : (settings : AsrunSettings) (items : List Item) (heading : Heading) (run : Run) (plan : Plan) (state : State)
+pub run_shows_so : (settings : AsrunSettings) (items : List Item) (heading : Heading) (run : Run) (plan : Plan) (state : State)
     (reported : ℕ) (airings : List Airing) (event : Option ℕ)
     → IsResumed (plan_of_run heading items run) run.rows plan state → AreAirings plan.mode run.rows airings event
-    → reported ≡ state.settled → run.from ≤ length items → WereLost (plan_begun heading items run) run.rows
+    → reported ≡ state.settled → run.from ≤ length items → AllStand (plan_begun heading items run) run.rows
     → ShowsRun settings items heading run (reported_text settings items run.from reported airings)
     (open_text run.from event)
-run_shows_so settings items heading run plan state reported airings event resumed are count listed lost = record {
+run_shows_so settings items heading run plan state reported airings event resumed are count listed stand = record {
   within = listed;
-  lost = lost;
+  stand = stand;
   are_told = resumed.told;
   lawful = subst (λ (s : State). IsLawful (plan_of_run heading items run) s (log_of run.rows)) resumed.state_is
       resumed.lawful;
@@ -111,22 +101,102 @@ run_shows_so settings items heading run plan state reported airings event resume
   told_is = refl;
 }
 
--- what a run shows of rows that are these
-pub run_shows : (settings : AsrunSettings) (items : List Item) (heading : Heading) (rows rows' : List Row)
-    (run : JournalRun) (plan : Plan) (state : State) (reported : ℕ) (airings : List Airing) (event : Option ℕ)
-    → rows' ≡ rows → IsResumed (plan_of_run heading items (run_at rows' run)) (run_at rows' run).rows plan state
-    → AreAirings plan.mode (run_at rows' run).rows airings event → reported ≡ state.settled → run.from ≤ length items
-    → WereLost (plan_begun heading items (run_at rows' run)) (run_at rows' run).rows
-    → ShowsRun settings items heading (run_at rows run) (reported_text settings items run.from reported airings)
-    (open_text run.from event)
-run_shows settings items heading rows rows' run plan state reported airings event same resumed are count listed lost =
-    subst (λ (xs : List Row). ShowsRun settings items heading (run_at xs run)
-    (reported_text settings items run.from reported airings) (open_text run.from event)) same
-    (run_shows_so settings items heading (run_at rows' run) plan state reported airings event resumed are count listed
-    lost)
+-- what is shown of a run that goes on
+pub record ShownOf (settings : AsrunSettings) (list : List Item) (heading : Heading) (run : Run) (from reported : ℕ)
+    (airings : List Airing) (event : Option ℕ) : Type 0 where
+  pub one_each : length airings ≡ reported
+  pub listed : from + reported ≤ length list
+  pub counts : IfSome event (λ k. from + k < 2 ^ 64)
+  pub shows : ShowsRun settings list heading run (reported_text settings list from reported airings) (open_text from event)
 
--- a journal that is read is that of the file's bytes, where these are known
-pub journal_of_file : (known : Option (List ℕ)) (bytes : List ℕ) (journal : Journal) → IfSome known (λ b. b ≡ bytes)
-    → IsJournal bytes journal → IfSome known (λ b. IsJournal b journal)
-journal_of_file None bytes journal same read = tt
-journal_of_file (Some known) bytes journal same read = subst (λ b. IsJournal b journal) (sym same) read
+pub shown_of : {S : Type 0} (settings : AsrunSettings) (items : S → List Item) (heading : Heading) (list : List Item) (run : Run)
+    (controller : View (FromEvent S)) (asked : Option Command) (from reported : ℕ) (airings : List Airing) (event : Option ℕ)
+    → IsRunOn items heading list run controller asked event → AreAirings heading.mode run.rows airings event
+    → from ≡ controller.source.from → reported ≡ controller.state.settled
+    → reported ≤ length (items_left items controller.source) → length list < 2 ^ 64
+    → ShownOf settings list heading run from reported airings event
+shown_of settings items heading list run controller asked from reported airings event on are from_is count within few =
+    let begin : from ≡ run.from = from_is ∙ on.from_is in
+    let left : length (items_left items controller.source) ≡ length list - run.from =
+    ap (λ (p : Plan). length p.list) on.resumes.plan_is ∙ length-drop run.from list in
+    let mode_is : (plan_of (items_left items) controller).mode ≡ heading.mode =
+    ap (λ (p : Plan). p.mode) on.resumes.plan_is in
+    let are_so : AreAirings (plan_of (items_left items) controller).mode run.rows airings event =
+    subst (λ (m : Mode). AreAirings m run.rows airings event) (sym mode_is) are in
+    record {
+      one_each = one_each list heading run _ _ reported airings event on.resumes are_so count;
+      listed = omega (arith, begin, left, within, on.within);
+      counts = subst (λ (n : ℕ). IfSome event (λ k. n + k < 2 ^ 64)) (sym begin)
+          (unsettled_counts_in list heading run _ _ reported airings event on.resumes are_so count within on.within few);
+      shows = subst (λ (n : ℕ). ShowsRun settings list heading run (reported_text settings list n reported airings)
+          (open_text n event)) (sym begin)
+          (run_shows_so settings list heading run _ _ reported airings event on.resumes are_so count on.within on.stand);
+    }
+
+-- a run more, of a list with a heading
+pub shown_more : (settings : AsrunSettings) (list : List Item) (heading : Heading) (runs : List Run) (run : Run)
+    (text told more more_told text' told' : List ℕ) → AreShown settings list heading runs text told
+    → ShowsRun settings list heading run more more_told → text' ≡ text ++ more → told' ≡ told ++ more_told
+    → AreShown settings list heading (runs ++ run ∷ []) text' told'
+shown_more settings list heading runs run text told more more_told text' told' before shows text_is told_is =
+    let above : List ℕ = heading_text settings list in
+    record {
+      rows = before.rows ++ more;
+      show = subst (λ (t : List ℕ). ShowRuns settings list heading (runs ++ run ∷ []) (before.rows ++ more) t) (sym told_is)
+          (one_run_more settings list heading runs run before.rows told more more_told before.show shows);
+      text_is = text_is ∙ ap (λ (l : List ℕ). l ++ more) before.text_is ∙ append_assoc above before.rows more;
+    }
+
+-- of one that its rows make
+pub shown_by_rows : {S : Type 0} (settings : AsrunSettings) (items : S → List Item) (heading : Heading) (list : List Item)
+    (run : Run) (result : Result (RunView (FromEvent S)) Refusal) (made : RunView (FromEvent S))
+    (controller : View (FromEvent S)) (asked : Option Command) (source : FromEvent S)
+    (from reported : ℕ) (airings : List Airing) (event : Option ℕ)
+    → ((plan : Plan) (rows : List Row) → 1 ≤ plan.limit → plan.limit ≤ 1000 → AreTold plan start rows
+    → IsLawful plan (timed_out plan (after_rows plan start rows)) (log_of rows))
+    → result ≡ Ok made → IsMadeOrRefused items heading list run result
+    → controller ≡ record made.controller
+    { state = timed_out (plan_of (items_left items) made.controller) made.controller.state }
+    → asked ≡ awaited (plan_of (items_left items) made.controller) made.controller.state
+    → AreAirings heading.mode run.rows airings event
+    → source ≡ controller.source → from ≡ source.from → reported ≡ controller.state.settled
+    → reported ≤ length (items_left items controller.source) → length list < 2 ^ 64
+    → ShownOf settings list heading run from reported airings event
+shown_by_rows {S} settings items heading list run result made controller asked source from reported airings event law is is_made
+    controller_is asked_is are source_is from_is count within few =
+    shown_of settings items heading list run controller asked from reported airings event
+    (runs_on items heading list run made controller asked event law
+    (subst (IsMadeOrRefused items heading list run) is is_made) controller_is asked_is are.besides)
+    are (from_is ∙ ap (λ (s : FromEvent S). s.from) source_is) count within few
+
+-- before the first run nothing stands but what is above the rows
+pub first_shown : {E : Type 0} (settings : AsrunSettings) (list : List Item) (heading : Heading) (shown : Result Shown E)
+    → IfOk shown (λ s. s.text.items ≡ heading_text settings list) → IfOk shown (λ s. s.told.items ≡ [])
+    → IfOk shown (λ s. AreShown settings list heading [] s.text.items s.told.items)
+first_shown settings list heading (Ok s) text told = record {
+  rows = [];
+  show = (refl, told);
+  text_is = text ∙ sym (append-nil (heading_text settings list));
+}
+first_shown settings list heading (Err e) text told = tt
+
+-- the runs that ended before a row more
+pub shown_on : {E : Type 0} (settings : AsrunSettings) (list : List Item) (heading : Heading) (shown : Result Shown E)
+    (ended ended' : List Run) → ended' ≡ ended
+    → IfOk shown (λ s. AreShown settings list heading ended s.text.items s.told.items)
+    → IfOk shown (λ s. AreShown settings list heading ended' s.text.items s.told.items)
+shown_on settings list heading shown ended ended' same h =
+    subst (λ (runs : List Run). IfOk shown (λ s. AreShown settings list heading runs s.text.items s.told.items)) (sym same) h
+
+-- all runs are shown
+pub shows_journal : (settings : AsrunSettings) (list : List Item) (digest : Option (List ℕ)) (lines : FileBytes)
+    (journal : Journal) (heading : Heading) (runs : List Run) (text told : List ℕ) → IsJournal lines journal
+    → journal.heading ≡ heading → IfSome digest (λ known. heading.digest ≡ known) → runs_of journal.rows ≡ runs
+    → AreShown settings list heading runs text told → ShowsJournal settings list digest lines text told
+shows_journal settings list digest lines journal heading runs text told reads same of_list all shown = record {
+  journal = journal;
+  reads = reads;
+  of_list = subst (λ (h : Heading). IfSome digest (λ known. h.digest ≡ known)) (sym same) of_list;
+  show = subst (λ (h : Heading). AreShown settings list h (runs_of journal.rows) text told) (sym same)
+      (subst (λ (rs : List Run). AreShown settings list heading rs text told) (sym all) shown);
+}

@@ -1,15 +1,16 @@
 -- What goes on from a journal, and why nothing does.
 use Rattle.std.specs.Borrow.{Bor}
-use Rattle.std.specs.Prelude.{ℕ, ◌≡◌, ◌≢◌, ◌⊎◌, ◌+◌, ◌≤◌, ◌<◌, Bool, IsFalse, IsTrue, List, [], ◌∷◌, ◌++◌, Option, None, Some, drop, length, slice_get, take}
+use Rattle.std.specs.Prelude.{ℕ, ◌≡◌, ◌≢◌, ◌⊎◌, ◌+◌, ◌≤◌, ◌<◌, Bool, IsFalse, IsTrue, List, [], ◌∷◌, ◌++◌, Option, None, Some, Result, Ok, Err, drop, length}
 use Rattle.vdcp_auto.specs.Law.{IsLawful}
-use Rattle.vdcp_auto.specs.Plan.{Plan}
+use Rattle.vdcp_auto.specs.Plan.{Plan, View, plan_of}
 use Rattle.vdcp_auto.specs.State.{State}
 use Rattle.vdcp_auto.specs.Turn.{awaited, outcome_of, start}
 use Rattle.vdcp_auto.specs.declared.outcome.Outcome.{Outcome}
 use Rattle.vdcp_auto.specs.declared.outcome.Outcome.TheVariants.{Done, Stopped}
-use Rattle.vdcp_journal.specs.Airings.{may_have_played, settled_in}
-use Rattle.vdcp_journal.specs.Journals.{IsJournal, IsJournalFault}
-use Rattle.vdcp_journal.specs.Resume.{AreTold, IsFalseLoss, IsLostAfter, IsResumeFault, WereLost, after_rows, is_loss, log_of, plan_after, timed_out}
+use Rattle.vdcp_journal.specs.Airings.{may_have_played, settled_in, unsettled_event}
+use Rattle.vdcp_journal.specs.RunsSoFar.{IsMadeBy, RunView}
+use Rattle.vdcp_journal.specs.Journals.{IsJournal, IsJournalFault, Journal}
+use Rattle.vdcp_journal.specs.Resume.{AllStand, AreTold, IsResumeFault, after_rows, log_of, plan_after, timed_out}
 use Rattle.vdcp_journal.specs.Runs.{Run, runs_of}
 use Rattle.vdcp_journal.specs.declared.faults.JournalReadFault.{JournalReadFault}
 use Rattle.vdcp_journal.specs.declared.faults.JournalReadFault.TheVariants as unread
@@ -17,10 +18,13 @@ use Rattle.vdcp_journal.specs.declared.faults.JournalRowFault.{JournalRowFault}
 use Rattle.vdcp_journal.specs.declared.faults.JournalRowFault.TheVariants as wrong
 use Rattle.vdcp_journal.specs.declared.faults.ResumeFault.{ResumeFault}
 use Rattle.vdcp_journal.specs.declared.faults.ResumeFault.TheVariants as refused
-use Rattle.vdcp_journal.specs.declared.read.Journal.{Journal}
 use Rattle.vdcp_journal.specs.declared.row.Heading.{Heading}
 use Rattle.vdcp_journal.specs.declared.row.Row.{Row}
+use Rattle.vdcp_list.specs.Rests.{FromEvent, items_left}
+use Rattle.vdcp_list.specs.Rows.{FileBytes}
 use Rattle.vdcp_journal_file.specs.Recording.{IsUnopened, IsUnwritten}
+use Rattle.vdcp_journal_file.specs.declared.reading.Refusal.{Refusal}
+use Rattle.vdcp_journal_file.specs.declared.reading.Refusal.TheVariants as refusal
 use Rattle.vdcp_text.specs.declared.failure.Failure.{Failure}
 use Rattle.vdcp_text.specs.declared.failure.Failure.TheVariants as failures
 use Rattle.vdcp_text.specs.declared.failure.JournalFault.{JournalFault}
@@ -79,21 +83,26 @@ row_fault wrong.Mode = fault.Mode
 row_fault wrong.Number = fault.Number
 row_fault wrong.Event = fault.Event
 
--- the failure of a journal of this name whose bytes are none
-abbrev pub read_failure : Bor (List ℕ) → JournalReadFault → Failure
-read_failure name unread.Empty = failures.JournalRow name 1 fault.Empty
-read_failure name (unread.Heading wrong) = failures.JournalRow name 1 (row_fault wrong)
-read_failure name (unread.Row row wrong) = failures.JournalRow name row (row_fault wrong)
-read_failure name (unread.Long row) = failures.JournalRow name row fault.Long
-read_failure name unread.Memory = failures.Memory
-read_failure name unread.Device = failures.Read name
+-- the failure of a journal of this name that is refused so
+abbrev pub failure_of : Bor (List ℕ) → Refusal → Failure
+failure_of name (refusal.Row row fault) = failures.JournalRow name row fault
+failure_of name refusal.Read = failures.Read name
+failure_of name refusal.Memory = failures.Memory
 
--- the failure of a journal of this name with a run whose rows don't tell what its controller does. The heading is row 1,
--- and this many rows stand before those of the run
-abbrev pub untold_failure : Bor (List ℕ) → ℕ → ResumeFault → Failure
-untold_failure name before (refused.Command k) = failures.JournalRow name (before + k + 2) fault.Command
-untold_failure name before (refused.Unawaited k) = failures.JournalRow name (before + k + 2) fault.Unawaited
-untold_failure name before (refused.Outcome k) = failures.JournalRow name (before + k + 2) fault.Outcome
+-- why lines are no journal's
+abbrev pub read_refusal : JournalReadFault → Refusal
+read_refusal unread.Empty = refusal.Row 1 fault.Empty
+read_refusal (unread.Heading wrong) = refusal.Row 1 (row_fault wrong)
+read_refusal (unread.Row row wrong) = refusal.Row row (row_fault wrong)
+read_refusal (unread.Long row) = refusal.Row row fault.Long
+read_refusal unread.Memory = refusal.Memory
+read_refusal unread.Device = refusal.Read
+
+-- the word of what is wrong with a row that doesn't stand where it is
+abbrev pub standing_fault : ResumeFault → JournalFault
+standing_fault refused.Command = fault.Command
+standing_fault refused.Unawaited = fault.Unawaited
+standing_fault refused.Outcome = fault.Outcome
 
 -- where a heading differs first from the one that is wanted
 abbrev pub Differs : Heading → Heading → JournalFault → Type 0
@@ -109,67 +118,79 @@ Differs found wanted fault.Limit =
     × (found.port ≡ wanted.port) × (found.limit ≢ wanted.limit)
 Differs found wanted _ = ⊥
 
--- which row a fault names, the heading apart
-abbrev pub place_of : ResumeFault → ℕ
-place_of (refused.Command k) = k
-place_of (refused.Unawaited k) = k
-place_of (refused.Outcome k) = k
+-- why a run of a journal is none of these items: it begins with no event of them, or a row doesn't stand where it is. The
+-- heading is row 1, and the row that begins the run stands before its others
+pub data IsRunRefused (items : List Item) (heading : Heading) (run : Run) (why : Refusal) : Type 0 where
+  no_event : length items < run.from → why ≡ refusal.Row (run.begin + 1) fault.Event
+      → IsRunRefused items heading run why
+  falls : (k : ℕ) (wrong : ResumeFault) → IsResumeFault (plan_begun heading items run) run.rows k wrong
+      → why ≡ refusal.Row (run.begin + k + 2) (standing_fault wrong) → IsRunRefused items heading run why
 
--- row k, where it says that the run was lost, stands where it was
-abbrev pub TellsLoss : Plan → List Row → ℕ → Type 0
-TellsLoss plan rows k =
-    (row : Row) → slice_get rows k ≡ Some row → IsTrue (is_loss row.note) → IsLostAfter plan (take k rows)
+-- why whole lines are no journal of what is wanted, whose last run goes on with these items
+pub data IsRefused (items : List Item) (wanted : Heading) (lines : FileBytes) (why : Refusal) : Type 0 where
+  no_journal : (wrong : JournalReadFault) → IsJournalFault lines wrong → why ≡ read_refusal wrong
+      → IsRefused items wanted lines why
+  of_other : (journal : Journal) → IsJournal lines journal → (differs : JournalFault)
+      → Differs journal.heading wanted differs → why ≡ refusal.Row 1 differs → IsRefused items wanted lines why
+  bad_run : (journal : Journal) → IsJournal lines journal → (run : Run) → IsLastRun journal.rows run
+      → IsRunRefused items wanted run why → IsRefused items wanted lines why
+  no_memory : why ≡ refusal.Memory → IsRefused items wanted lines why
 
--- why a row of a run of these items is none of a controller: it doesn't tell what that does, or says that it was lost where
--- it wasn't
-abbrev pub IsUntold : List Item → Heading → Run → ResumeFault → Type 0
-IsUntold items heading run wrong = IsResumeFault (plan_of_run heading items run) start run.rows wrong
-    ⊎ IsFalseLoss (plan_begun heading items run) run.rows wrong
-
--- why a run of a journal of this name is none of these items: it begins with no event of them, or a row is none of its
--- controller
-pub data IsRunRefused (items : List Item) (name : Bor (List ℕ)) (heading : Heading) (run : Run) (failure : Failure)
-    : Type 0 where
-  no_event : length items < run.from → failure ≡ failures.JournalRow name (run.begin + 1) fault.Event
-      → IsRunRefused items name heading run failure
-  untold : (wrong : ResumeFault) → IsUntold items heading run wrong → failure ≡ untold_failure name run.begin wrong → IsRunRefused items name heading run failure
-
--- why bytes are no journal of what is wanted, whose last run goes on with these items
-pub data IsRefused (items : List Item) (name : Bor (List ℕ)) (wanted : Heading) (bytes : List ℕ) (failure : Failure)
-    : Type 0 where
-  no_journal : (wrong : JournalReadFault) → IsJournalFault bytes wrong → failure ≡ read_failure name wrong
-      → IsRefused items name wanted bytes failure
-  of_other : (journal : Journal) → IsJournal bytes journal → (differs : JournalFault)
-      → Differs journal.heading wanted differs → failure ≡ failures.JournalRow name 1 differs
-      → IsRefused items name wanted bytes failure
-  bad_run : (journal : Journal) → IsJournal bytes journal → (run : Run) → IsLastRun journal.rows.items run
-      → IsRunRefused items name wanted run failure → IsRefused items name wanted bytes failure
-  no_memory : failure ≡ failures.Memory → IsRefused items name wanted bytes failure
-
--- the bytes are a journal of what is wanted, this is its last run, and the controller with this plan and state goes on
+-- the whole lines are a journal of what is wanted, this is its last run, and the controller with this plan and state goes on
 -- from there
-pub record IsReplayed (items : List Item) (wanted : Heading) (bytes : List ℕ) (run : Run) (plan : Plan) (state : State)
-    (whole : ℕ) : Type 0 where
+pub record IsReplayed (items : List Item) (wanted : Heading) (lines : FileBytes) (run : Run) (plan : Plan) (state : State)
+    : Type 0 where
   pub journal : Journal
-  pub reads : IsJournal bytes journal
+  pub reads : IsJournal lines journal
   pub wanted_is : journal.heading ≡ wanted
-  pub last : IsLastRun journal.rows.items run
+  pub last : IsLastRun journal.rows run
   pub within : run.from ≤ length items
-  pub lost : WereLost (plan_begun wanted items run) run.rows
+  pub stand : AllStand (plan_begun wanted items run) run.rows
   pub resumes : IsResumed (plan_of_run wanted items run) run.rows plan state
-  pub whole_is : whole ≡ journal.whole
 
--- why the journal of this name isn't read: a row is too long, or the file can't be read
+-- a run of a journal of what is wanted goes on with this list: with this controller, this command whose exchange was open,
+-- and this event that may have aired besides
+pub record IsRunOn {S : Type 0} (items : S → List Item) (wanted : Heading) (list : List Item) (run : Run)
+    (controller : View (FromEvent S)) (asked : Option Command) (unsettled : Option ℕ) : Type 0 where
+  pub within : run.from ≤ length list
+  pub stand : AllStand (plan_begun wanted list run) run.rows
+  pub resumes : IsResumed (plan_of_run wanted list run) run.rows (plan_of (items_left items) controller) controller.state
+  pub from_is : controller.source.from ≡ run.from
+  pub asked_is : asked ≡ open_after (plan_of_run wanted list run) run.rows
+  pub unsettled_is : unsettled ≡ unsettled_event wanted.mode run.rows
+
+-- the last run of a journal of what is wanted, which has these whole lines, goes on so
+pub record Continues {S : Type 0} (items : S → List Item) (wanted : Heading) (list : List Item) (lines : FileBytes)
+    (controller : View (FromEvent S)) (asked : Option Command) (unsettled : Option ℕ) : Type 0 where
+  pub journal : Journal
+  pub reads : IsJournal lines journal
+  pub wanted_is : journal.heading ≡ wanted
+  pub run : Run
+  pub last : IsLastRun journal.rows run
+  pub on : IsRunOn items wanted list run controller asked unsettled
+
+-- a journal's heading differs from the one that is wanted, and it is refused so
+abbrev pub IsOther : Heading → Heading → Refusal → Type 0
+IsOther found wanted why = (differs : JournalFault) × Differs found wanted differs × (why ≡ refusal.Row 1 differs)
+
+-- a run of a journal of this list is made of its rows so far, or refused
+abbrev pub IsMadeOrRefused : {S : Type 0} → (S → List Item) → Heading → List Item → Run → Result (RunView (FromEvent S)) Refusal
+    → Type 0
+IsMadeOrRefused {S} items heading list run (Ok made) = (run.from ≤ length list) × (source : S)
+    × IsMadeBy (items_left items) (plan_begun heading list run) (record { source = source; from = run.from }) run.rows made
+IsMadeOrRefused items heading list run (Err why) = IsRunRefused list heading run why
+
+-- why the file of this name isn't read
 abbrev pub IsUnread : Bor (List ℕ) → Failure → Type 0
-IsUnread name failure = ((row : ℕ) × (failure ≡ failures.JournalRow name row fault.Long))
-    ⊎ ((failure ≡ failures.Read name) ⊎ (failure ≡ failures.Memory))
+IsUnread name failure = (failure ≡ failures.Read name) ⊎ (failure ≡ failures.Memory)
 
 -- why nothing goes on from the journal of this name: its file can't be had, read or written, or it is refused
 pub data IsUnresumed (items : List Item) (name : Bor (List ℕ)) (wanted : Heading) (failure : Failure) : Type 0 where
   no_file : IsUnopened name failure → IsUnresumed items name wanted failure
   not_read : IsUnread name failure → IsUnresumed items name wanted failure
   kept : IsUnwritten name failure → IsUnresumed items name wanted failure
-  bad : (bytes : List ℕ) → IsRefused items name wanted bytes failure → IsUnresumed items name wanted failure
+  bad : (lines : FileBytes) (why : Refusal) → IsRefused items wanted lines why → failure ≡ failure_of name why
+      → IsUnresumed items name wanted failure
 
 -- ---- a journal that is opened again
 
@@ -194,7 +215,6 @@ pub data IsNoBeginning (items : List Item) (heading : Heading) (run : Run) (word
       → IsNoBeginning items heading run word failure
   not_listed : (k : ℕ) → word ≡ Some k → length items < k → failure ≡ failures.NoEvent k
       → IsNoBeginning items heading run word failure
-  out_of_memory : failure ≡ failures.Memory → IsNoBeginning items heading run word failure
 
 -- a run came to its end, and nothing is to be sent after it
 abbrev pub IsOver : Option Outcome → Type 0
@@ -204,10 +224,10 @@ IsOver outcome = (outcome ≡ Some Done) ⊎ (outcome ≡ Some Stopped)
 -- items from an event on: a new one; or, where that run is over and the operator says nothing, the one of that run
 pub data IsOpenedAgain (items : List Item) (wanted : Heading) (word : Option ℕ) (from : ℕ) (plan : Plan) (state : State)
     : Type 0 where
-  begins : (bytes : List ℕ) (run : Run) (ended : Plan) (end : State) (whole : ℕ)
-      → IsReplayed items wanted bytes run ended end whole → from ≤ length items → BeginsAfter wanted run word from
+  begins : (lines : FileBytes) (run : Run) (ended : Plan) (end : State)
+      → IsReplayed items wanted lines run ended end → from ≤ length items → BeginsAfter wanted run word from
       → plan ≡ plan_in wanted (drop from items) → state ≡ start → IsOpenedAgain items wanted word from plan state
-  is_over : word ≡ None → (bytes : List ℕ) (run : Run) (whole : ℕ) → IsReplayed items wanted bytes run plan state whole
+  is_over : word ≡ None → (lines : FileBytes) (run : Run) → IsReplayed items wanted lines run plan state
       → from ≡ run.from → IsOver (outcome_of state.stage) → IsOpenedAgain items wanted word from plan state
 
 -- why no controller begins after the last run of the journal of this name: nothing goes on from it, its next event may
@@ -215,8 +235,8 @@ pub data IsOpenedAgain (items : List Item) (wanted : Heading) (word : Option ℕ
 pub data IsUnopenedAgain (items : List Item) (name : Bor (List ℕ)) (wanted : Heading) (word : Option ℕ) (failure : Failure)
     : Type 0 where
   unresumed : IsUnresumed items name wanted failure → IsUnopenedAgain items name wanted word failure
-  unsettled : word ≡ None → (bytes : List ℕ) (run : Run) (ended : Plan) (end : State) (whole : ℕ)
-      → IsReplayed items wanted bytes run ended end whole → IsTrue (next_may_have_aired wanted run)
+  unsettled : word ≡ None → (lines : FileBytes) (run : Run) (ended : Plan) (end : State)
+      → IsReplayed items wanted lines run ended end → IsTrue (next_may_have_aired wanted run)
       → failure ≡ failures.MayHaveAired (next_event wanted run) → IsUnopenedAgain items name wanted word failure
   no_event : (k : ℕ) → word ≡ Some k → length items < k → failure ≡ failures.NoEvent k
       → IsUnopenedAgain items name wanted word failure

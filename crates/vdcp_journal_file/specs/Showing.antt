@@ -2,21 +2,21 @@
 use Rattle.csv.specs.Writing.{default_writer, row_text}
 use Rattle.sha2.specs.Sha256.{sha256}
 use Rattle.std.specs.Io.KnownBytes.{Appends, Keeps}
-use Rattle.std.specs.Prelude.{ℕ, ◌≡◌, ◌≤◌, ◌+◌, ◌∷◌, ◌++◌, List, [], Option, None, Some, IfSome, false, codes, decimal, drop, if◌then◌else◌, length, take}
+use Rattle.std.specs.Prelude.{ℕ, ◌≡◌, ◌≤◌, ◌+◌, ◌∷◌, ◌++◌, List, [], Option, None, Some, IfSome, false, codes, decimal, drop, if◌then◌else◌, length, option_map, take}
 use Rattle.vdcp_auto.specs.Law.{IsLawful}
 use Rattle.vdcp_auto.specs.Turn.{start}
 use Rattle.vdcp_files.specs.Files.{File, bytes_of}
 use Rattle.vdcp_journal.specs.Airings.{AreAirings}
-use Rattle.vdcp_journal.specs.Journals.{IsJournal}
-use Rattle.vdcp_journal.specs.Resume.{AreTold, WereLost, log_of}
+use Rattle.vdcp_journal.specs.Journals.{IsJournal, Journal}
+use Rattle.vdcp_journal.specs.Reading.{whole_lines}
+use Rattle.vdcp_journal.specs.Resume.{AllStand, AreTold, log_of}
 use Rattle.vdcp_journal.specs.Runs.{Run, runs_of}
 use Rattle.vdcp_journal.specs.Times.{moment_text, moment_text_if}
 use Rattle.vdcp_journal.specs.declared.airings.Airing.{Airing}
-use Rattle.vdcp_journal.specs.declared.read.Journal.{Journal}
 use Rattle.vdcp_journal.specs.declared.row.Heading.{Heading}
-use Rattle.vdcp_journal.specs.declared.row.Row.{Row}
 use Rattle.vdcp_list.specs.Asrun.{asrun_text, events_text, has_part}
 use Rattle.vdcp_list.specs.Playlists.{IsListOf}
+use Rattle.vdcp_list.specs.Rows.{FileBytes}
 use Rattle.vdcp_list.specs.Timed.{timed_heading, timed_rows, times_of}
 use Rattle.vdcp_journal_file.specs.Resuming.{plan_begun, plan_of_run, state_after}
 use Rattle.vdcp_journal_file.specs.declared.asrun.AsrunSettings.{AsrunSettings}
@@ -53,7 +53,7 @@ open_text from (Some k) = codes "vdcp: event " ++ decimal (from + k) ++ line (co
 pub record ShowsRun (settings : AsrunSettings) (items : List Item) (heading : Heading) (run : Run)
     (text told : List ℕ) : Type 0 where
   pub within : run.from ≤ length items
-  pub lost : WereLost (plan_begun heading items run) run.rows
+  pub stand : AllStand (plan_begun heading items run) run.rows
   pub are_told : AreTold (plan_of_run heading items run) start run.rows
   pub lawful : IsLawful (plan_of_run heading items run) (state_after (plan_of_run heading items run) run.rows)
       (log_of run.rows)
@@ -71,38 +71,45 @@ ShowRuns settings items heading (run ∷ runs) text told = (first first_told res
     × ShowsRun settings items heading run first first_told × ShowRuns settings items heading runs rest rest_told
     × (text ≡ first ++ rest) × (told ≡ first_told ++ rest_told)
 
--- the rows are those of controllers of these items, and a writer gained the as-run list of their runs
-pub record ShowsRows (settings : AsrunSettings) (items : List Item) (heading : Heading) (rows : List Row)
-    (old new : Option (List ℕ)) (told : List ℕ) : Type 0 where
-  pub text : List ℕ
-  pub runs : ShowRuns settings items heading (runs_of rows) text told
-  pub printed : Appends old new (heading_text settings items ++ text)
+-- the runs show this, below what stands above the rows
+pub record AreShown (settings : AsrunSettings) (items : List Item) (heading : Heading) (runs : List Run)
+    (text told : List ℕ) : Type 0 where
+  pub rows : List ℕ
+  pub show : ShowRuns settings items heading runs rows told
+  pub text_is : text ≡ heading_text settings items ++ rows
+
+-- whole lines are those of a journal, of the list with this digest if one is given, whose rows are those of controllers of
+-- these items: this is its as-run list, and what is told of it
+pub record ShowsJournal (settings : AsrunSettings) (items : List Item) (digest : Option (List ℕ)) (lines : FileBytes)
+    (text told : List ℕ) : Type 0 where
+  pub journal : Journal
+  pub reads : IsJournal lines journal
+  pub of_list : IfSome digest (λ known. journal.heading.digest ≡ known)
+  pub show : AreShown settings items journal.heading (runs_of journal.rows) text told
 
 -- the text is the as-run list, without times, of some journal of these items
 pub record IsAsrunOf (rate : Rate) (items : List Item) (text : List ℕ) : Type 0 where
-  pub bytes : List ℕ
-  pub read : Journal
-  pub is_journal : IsJournal bytes read
+  pub lines : FileBytes
   pub told : List ℕ
-  pub shows : ShowsRows (record { rate = rate; times = false }) items read.heading
-      read.rows.items (Some []) (Some text) told
+  pub shows : ShowsJournal (record { rate = rate; times = false }) items None lines text told
 
--- a journal with this heading is of these items: of those of a playlist, if one is given. If none is they are any of
--- whose controllers the rows are: by the rule book each PLAY is of the item that was cued last, so the rows alone say what
--- was played
-abbrev pub AreItemsOf : AsrunSettings → Option File → Heading → List Item → Type 0
-AreItemsOf settings None heading items = Unit {0}
-AreItemsOf settings (Some list) heading items =
-    IsListOf settings.rate (bytes_of list) items × (heading.digest ≡ digest_of settings.rate items)
+-- a journal that is of a list with this digest is of these items: of those of a playlist, if one is given. If none is they
+-- are any of whose controllers the rows are: by the rule book each PLAY is of the item that was cued last, so the rows alone
+-- say what was played
+abbrev pub AreItemsOf : AsrunSettings → Option File → List Item → Option (List ℕ) → Type 0
+AreItemsOf settings None items digest = digest ≡ None
+AreItemsOf settings (Some list) items digest =
+    IsListOf settings.rate (bytes_of list) items × (digest ≡ Some (digest_of settings.rate items))
 
 -- the files are an optional playlist and a journal of it, and a writer gained the as-run list that this shows
 pub record IsShown (settings : AsrunSettings) (list : Option File) (journal : File) (old new : Option (List ℕ))
     (told : List ℕ) : Type 0 where
   pub items : List Item
-  pub read : Journal
-  pub are_items : AreItemsOf settings list read.heading items
-  pub is_journal : IfSome (bytes_of journal) (λ bytes. IsJournal bytes read)
-  pub shows : ShowsRows settings items read.heading read.rows.items old new told
+  pub digest : Option (List ℕ)
+  pub text : List ℕ
+  pub are_items : AreItemsOf settings list items digest
+  pub shows : ShowsJournal settings items digest (option_map whole_lines (bytes_of journal)) text told
+  pub printed : Appends old new text
 
 -- and another writer gained what is told of the events that may have aired
 pub record IsShownAndTold (settings : AsrunSettings) (list : Option File) (journal : File)

@@ -1,22 +1,22 @@
 //! How a new run begins in a journal that has others.
-ghost use Rattle.std.specs.Prelude.{◌≡◌, ◌⊎◌, ◌≤◌, ◌<◌, ◌+◌, ◌↔◌, Bool, None, Some, IfErr, IfOk, IfSome, IsFalse, IsSome, IsTrue, OnErr, OnOk, drop, length};
+ghost use Rattle.std.specs.Prelude.{◌≡◌, ◌⊎◌, ◌≤◌, ◌<◌, ◌+◌, ◌↔◌, None, Some, IfErr, IfOk, IfSome, IsSome, IsTrue, length};
 ghost use Rattle.vdcp_auto.specs.Plan.{plan_of};
-ghost use Rattle.vdcp_auto.specs.Turn.{outcome_of};
-ghost use Rattle.vdcp_journal.specs.Runs.{run_at};
+ghost use Rattle.vdcp_auto.specs.Turn.{new_controller, outcome_of};
+ghost use Rattle.vdcp_journal.specs.Runs.{Run};
+ghost use Rattle.vdcp_journal.specs.declared.row.Heading.{Heading};
 ghost use Rattle.vdcp_list.specs.Rests.{items_left};
 ghost use Rattle.vdcp_journal_file.specs.Recording.{NotesFrom};
-ghost use Rattle.vdcp_journal_file.specs.Resuming.{BeginsAfter, IsNoBeginning, IsOpenedAgain, IsOver, IsResumed, IsUnopenedAgain, next_event, next_may_have_aired, plan_of_run};
+ghost use Rattle.vdcp_journal_file.specs.Resuming.{BeginsAfter, IsNoBeginning, IsOpenedAgain, IsOver, IsRunOn, IsUnopenedAgain};
 ghost use Rattle.vdcp_text.specs.declared.failure.Failure.TheVariants as failures;
 
 use crate::pending::Pending;
-use crate::reading::{Replayed, controller_of, replay};
+use crate::reading::{LastRun, Replayed};
 use crate::recorder::Recorder;
-use crate::resume::{Resumption, cut, go_on, read_file};
-use std::alloc::Global;
+use crate::resume::{Resumption, cut, go_on, opened, replay_file};
 use std::fs::File;
 use std::rt::{Clock, Files};
-use vdcp_auto::{Controller, Outcome, Source};
-use vdcp_journal::{Heading, airings_in};
+use vdcp_auto::{Controller, Mode, Outcome, Source};
+use vdcp_journal::Heading;
 use vdcp_list::Rest;
 use vdcp_text::Failure;
 
@@ -43,20 +43,18 @@ pub fn begin_again<'a, 'r, 's, R: Files<File = File> + Clock + AllocGlobal, S: S
     ensures from { IfOk result (λ r. IfSome r.recorder (λ recorder. NotesFrom (Some r.controller.source.from) recorder.pending)) }
     ensures unopened { IfErr result (IsUnopenedAgain (S.items source.now) name.entry wanted.now word) }
 {
-    let (file, bytes) = read_file(rt, name, wanted)?;
-    let replayed = replay(rt.alloc(), name, bytes.as_slice(), wanted, source)?;
-    if is_told_again(word, &replayed.controller) {
-        cut(name, &file, replayed.whole, bytes.len())?;
-        return go_on(rt, name, wanted.unit, file, replayed);
+    let mut file = opened(rt, name, wanted)?;
+    let Replayed { run, .. } = replay_file(rt.alloc(), name, wanted, source, &mut file)?;
+    if is_told_again(word, &run.controller) {
+        cut(rt.alloc(), name, &mut file)?;
+        return go_on(rt, name, wanted.unit, file, run);
     }
-    let event = beginning(rt.alloc(), wanted, source, word, &replayed)?;
-    cut(name, &file, replayed.whole, bytes.len())?;
+    let event = beginning(source, word, &run)?;
+    cut(rt.alloc(), name, &mut file)?;
     let mut recorder = Recorder::after(rt, name, wanted.unit, file, Pending::Nothing);
     recorder.note_from(Some(event));
-    let rest = Rest::new(source, event);
-    let controller = controller_of(rest, wanted);
     Ok(Resumption {
-        controller,
+        controller: new_controller(source, event, wanted),
         recorder: Some(recorder),
     })
 }
@@ -84,26 +82,20 @@ fn is_over<S: Source>(controller: &Controller<S>) -> bool
 
 // The event with which a controller begins after the last run of a journal.
 fn beginning<'a, S: Source>(
-    alloc: Global,
-    wanted: &Heading,
     source: &S,
     word: Option<usize>,
-    replayed: &Replayed<&S>,
+    run: &LastRun<'_, S>,
 ) -> Result<usize, Failure<'a>>
-    requires begin { replayed.now.run.begin ≤ replayed.now.run.«end» }
-    requires within { replayed.now.run.«end» ≤ length replayed.now.rows.items }
-    requires listed { replayed.now.run.from ≤ length (S.items source.now) }
-    requires resumed { IsResumed (plan_of_run wanted.now (S.items source.now)
-        (run_at replayed.now.rows.items replayed.now.run)) (run_at replayed.now.rows.items replayed.now.run).rows
-        (plan_of (items_left (λ s. S.items s.now)) replayed.now.controller) replayed.now.controller.state }
-    ensures begins { IfOk result (BeginsAfter wanted.now (run_at replayed.now.rows.items replayed.now.run) word) }
-    ensures listed { IfOk result (λ k. k ≤ length (S.items source.now)) }
-    ensures none { IfErr result (IsNoBeginning (S.items source.now) wanted.now
-        (run_at replayed.now.rows.items replayed.now.run) word) }
+    ensures begins { (wanted : Heading) (of : Run)
+        → IsRunOn (λ s. S.items s.now) wanted (S.items source.now) of run.now.controller run.now.«open» run.now.unsettled
+        → IfOk result (λ k. BeginsAfter wanted of word k × (k ≤ length (S.items source.now))) }
+    ensures none { (wanted : Heading) (of : Run)
+        → IsRunOn (λ s. S.items s.now) wanted (S.items source.now) of run.now.controller run.now.«open» run.now.unsettled
+        → IfErr result (IsNoBeginning (S.items source.now) wanted of word) }
 {
     match word {
         Some(event) => listed(source, event),
-        None => next_event(alloc, wanted, source, replayed),
+        None => next_event(run),
     }
 }
 
@@ -120,34 +112,35 @@ fn listed<'a, S: Source>(source: &S, event: usize) -> Result<usize, Failure<'a>>
 }
 
 // The first event that the last run of a journal doesn't report, if it can't have aired.
-fn next_event<'a, S: Source>(
-    alloc: Global,
-    wanted: &Heading,
-    source: &S,
-    replayed: &Replayed<&S>,
-) -> Result<usize, Failure<'a>>
-    requires begin { replayed.now.run.begin ≤ replayed.now.run.«end» }
-    requires within { replayed.now.run.«end» ≤ length replayed.now.rows.items }
-    requires listed { replayed.now.run.from ≤ length (S.items source.now) }
-    requires resumed { IsResumed (plan_of_run wanted.now (S.items source.now)
-        (run_at replayed.now.rows.items replayed.now.run)) (run_at replayed.now.rows.items replayed.now.run).rows
-        (plan_of (items_left (λ s. S.items s.now)) replayed.now.controller) replayed.now.controller.state }
-    ensures next { IfOk result
-        (BeginsAfter wanted.now (run_at replayed.now.rows.items replayed.now.run) None) }
-    ensures listed { IfOk result (λ k. k ≤ length (S.items source.now)) }
-    ensures unsettled { IfErr result (λ failure. (failure ≡ failures.Memory)
-        ⊎ (IsTrue (next_may_have_aired wanted.now (run_at replayed.now.rows.items replayed.now.run))
-        × (failure ≡ failures.MayHaveAired
-        (next_event wanted.now (run_at replayed.now.rows.items replayed.now.run))))) }
+fn next_event<'a, S: Source>(run: &LastRun<'_, S>) -> Result<usize, Failure<'a>>
+    ensures next { IfOk result (λ k. (k ≡ run.now.controller.source.from + run.now.controller.state.settled)
+        × (run.now.unsettled ≡ None)) }
+    ensures within { IfOk result (λ k. k ≤ run.now.controller.source.from
+        + length (items_left (λ s. S.items s.now) run.now.controller.source)) }
+    ensures none { IfErr result (λ failure. IsSome run.now.unsettled
+        × (failure ≡ failures.MayHaveAired (run.now.controller.source.from + run.now.controller.state.settled))) }
 {
-    let _ = wanted;
-    let _ = source;
-    let run = replayed.run;
-    let rows = &replayed.rows[run.begin..run.end];
-    let found = airings_in(alloc, &replayed.controller, rows)?;
-    let event = run.from + replayed.controller.settled();
-    if found.unsettled.is_some() {
+    let event = run.controller.source().from() + run.controller.settled();
+    if run.unsettled.is_some() {
         return Err(Failure::MayHaveAired(event));
     }
     Ok(event)
+}
+
+// The new controller of a list's events from this one on, with a journal's settings.
+fn new_controller<'s, S: Source>(
+    source: &'s S,
+    from: usize,
+    heading: &Heading,
+) -> Controller<Rest<&'s S>>
+    requires some { 1 ≤ heading.now.limit }
+    requires few { heading.now.limit ≤ 1000 }
+    requires listed { from ≤ length (S.items source.now) }
+    ensures { result ≡ new_controller (record { source = source.entry; from = from }) heading.now.mode heading.now.port heading.now.limit }
+{
+    let rest = Rest::new(source, from);
+    match heading.mode {
+        Mode::Plain => Controller::new(rest, heading.port, heading.limit),
+        Mode::Confirming => Controller::confirming(rest, heading.port, heading.limit),
+    }
 }

@@ -1,23 +1,30 @@
 //! The subcommand `asrun`: the as-run list that a journal shows.
 ghost use Rattle.std.specs.Io.KnownBytes.{Appends, Keeps};
-ghost use Rattle.std.specs.Option.{option_map};
-ghost use Rattle.std.specs.Prelude.{◌≡◌, ◌≢◌, ◌⊎◌, ◌≤◌, ◌<◌, ◌+◌, ◌^◌, ◌++◌, ℕ, List, [], None, Some, IfErr, IfOk, IfSome, OnOk, length};
+ghost use Rattle.std.specs.Prelude.{◌≡◌, ◌≢◌, ◌⊎◌, ◌≤◌, ◌<◌, ◌+◌, ◌^◌, ◌∷◌, ◌++◌, ℕ, List, [], None, Some, IfErr, IfOk, IfSome, OnOk, length, option_map};
 ghost use Rattle.vdcp_files.specs.Files.{file};
-ghost use Rattle.vdcp_journal.specs.Journals.{IsJournal};
-ghost use Rattle.vdcp_journal.specs.Runs.{run_at, runs_of};
-ghost use Rattle.vdcp_journal_file.specs.Showing.{IsAsrunOf, IsShown, IsShownAndTold, IsToldOnly, ShowRuns, ShowsRows, ShowsRun, digest_of, heading_text, open_text, reported_text};
+ghost use Rattle.vdcp_journal.specs.Airings.{FoundSoFar};
+ghost use Rattle.vdcp_journal.specs.Reading.{whole_lines};
+ghost use Rattle.vdcp_journal.specs.Runs.{Run};
+ghost use Rattle.vdcp_journal.specs.declared.row.Heading.{Heading};
+ghost use Rattle.vdcp_journal_file.specs.Resuming.{IsMadeOrRefused};
+ghost use Rattle.vdcp_journal_file.specs.Showing.{AreShown, IsAsrunOf, IsShown, IsShownAndTold, IsToldOnly, ShowsJournal, digest_of, heading_text, open_text, reported_text};
+ghost use Rattle.vdcp_journal_file.specs.declared.reading.Refusal.TheVariants as refusals;
 ghost use Rattle.vdcp_text.specs.Failure.{status_of};
 ghost use Rattle.vdcp_text.specs.declared.failure.Failure.TheVariants as failures;
 
-use crate::named::named_events;
-use crate::reading::{journal_in, read_rows, run_resumed};
+use crate::named::events_in;
+use crate::reading::{Refusal, begun, followed, read_refusal, refusal_of};
 use std::alloc::Global;
 use std::fs::File;
 use std::io::{self, ErrorKind, Write};
 use std::rt::Files;
 use vdcp_auto::Source;
 use vdcp_files::NamedFile;
-use vdcp_journal::{Airing, Heading, Journal, JournalRun, airings_in, digest_of, runs_in};
+use vdcp_journal::laws::{runs_follow_one_another, what_is_told_is_lawful};
+use vdcp_journal::{
+    Airing, Airings, AiringsSoFar, Heading, JournalRows, Resumed, RunSoFar, WholeLines, begins_at,
+    digest_of,
+};
 use vdcp_list::{write_events, write_timed_events, write_timed_heading};
 use vdcp_text::{Failure, JournalFault};
 use vdcp_value::Rate;
@@ -31,9 +38,8 @@ pub struct AsrunSettings {
     pub times: bool,
 }
 
-/// Prints the as-run list that a journal shows: run by run, the events that a controller given the run's rows reports, and
-/// the times of each if they are wanted. The journal is of this list; where none is given the journal's own cues say what
-/// was played. A torn last row counts as none.
+/// Prints the as-run list that a journal of this list shows: run by run, the events that a controller given the run's rows
+/// reports, and the times of each if they are wanted. A torn last row counts as none.
 ///
 /// The status is 0 where it is printed, 1 where a row of the list or of the journal is refused, or the list isn't the
 /// journal's, and 3 where a file can't be read, memory was refused or a writer failed. The list is read first. Where it
@@ -42,20 +48,42 @@ pub struct AsrunSettings {
 pub fn do_asrun<J: io::Read + Drop, L: io::Read + Drop, W: io::Write, E: io::Write>(
     alloc: Global,
     journal: NamedFile<'_, J>,
-    list: Option<NamedFile<'_, L>>,
+    list: NamedFile<'_, L>,
     settings: AsrunSettings,
     out: &mut W,
     err: &mut E,
 ) -> u8
-    ensures shown { result ≡ 0 → IsShownAndTold settings
-        (option_map (λ list. file list.name (L.remaining list.reader)) list.entry)
+    ensures shown { result ≡ 0 → IsShownAndTold settings (Some (file list.entry.name (L.remaining list.entry.reader)))
         (file journal.entry.name (J.remaining journal.entry.reader)) (W.contents out.old) (W.contents out.new)
         (E.contents err.old) (E.contents err.new) }
     ensures refused { result ≡ 1 →
         IsToldOnly (W.contents out.old) (W.contents out.new) (E.contents err.old) (E.contents err.new) }
     ensures statuses { (result < 2) ⊎ (result ≡ 3) }
 {
-    match print_asrun(alloc, journal, list, settings, out) {
+    match print_listed(alloc, journal, list, settings, out) {
+        Ok(told) => tell(told.as_slice(), err),
+        Err(failure) => failure.report(err),
+    }
+}
+
+/// Prints the same of a journal of any list: its own cues say what was played. `cues` is another reader of the journal's
+/// file, and is read first.
+pub fn do_asrun_by_cues<J: io::Read + Drop, C: io::Read + Drop, W: io::Write, E: io::Write>(
+    alloc: Global,
+    journal: NamedFile<'_, J>,
+    cues: C,
+    settings: AsrunSettings,
+    out: &mut W,
+    err: &mut E,
+) -> u8
+    ensures shown { result ≡ 0 → IsShownAndTold settings None
+        (file journal.entry.name (J.remaining journal.entry.reader)) (W.contents out.old) (W.contents out.new)
+        (E.contents err.old) (E.contents err.new) }
+    ensures refused { result ≡ 1 →
+        IsToldOnly (W.contents out.old) (W.contents out.new) (E.contents err.old) (E.contents err.new) }
+    ensures statuses { (result < 2) ⊎ (result ≡ 3) }
+{
+    match print_named(alloc, journal, cues, settings, out) {
         Ok(told) => tell(told.as_slice(), err),
         Err(failure) => failure.report(err),
     }
@@ -71,19 +99,15 @@ pub fn asrun_of_journal<'a, R: Files + AllocGlobal, S: Source>(
 ) -> Result<Vec<u8>, Failure<'a>>
     ensures { IfOk result (λ text. IsAsrunOf rate (S.items events.now) text.items) }
 {
-    let alloc = rt.alloc();
     let reader = match File::open(rt, name) {
         Ok(file) => file,
         Err(error) if error.kind() == ErrorKind::OutOfMemory => return Err(Failure::Memory),
         Err(_) => return Err(Failure::Open(name)),
     };
-    let journal = journal_of(alloc, NamedFile { name, reader })?;
     let settings = AsrunSettings { rate, times: false };
-    let mut text = Vec::new(alloc);
-    match print_rows(alloc, name, &journal, events, settings, &mut text) {
-        Ok(_) => Ok(text),
-        Err(Failure::Writer) => Err(Failure::Memory),
-        Err(failure) => Err(failure),
+    match shown_in(rt.alloc(), reader, events, settings, None) {
+        Ok(shown) => Ok(shown.text),
+        Err(refusal) => Err(refusal.failure(name)),
     }
 }
 
@@ -98,28 +122,7 @@ fn tell<E: io::Write>(told: &[u8], err: &mut E) -> u8
     }
 }
 
-// Prints the list, and gives what is to be told.
-fn print_asrun<'a, J: io::Read + Drop, L: io::Read + Drop, W: io::Write>(
-    alloc: Global,
-    journal: NamedFile<'a, J>,
-    list: Option<NamedFile<'a, L>>,
-    settings: AsrunSettings,
-    out: &mut W,
-) -> Result<Vec<u8>, Failure<'a>>
-    ensures shown { IfOk result (λ told. IsShown settings
-        (option_map (λ list. file list.name (L.remaining list.reader)) list.entry)
-        (file journal.entry.name (J.remaining journal.entry.reader)) (W.contents out.old) (W.contents out.new)
-        told.items) }
-    ensures silent { IfErr result (λ f. f ≢ failures.Writer → Keeps (W.contents out.old) (W.contents out.new)) }
-    ensures statuses { IfErr result (λ f. status_of f ≢ 2) }
-{
-    match list {
-        Some(list) => print_listed(alloc, journal, list, settings, out),
-        None => print_named(alloc, journal, settings, out),
-    }
-}
-
-// Prints the list of a journal of this list.
+// Prints the list of a journal of this list, and gives what is to be told.
 fn print_listed<'a, J: io::Read + Drop, L: io::Read + Drop, W: io::Write>(
     alloc: Global,
     journal: NamedFile<'a, J>,
@@ -136,16 +139,23 @@ fn print_listed<'a, J: io::Read + Drop, L: io::Read + Drop, W: io::Write>(
 {
     let list_name = list.name;
     let events = list.read_list(alloc, settings.rate)?;
-    let name = journal.name;
-    let journal = journal_of(alloc, journal)?;
-    expect_list(alloc, list_name, &events, settings.rate, &journal.heading)?;
-    print_rows(alloc, name, &journal, &events, settings, out)
+    // (each part of a list was read at this rate)
+    let Ok(digest) = digest_of(alloc, &events, settings.rate) else {
+        return Err(Failure::Memory);
+    };
+    let NamedFile { name, reader } = journal;
+    match shown_in(alloc, reader, &events, settings, Some(digest)) {
+        Ok(shown) => print_out(shown, out),
+        Err(Refusal::Row(1, JournalFault::List)) => Err(Failure::NotTheList(list_name)),
+        Err(refusal) => Err(refusal.failure(name)),
+    }
 }
 
-// Prints the list of a journal by its own cues.
-fn print_named<'a, J: io::Read + Drop, W: io::Write>(
+// Prints the list of a journal by its own cues, and gives what is to be told.
+fn print_named<'a, J: io::Read + Drop, C: io::Read + Drop, W: io::Write>(
     alloc: Global,
     journal: NamedFile<'a, J>,
+    cues: C,
     settings: AsrunSettings,
     out: &mut W,
 ) -> Result<Vec<u8>, Failure<'a>>
@@ -155,47 +165,15 @@ fn print_named<'a, J: io::Read + Drop, W: io::Write>(
     ensures silent { IfErr result (λ f. f ≢ failures.Writer → Keeps (W.contents out.old) (W.contents out.new)) }
     ensures statuses { IfErr result (λ f. status_of f ≢ 2) }
 {
-    let name = journal.name;
-    let journal = journal_of(alloc, journal)?;
-    let events = named_events(alloc, name, settings.rate, journal.rows.as_slice())?;
-    print_rows(alloc, name, &journal, &events, settings, out)
-}
-
-// The journal in a file.
-fn journal_of<'a, J: io::Read + Drop>(
-    alloc: Global,
-    journal: NamedFile<'a, J>,
-) -> Result<Journal, Failure<'a>>
-    ensures journal { IfOk result (λ read. (bytes : List ℕ) × IsJournal bytes read
-        × IfSome (J.remaining journal.entry.reader) (λ known. known ≡ bytes)) }
-    ensures statuses { IfErr result (λ f. (status_of f ≢ 2) × (f ≢ failures.Writer)) }
-{
     let NamedFile { name, reader } = journal;
-    let bytes = read_rows(alloc, name, reader)?;
-    journal_in(alloc, name, bytes.as_slice())
-}
-
-// Prints what the rows of a journal of these events show, and gives what is to be told.
-fn print_rows<'a, S: Source, W: io::Write>(
-    alloc: Global,
-    name: &'a str,
-    journal: &Journal,
-    events: &S,
-    settings: AsrunSettings,
-    out: &mut W,
-) -> Result<Vec<u8>, Failure<'a>>
-    ensures shown { IfOk result (λ told. ShowsRows settings (S.items events.now) journal.now.heading
-        journal.now.rows.items (W.contents out.old) (W.contents out.new) told.items) }
-    ensures silent { IfErr result (λ f. f ≢ failures.Writer → Keeps (W.contents out.old) (W.contents out.new)) }
-    ensures statuses { IfErr result (λ f. status_of f ≢ 2) }
-{
-    expect_limit(name, &journal.heading)?;
-    let mut shown = Shown::new(alloc);
-    add_heading(alloc, events, settings, &mut shown.text)?;
-    add_runs(alloc, name, journal, events, settings, &mut shown)?;
-    let Shown { text, told } = shown;
-    write_out(text.as_slice(), out)?;
-    Ok(told)
+    let events = match events_in(alloc, settings.rate, cues) {
+        Ok(events) => events,
+        Err(refusal) => return Err(refusal.failure(name)),
+    };
+    match shown_in(alloc, reader, &events, settings, None) {
+        Ok(shown) => print_out(shown, out),
+        Err(refusal) => Err(refusal.failure(name)),
+    }
 }
 
 // What is printed of a journal.
@@ -206,103 +184,162 @@ struct Shown {
     told: Vec<u8>,
 }
 
-impl Shown {
-    fn new(alloc: Global) -> Shown
-        ensures text { result.text.items ≡ [] }
-        ensures told { result.told.items ≡ [] }
-    {
-        Shown {
-            text: Vec::new(alloc),
-            told: Vec::new(alloc),
+// What the journal in a file shows, of these events: it is of the list with this digest, if one is given.
+fn shown_in<S: Source, J: io::Read + Drop>(
+    alloc: Global,
+    reader: J,
+    events: &S,
+    settings: AsrunSettings,
+    digest: Option<[u8; 32]>,
+) -> Result<Shown, Refusal>
+    ensures { IfOk result (λ shown. ShowsJournal settings (S.items events.now) digest
+        (option_map whole_lines (J.remaining reader)) shown.text.items shown.told.items) }
+{
+    let Ok(mut lines) = WholeLines::new(alloc, reader) else {
+        return Err(Refusal::Memory);
+    };
+    match shown_by(alloc, &mut lines, events, settings, digest) {
+        Ok(shown) => Ok(shown),
+        Err(refusal) => Err(refusal_of(lines.long_line(), refusal)),
+    }
+}
+
+// What a journal with these whole lines shows.
+fn shown_by<S: Source, I: io::Read + Drop>(
+    alloc: Global,
+    lines: I,
+    events: &S,
+    settings: AsrunSettings,
+    digest: Option<[u8; 32]>,
+) -> Result<Shown, Refusal>
+    ensures { IfOk result (λ shown. ShowsJournal settings (S.items events.now) digest (I.remaining lines)
+        shown.text.items shown.told.items) }
+{
+    runs_follow_one_another();
+    let mut rows = match JournalRows::begin(alloc, lines) {
+        Ok(rows) => rows,
+        Err(fault) => return Err(read_refusal(fault)),
+    };
+    let heading = rows.heading;
+    expect(&heading, digest)?;
+    let mut shown = heading_shown(alloc, events, settings);
+    let mut made = begun(events, &heading, 0, 1);
+    let mut airings = AiringsSoFar::new(alloc, events, heading.mode);
+    for read in 0..usize::MAX - 1 {
+        let row = match rows.next_row() {
+            Ok(Some(row)) => row,
+            Ok(None) => return with_run(alloc, shown, made, airings, events, settings),
+            Err(fault) => return Err(read_refusal(fault)),
+        };
+        match begins_at(&row.note) {
+            Some(event) => {
+                shown = with_run(alloc, shown, made, airings, events, settings);
+                made = begun(events, &heading, event, read + 2);
+                airings = AiringsSoFar::new(alloc, events, heading.mode);
+            }
+            None => {
+                made = followed(made, &row, read + 2);
+                airings.add(&row)?;
+            }
         }
     }
+    Err(Refusal::Read)
 }
 
-// Writes a text and flushes the writer.
-fn write_out<'a, W: io::Write>(text: &[u8], out: &mut W) -> Result<(), Failure<'a>>
-    ensures written { OnOk result (Appends (W.contents out.old) (W.contents out.new) text.now) }
+// Refuses a journal with a limit that no controller has, or of a list with another digest.
+fn expect(heading: &Heading, digest: Option<[u8; 32]>) -> Result<(), Refusal>
+    ensures some { OnOk result (1 ≤ heading.now.limit) }
+    ensures few { OnOk result (heading.now.limit ≤ 1000) }
+    ensures digest { OnOk result (IfSome digest (λ digest. heading.now.digest ≡ digest)) }
+{
+    match digest {
+        Some(digest) if digest != heading.digest => return Err(Refusal::Row(1, JournalFault::List)),
+        _ => {}
+    }
+    if heading.limit < 1 || heading.limit > 1000 {
+        return Err(Refusal::Row(1, JournalFault::Limit));
+    }
+    Ok(())
+}
+
+// Adds what a run shows, once its rows have come to an end.
+fn with_run<'s, S: Source>(
+    alloc: Global,
+    shown: Result<Shown, Refusal>,
+    made: Result<RunSoFar<'s, S>, Refusal>,
+    airings: AiringsSoFar<&'s S>,
+    events: &'s S,
+    settings: AsrunSettings,
+) -> Result<Shown, Refusal>
+    requires { (heading : Heading) × (run : Run) × IsMadeOrRefused (λ s. S.items s.now) heading (S.items events.now) run made
+        × FoundSoFar (λ s. S.items s.now) heading.mode run.rows airings }
+    ensures { (heading : Heading) (runs : List Run) (run : Run)
+        → IfOk shown (λ s. AreShown settings (S.items events.now) heading runs s.text.items s.told.items)
+        → IsMadeOrRefused (λ s. S.items s.now) heading (S.items events.now) run made.entry
+        → FoundSoFar (λ s. S.items s.now) heading.mode run.rows airings.entry
+        → IfOk result (λ s. AreShown settings (S.items events.now) heading (runs ++ run ∷ []) s.text.items
+        s.told.items) }
+{
+    what_is_told_is_lawful();
+    let Shown { mut text, mut told } = match shown {
+        Ok(shown) => shown,
+        Err(why) => return Err(why),
+    };
+    let run = match made {
+        Ok(run) => run,
+        Err(why) => return Err(why),
+    };
+    let Airings { airings, unsettled } = airings.finish();
+    let Resumed { controller, .. } = run.resume();
+    let from = controller.source().from();
+    let reported = controller.settled();
+    add_reported(
+        alloc,
+        events,
+        from,
+        reported,
+        airings.as_slice(),
+        settings,
+        &mut text,
+    )?;
+    add_event(from, unsettled, &mut told)?;
+    Ok(Shown { text, told })
+}
+
+// Prints a text, and gives what is to be told.
+fn print_out<'a, W: io::Write>(shown: Shown, out: &mut W) -> Result<Vec<u8>, Failure<'a>>
+    ensures written { OnOk result (Appends (W.contents out.old) (W.contents out.new) shown.text.items) }
+    ensures told { IfOk result (λ told. told.items ≡ shown.told.items) }
     ensures failed { IfErr result (λ f. f ≡ failures.Writer) }
 {
-    if out.write_all(text).is_err() || out.flush().is_err() {
+    let Shown { text, told } = shown;
+    if out.write_all(text.as_slice()).is_err() || out.flush().is_err() {
         return Err(Failure::Writer);
     }
-    Ok(())
+    Ok(told)
 }
 
-// Adds what stands above the rows.
-fn add_heading<'a, S: Source>(
+// What stands above the rows.
+fn heading_shown<S: Source>(
     alloc: Global,
     events: &S,
     settings: AsrunSettings,
-    text: &mut Vec<u8>,
-) -> Result<(), Failure<'a>>
-    ensures text { OnOk result (text.new.items ≡ text.old.items ++ heading_text settings (S.items events.now)) }
-    ensures memory { IfErr result (λ f. f ≡ failures.Memory) }
+) -> Result<Shown, Refusal>
+    ensures text { IfOk result (λ shown. shown.text.items ≡ heading_text settings (S.items events.now)) }
+    ensures told { IfOk result (λ shown. shown.told.items ≡ []) }
 {
-    if !settings.times {
-        return Ok(());
+    let mut text = Vec::new(alloc);
+    if settings.times && write_timed_heading(alloc, events, &mut text).is_err() {
+        return Err(Refusal::Memory);
     }
-    match write_timed_heading(alloc, events, text) {
-        Ok(()) => Ok(()),
-        Err(_) => Err(Failure::Memory),
-    }
-}
-
-// Adds what the runs of a journal show.
-fn add_runs<'a, S: Source>(
-    alloc: Global,
-    name: &'a str,
-    journal: &Journal,
-    events: &S,
-    settings: AsrunSettings,
-    shown: &mut Shown,
-) -> Result<(), Failure<'a>>
-    requires some { 1 ≤ journal.now.heading.limit }
-    requires few { journal.now.heading.limit ≤ 1000 }
-    ensures shown { OnOk result ((text : List ℕ) × (told : List ℕ)
-        × ShowRuns settings (S.items events.now) journal.now.heading (runs_of journal.now.rows.items) text told
-        × (shown.new.text.items ≡ shown.old.text.items ++ text) × (shown.new.told.items ≡ shown.old.told.items ++ told)) }
-    ensures statuses { IfErr result (λ f. (status_of f ≢ 2) × (f ≢ failures.Writer)) }
-{
-    let found = runs_in(alloc, journal.rows.as_slice())?;
-    let runs = found.as_slice();
-    for k in 0..runs.len() {
-        add_run(alloc, name, journal, runs[k], events, settings, shown)?;
-    }
-    Ok(())
-}
-
-// Adds what a run of a journal shows.
-fn add_run<'a, S: Source>(
-    alloc: Global,
-    name: &'a str,
-    journal: &Journal,
-    run: JournalRun,
-    events: &S,
-    settings: AsrunSettings,
-    shown: &mut Shown,
-) -> Result<(), Failure<'a>>
-    requires some { 1 ≤ journal.now.heading.limit }
-    requires few { journal.now.heading.limit ≤ 1000 }
-    requires begin { run.begin ≤ run.«end» }
-    requires within { run.«end» ≤ length journal.now.rows.items }
-    ensures shown { OnOk result ((text : List ℕ) × (told : List ℕ)
-        × ShowsRun settings (S.items events.now) journal.now.heading (run_at journal.now.rows.items run) text told
-        × (shown.new.text.items ≡ shown.old.text.items ++ text) × (shown.new.told.items ≡ shown.old.told.items ++ told)) }
-    ensures statuses { IfErr result (λ f. (status_of f ≢ 2) × (f ≢ failures.Writer)) }
-{
-    let rows = journal.rows.as_slice();
-    let resumed = run_resumed(name, &journal.heading, events, rows, run)?;
-    let found = airings_in(alloc, &resumed.controller, &rows[run.begin..run.end])?;
-    let reported = resumed.controller.settled();
-    let airings = found.airings.as_slice();
-    let text = &mut shown.text;
-    add_reported(alloc, events, run.from, reported, airings, settings, text)?;
-    add_event(run.from, found.unsettled, &mut shown.told)
+    Ok(Shown {
+        text,
+        told: Vec::new(alloc),
+    })
 }
 
 // Adds the rows of the events that a run reports.
-fn add_reported<'a, S: Source>(
+fn add_reported<S: Source>(
     alloc: Global,
     events: &S,
     from: usize,
@@ -310,12 +347,12 @@ fn add_reported<'a, S: Source>(
     airings: &[Airing],
     settings: AsrunSettings,
     text: &mut Vec<u8>,
-) -> Result<(), Failure<'a>>
+) -> Result<(), Refusal>
     requires one_each { length airings.now ≡ reported }
     requires listed { from + reported ≤ length (S.items events.now) }
     ensures text { OnOk result (text.new.items ≡ text.old.items
         ++ reported_text settings (S.items events.now) from reported airings.now) }
-    ensures memory { IfErr result (λ f. f ≡ failures.Memory) }
+    ensures memory { IfErr result (λ f. f ≡ refusals.Memory) }
 {
     let AsrunSettings { rate, times, .. } = settings;
     let added = if times {
@@ -326,15 +363,15 @@ fn add_reported<'a, S: Source>(
     // (the text is written to memory, and each part of a list was read at this rate)
     match added {
         Ok(()) => Ok(()),
-        Err(_) => Err(Failure::Memory),
+        Err(_) => Err(Refusal::Memory),
     }
 }
 
 // Adds what is told of the event that may have aired, if there is one.
-fn add_event<'a>(from: usize, event: Option<usize>, told: &mut Vec<u8>) -> Result<(), Failure<'a>>
+fn add_event(from: usize, event: Option<usize>, told: &mut Vec<u8>) -> Result<(), Refusal>
     requires { IfSome event (λ k. from + k < 2 ^ 64) }
     ensures told { OnOk result (told.new.items ≡ told.old.items ++ open_text from event) }
-    ensures memory { IfErr result (λ f. f ≡ failures.Memory) }
+    ensures memory { IfErr result (λ f. f ≡ refusals.Memory) }
 {
     let Some(k) = event else {
         return Ok(());
@@ -342,38 +379,6 @@ fn add_event<'a>(from: usize, event: Option<usize>, told: &mut Vec<u8>) -> Resul
     let event = from + k;
     match writeln!(told, "vdcp: event {event} may have aired") {
         Ok(()) => Ok(()),
-        Err(_) => Err(Failure::Memory),
+        Err(_) => Err(Refusal::Memory),
     }
-}
-
-// Refuses a list of this name that isn't the one of a journal's heading.
-fn expect_list<'a, S: Source>(
-    alloc: Global,
-    name: &'a str,
-    events: &S,
-    rate: Rate,
-    heading: &Heading,
-) -> Result<(), Failure<'a>>
-    ensures digest { OnOk result (heading.now.digest ≡ digest_of rate (S.items events.now)) }
-    ensures refused { IfErr result (λ f. (f ≡ failures.Memory) ⊎ (status_of f ≡ 1)) }
-    ensures told { IfErr result (λ f. f ≢ failures.Writer) }
-{
-    match digest_of(alloc, events, rate) {
-        Ok(digest) if digest == heading.digest => Ok(()),
-        Ok(_) => Err(Failure::NotTheList(name)),
-        // (each part of a list was read at this rate)
-        Err(_) => Err(Failure::Memory),
-    }
-}
-
-// Refuses a journal with a limit that no controller has.
-fn expect_limit<'a>(name: &'a str, heading: &Heading) -> Result<(), Failure<'a>>
-    ensures some { OnOk result (1 ≤ heading.now.limit) }
-    ensures few { OnOk result (heading.now.limit ≤ 1000) }
-    ensures refused { IfErr result (λ f. status_of f ≡ 1) }
-{
-    if heading.limit < 1 || heading.limit > 1000 {
-        return Err(Failure::JournalRow(name, 1, JournalFault::Limit));
-    }
-    Ok(())
 }

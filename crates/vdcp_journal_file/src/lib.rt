@@ -1,10 +1,10 @@
 //! The files of journals: one is begun, written while an automation plays a list, and read again.
 //!
 //! `begin_journal` makes a journal's file and gives a `Recorder`, which keeps each command there before it goes out: its
-//! `run` runs an automation, and `finish` writes what is left. `resume_journal` makes the controller of
-//! a journal's last run anew, and a `Recorder` that appends to it; `replay` makes the controller of bytes alone.
-//! `begin_again` begins a new controller after that run. `do_asrun` prints the as-run list that a journal shows, as its
-//! `AsrunSettings` say, and `asrun_of_journal` gives it. Each failure is reported in one line.
+//! `run` runs an automation, and `finish` writes what is left. `resume_journal` makes the controller of a journal's last run
+//! anew, and a `Recorder` that appends to it; `begin_again` begins a new controller after that run. `do_asrun` prints the
+//! as-run list that a journal of a list shows, as its `AsrunSettings` say, `do_asrun_by_cues` that of any, and
+//! `asrun_of_journal` gives one; `Refusal` is a failure without the journal's name. All of these read a journal row by row, and hold none. Each failure is reported in one line.
 //!
 //! Files, in reading order: `disk`, `file`, `pending`, `recorder`, `begin`, `reading`, `mending`, `resume`, `again`, `named`,
 //! `asrun`.
@@ -23,10 +23,10 @@ mod recorder;
 mod resume;
 
 pub use again::begin_again;
-pub use asrun::{AsrunSettings, asrun_of_journal, do_asrun};
+pub use asrun::{AsrunSettings, asrun_of_journal, do_asrun, do_asrun_by_cues};
 pub use begin::begin_journal;
 pub use disk::{Disk, append_safely};
 pub use pending::RecordFault;
-pub use reading::{Replayed, replay};
+pub use reading::Refusal;
 pub use recorder::Recorder;
 pub use resume::{Resumption, resume_journal};

@@ -1,37 +1,52 @@
 //! What a killed run left undone in its journal is done before anything goes on from it.
-ghost use Rattle.std.specs.Prelude.{◌≤◌, IfErr, length};
+ghost use Rattle.std.specs.Prelude.{◌≤◌, ◌⊎◌, IfErr};
 ghost use Rattle.vdcp_journal_file.specs.Recording.{IsUnwritten};
-ghost use Rattle.vdcp_journal_file.specs.Resuming.{IsUnresumed};
+ghost use Rattle.vdcp_journal_file.specs.Resuming.{IsUnread, IsUnresumed};
 
 use crate::disk::append_safely;
 use crate::pending::{CUE_DONE, PLAYING, RecordFault, add_row};
-use crate::reading::{Replayed, has_end, replay};
+use crate::reading::{LastRun, Replayed, is_end};
 use crate::recorder::{heading_text, row_now};
-use crate::resume::cut;
+use crate::resume::{cut_to, replay_file, replay_front, whole_size};
 use std::alloc::Global;
 use std::fs::File;
+use std::io::{self, ErrorKind, Read};
 use std::rt::Clock;
 use vdcp_auto::{Heard, Outcome, Phase, Source, Standing};
-use vdcp_journal::{Heading, Note, Row};
+use vdcp_journal::{Heading, Note};
 use vdcp_text::Failure;
 use vdcp_words::{Command, Reply};
 
-/// Writes the first row if it was torn; nothing was sent then. `bytes` is the file's content, before and after.
+/// Writes the first row if it was torn; nothing was sent then.
 pub(crate) fn mend_heading<'a, R: Clock + AllocGlobal>(
     rt: &R,
     name: &'a str,
     wanted: &Heading,
     file: &mut File,
-    bytes: &mut Vec<u8>,
 ) -> Result<(), Failure<'a>>
-    ensures { IfErr result (IsUnwritten name.entry) }
+    ensures { IfErr result (λ failure. IsUnread name.entry failure ⊎ IsUnwritten name.entry failure) }
 {
-    match heading_text(rt, wanted) {
-        Ok(row) if is_torn(bytes.as_slice(), row.as_slice()) => {
-            replace_from(name, 0, row.as_slice(), file, bytes)
-        }
-        Ok(_) => Ok(()),
-        Err(fault) => Err(fault.failure(name)),
+    let row = match heading_text(rt, wanted) {
+        Ok(row) => row,
+        Err(fault) => return Err(fault.failure(name)),
+    };
+    let mut text = Vec::new(rt.alloc());
+    if let Err(error) = file.take(row.len() as u64).read_to_end(&mut text) {
+        return Err(not_read(name, &error));
+    }
+    if is_torn(text.as_slice(), row.as_slice()) {
+        return replace_from(name, 0, row.as_slice(), file);
+    }
+    Ok(())
+}
+
+/// Why the file of this name isn't read.
+pub(crate) fn not_read<'a>(name: &'a str, error: &io::Error) -> Failure<'a>
+    ensures { IsUnread name.entry result }
+{
+    match error.kind() {
+        ErrorKind::OutOfMemory => Failure::Memory,
+        _ => Failure::Read(name),
     }
 }
 
@@ -53,31 +68,29 @@ fn is_torn(text: &[u8], row: &[u8]) -> bool {
 }
 
 /// Writes what a run that was killed couldn't write any more: the row of a command that may have gone out without one,
-/// with what was to be heard before it; and that the run was lost, if it was. `bytes` is the file's content, before and
-/// after.
+/// with what was to be heard before it; and that the run was lost, if it was.
 pub(crate) fn mend_end<'a, R: Clock + AllocGlobal, S: Source>(
     rt: &R,
     name: &'a str,
     wanted: &Heading,
     source: &S,
     file: &mut File,
-    bytes: &mut Vec<u8>,
 ) -> Result<(), Failure<'a>>
     requires unit { wanted.now.unit ≤ 15 }
     requires some { 1 ≤ wanted.now.limit }
     requires few { wanted.now.limit ≤ 1000 }
     ensures { IfErr result (IsUnresumed (S.items source.now) name.entry wanted.now) }
 {
-    let mut replayed = replay_whole(rt.alloc(), name, wanted, source, bytes.as_slice())?;
-    let [first, second, third] = unkept(&replayed);
-    give(&mut replayed, first);
-    give(&mut replayed, second);
-    give(&mut replayed, third);
+    let (mut run, kept) = replay_kept(rt.alloc(), name, wanted, source, file)?;
+    let [first, second, third] = unkept(&run);
+    give(&mut run, first);
+    give(&mut run, second);
+    give(&mut run, third);
     if first.is_some() {
-        replayed.controller.timeout();
+        run.controller.timeout();
     }
-    let (silence, lost) = if is_loss_unsaid(&replayed) {
-        let open = first.is_some() || replayed.open.is_some();
+    let (silence, lost) = if is_loss_unsaid(&run) {
+        let open = first.is_some() || run.open.is_some();
         let silence = if open { Some(Note::Silence) } else { None };
         (silence, Some(Note::End(Outcome::Lost)))
     } else {
@@ -85,71 +98,46 @@ pub(crate) fn mend_end<'a, R: Clock + AllocGlobal, S: Source>(
     };
     match text_of(rt, wanted.unit, [first, second, third, silence, lost]) {
         Ok(rows) if rows.is_empty() => Ok(()),
-        Ok(rows) => Ok(replace_from(name, replayed.whole, rows.as_slice(), file, bytes)?),
+        Ok(rows) => {
+            let size = match kept {
+                Some(size) => size,
+                None => whole_size(rt.alloc(), name, file)?,
+            };
+            Ok(replace_from(name, size, rows.as_slice(), file)?)
+        }
         Err(fault) => Err(fault.failure(name)),
     }
 }
 
-// The last run of a journal's bytes, but for a last row that asks for the state: that may have gone out with or without
-// one.
-fn replay_whole<'a, 's, S: Source>(
+// The last run of a journal's file, but for a last row that asks for the state: that may have gone out with or without one.
+// Where there is such a row, how many bytes stand before it.
+fn replay_kept<'a, 's, S: Source>(
     alloc: Global,
     name: &'a str,
     wanted: &Heading,
     source: &'s S,
-    bytes: &[u8],
-) -> Result<Replayed<&'s S>, Failure<'a>>
-    requires unit { wanted.now.unit ≤ 15 }
+    file: &mut File,
+) -> Result<(LastRun<'s, S>, Option<usize>), Failure<'a>>
     requires some { 1 ≤ wanted.now.limit }
     requires few { wanted.now.limit ≤ 1000 }
     ensures { IfErr result (IsUnresumed (S.items source.now) name.entry wanted.now) }
 {
-    let replayed = replay_front(alloc, name, wanted, source, bytes)?;
-    if !matches!(replayed.open, Some(Command::Status(_))) {
-        return Ok(replayed);
+    let Replayed { run, before_last } = replay_file(alloc, name, wanted, source, file)?;
+    if !matches!(run.open, Some(Command::Status(_))) {
+        return Ok((run, None));
     }
-    let front = before_last_row(bytes, replayed.whole);
-    replay_front(alloc, name, wanted, source, &bytes[..front])
-}
-
-// The last run of a journal's bytes.
-fn replay_front<'a, 's, S: Source>(
-    alloc: Global,
-    name: &'a str,
-    wanted: &Heading,
-    source: &'s S,
-    bytes: &[u8],
-) -> Result<Replayed<&'s S>, Failure<'a>>
-    requires unit { wanted.now.unit ≤ 15 }
-    requires some { 1 ≤ wanted.now.limit }
-    requires few { wanted.now.limit ≤ 1000 }
-    ensures { IfErr result (IsUnresumed (S.items source.now) name.entry wanted.now) }
-{
-    let replayed = replay(alloc, name, bytes, wanted, source)?;
-    Ok(replayed)
-}
-
-// Where the last row begins of those in the first `whole` bytes.
-fn before_last_row(bytes: &[u8], whole: usize) -> usize
-    ensures { result ≤ length bytes.now }
-{
-    let mut begin = 0;
-    for k in 0..bytes.len() {
-        if k + 1 < whole && bytes[k] == b'\n' {
-            begin = k + 1;
-        }
-    }
-    begin
+    let front = replay_front(alloc, name, wanted, source, file, before_last as u64)?;
+    Ok((front.run, Some(before_last)))
 }
 
 // What may have been sent and heard since the last row. The next command, where it asks for the state, or is a PLAY; and,
 // where the last state announces a PLAY, that, with a state before it that lets it go out.
-fn unkept<S: Source>(replayed: &Replayed<S>) -> [Option<Note>; 3] {
-    let next = match (replayed.open, replayed.controller.to_send()) {
+fn unkept<S: Source>(run: &LastRun<'_, S>) -> [Option<Note>; 3] {
+    let next = match (run.open, run.controller.to_send()) {
         (None, Some(command @ (Command::Status(_) | Command::Play))) => Some(Note::Sent(command)),
         _ => None,
     };
-    match (next, announcing(replayed)) {
+    match (next, announcing(run)) {
         (Some(asks), Some(state)) => [
             Some(asks),
             Some(Note::Heard(state)),
@@ -161,30 +149,26 @@ fn unkept<S: Source>(replayed: &Replayed<S>) -> [Option<Note>; 3] {
 
 // The state that a PLAY goes out after, where the controller waits for the clip before to end, and the last row announces
 // the PLAY: what that row says, but that nothing plays.
-fn announcing<S: Source>(replayed: &Replayed<S>) -> Option<Heard> {
+fn announcing<S: Source>(run: &LastRun<'_, S>) -> Option<Heard> {
     let waits = matches!(
-        replayed.controller.snapshot().standing,
+        run.controller.snapshot().standing,
         Standing::Ready(Phase::Wait(_))
     );
-    match replayed.rows.last() {
-        Some(
-            Row {
-                note: Note::Heard(Heard::Reply(Reply::State(groups, Some(state)))),
-                ..
-            },
-        ) if waits && *state & CUE_DONE != 0 => {
-            Some(Heard::Reply(Reply::State(*groups, Some(*state & !PLAYING))))
+    match run.last_note {
+        Some(Note::Heard(Heard::Reply(Reply::State(groups, Some(state)))))
+            if waits && state & CUE_DONE != 0 => {
+            Some(Heard::Reply(Reply::State(groups, Some(state & !PLAYING))))
         }
         _ => None,
     }
 }
 
 // Makes the call of the controller that a note tells of, if there is one.
-fn give<S: Source>(replayed: &mut Replayed<S>, note: Option<Note>) {
+fn give<S: Source>(run: &mut LastRun<'_, S>, note: Option<Note>) {
     match note {
-        Some(Note::Heard(heard)) => replayed.controller.hear(&heard),
+        Some(Note::Heard(heard)) => run.controller.hear(&heard),
         Some(_) => {
-            replayed.controller.tick();
+            run.controller.tick();
         }
         None => {}
     }
@@ -210,28 +194,22 @@ fn text_of<R: Clock + AllocGlobal>(
 }
 
 // Whether the controller has ended Lost, and none of the rows says so.
-fn is_loss_unsaid<S: Source>(replayed: &Replayed<S>) -> bool {
-    replayed.controller.outcome() == Some(Outcome::Lost) && !has_end(replayed.rows.as_slice())
+fn is_loss_unsaid<S: Source>(run: &LastRun<'_, S>) -> bool {
+    run.controller.outcome() == Some(Outcome::Lost) && !is_end(run.last_note)
 }
 
-// Keeps the first `whole` bytes of a file and writes this text after them; what followed is gone. `bytes` is the file's
-// content, before and after.
+// Keeps the first bytes of a file, as many as this, and writes a text after them; what followed is gone.
 fn replace_from<'a>(
     name: &'a str,
-    whole: usize,
+    size: usize,
     text: &[u8],
     file: &mut File,
-    bytes: &mut Vec<u8>,
 ) -> Result<(), Failure<'a>>
     ensures { IfErr result (IsUnwritten name.entry) }
 {
-    cut(name, file, whole, bytes.len())?;
-    if append_safely(file, text).is_err() {
-        return Err(RecordFault::Device.failure(name));
-    }
-    bytes.truncate(whole);
-    match bytes.extend_from_slice(text) {
+    cut_to(name, file, size)?;
+    match append_safely(file, text) {
         Ok(()) => Ok(()),
-        Err(_) => Err(Failure::Memory),
+        Err(_) => Err(RecordFault::Device.failure(name)),
     }
 }

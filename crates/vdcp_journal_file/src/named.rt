@@ -1,15 +1,15 @@
 //! The events that a journal's own rows name.
 ghost use Rattle.std.proofs.Props.{props};
-ghost use Rattle.std.specs.Prelude.{◌≢◌, ◌<◌, All, IfErr, IfSome, length};
-ghost use Rattle.vdcp_text.specs.Failure.{status_of};
-ghost use Rattle.vdcp_text.specs.declared.failure.Failure.TheVariants as failures;
+ghost use Rattle.std.specs.Prelude.{◌<◌, All, IfSome, length};
 ghost use Rattle.vdcp_value.specs.Parts.{IsItem, IsPart};
 
+use crate::reading::{Refusal, read_refusal, refusal_of};
 use std::alloc::{AllocError, Global};
+use std::io;
 use vdcp_auto::Source;
-use vdcp_journal::{Note, Row};
+use vdcp_journal::{JournalRows, Note, WholeLines};
 use vdcp_list::MAX_ROWS;
-use vdcp_text::{Failure, JournalFault};
+use vdcp_text::JournalFault;
 use vdcp_value::laws::a_time_code_has_lawful_bytes;
 use vdcp_value::{ClipId, Item, Part, Rate, Timecode};
 use vdcp_words::Command;
@@ -88,35 +88,53 @@ impl Source for NamedEvents {
     }
 }
 
-/// The events that the rows of a journal of this name name. A row that no controller of a list writes there is refused, and
-/// a part that isn't lawful at the rate.
-pub(crate) fn named_events<'a>(
+/// The events that the rows of a journal name, which are read from its file. A row that no controller of a list writes there
+/// is refused, and a part that isn't lawful at the rate.
+pub(crate) fn events_in<I: io::Read + Drop>(
     alloc: Global,
-    name: &'a str,
     rate: Rate,
-    rows: &[Row],
-) -> Result<NamedEvents, Failure<'a>>
-    ensures { IfErr result (λ f. (status_of f ≢ 2) × (f ≢ failures.Writer)) }
-{
+    reader: I,
+) -> Result<NamedEvents, Refusal> {
+    let Ok(mut lines) = WholeLines::new(alloc, reader) else {
+        return Err(Refusal::Memory);
+    };
+    match events_named(alloc, rate, &mut lines) {
+        Ok(events) => Ok(events),
+        Err(refusal) => Err(refusal_of(lines.long_line(), refusal)),
+    }
+}
+
+fn events_named<I: io::Read + Drop>(
+    alloc: Global,
+    rate: Rate,
+    lines: I,
+) -> Result<NamedEvents, Refusal> {
+    let mut rows = match JournalRows::begin(alloc, lines) {
+        Ok(rows) => rows,
+        Err(fault) => return Err(read_refusal(fault)),
+    };
     let mut named = NamedEvents::new(alloc);
     let mut place = Place {
         event: 0,
         is_checked: false,
     };
-    for k in 0..rows.len() {
-        place.follow(&rows[k].note);
+    for read in 0..usize::MAX - 1 {
+        let row = match rows.next_row() {
+            Ok(Some(row)) => row,
+            Ok(None) => return Ok(named),
+            Err(fault) => return Err(read_refusal(fault)),
+        };
+        place.follow(&row.note);
         if place.event > MAX_ROWS {
-            return Err(Failure::JournalRow(name, k + 2, JournalFault::Event));
+            return Err(Refusal::Row(read + 2, JournalFault::Event));
         }
-        match add_named(&mut named, place.event, rate, &rows[k].note) {
+        match add_named(&mut named, place.event, rate, &row.note) {
             Ok(()) => {}
-            Err(NamingFault::Time) => {
-                return Err(Failure::JournalRow(name, k + 2, JournalFault::Time));
-            }
-            Err(NamingFault::Memory) => return Err(Failure::Memory),
+            Err(NamingFault::Time) => return Err(Refusal::Row(read + 2, JournalFault::Time)),
+            Err(NamingFault::Memory) => return Err(Refusal::Memory),
         }
     }
-    Ok(named)
+    Err(Refusal::Read)
 }
 
 // Where the rows so far are.

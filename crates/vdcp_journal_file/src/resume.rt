@@ -1,22 +1,25 @@
 //! How the last run of a journal's file goes on.
-ghost use Rattle.std.specs.Prelude.{◌≡◌, ◌⊎◌, ◌≤◌, ◌↔◌, ℕ, List, IfErr, IfOk, IfSome, IsSome, None, Some, if◌then◌else◌, nat_lt};
+ghost use Rattle.std.specs.Prelude.{◌≡◌, ◌⊎◌, ◌≤◌, ◌↔◌, IfErr, IfOk, IfSome, IsSome, None, Some, if◌then◌else◌, nat_lt};
 ghost use Rattle.vdcp_auto.specs.Plan.{plan_of};
 ghost use Rattle.vdcp_auto.specs.Turn.{outcome_of};
 ghost use Rattle.vdcp_journal.specs.Runs.{Run};
 ghost use Rattle.vdcp_list.specs.Rests.{items_left};
+ghost use Rattle.vdcp_list.specs.Rows.{FileBytes};
 ghost use Rattle.vdcp_journal_file.specs.Recorded.{MayHold};
 ghost use Rattle.vdcp_journal_file.specs.Recording.{IsTimedOut, IsUnopened, IsUnwritten};
-ghost use Rattle.vdcp_journal_file.specs.Resuming.{IsReplayed, IsUnread, IsUnresumed, open_after, plan_of_run};
+ghost use Rattle.vdcp_journal_file.specs.Resuming.{Continues, IsReplayed, IsUnread, IsUnresumed, open_after, plan_of_run};
 
 use crate::file::open;
-use crate::mending::{mend_end, mend_heading};
+use crate::mending::{mend_end, mend_heading, not_read};
 use crate::pending::Pending;
-use crate::reading::{Replayed, has_end, read_rows, replay};
+use crate::reading::{LastRun, Replayed, is_end, replay};
 use crate::recorder::{Recorder, row_now};
+use std::alloc::Global;
 use std::fs::{File, OpenFile};
+use std::io::{Read, Seek, SeekFrom};
 use std::rt::{Clock, Files};
 use vdcp_auto::{Controller, Source};
-use vdcp_journal::{Heading, Note};
+use vdcp_journal::{Heading, Note, size_of_lines};
 use vdcp_list::Rest;
 use vdcp_text::Failure;
 use vdcp_words::Command;
@@ -34,59 +37,125 @@ pub struct Resumption<'a, 'r, R, S: Source> {
 /// controller of the list, and times out the exchange that was open. Where the run was lost, the controller may leave as
 /// many exchanges more unanswered, up to 1,000 in a row in all. A torn last row is cut off, and a torn first one is
 /// written. Where it is refused nothing is written.
-pub fn resume_journal<'a, 'r, R: Files<File = File> + Clock + AllocGlobal, S: Source + Drop>(
+pub fn resume_journal<'a, 'r, 's, R: Files<File = File> + Clock + AllocGlobal, S: Source>(
     rt: &'r R,
     name: &'a str,
     wanted: &Heading,
-    source: S,
-) -> Result<Resumption<'a, 'r, R, S>, Failure<'a>>
+    source: &'s S,
+) -> Result<Resumption<'a, 'r, R, &'s S>, Failure<'a>>
     requires unit { wanted.now.unit ≤ 15 }
     requires some { 1 ≤ wanted.now.limit }
     requires few { wanted.now.limit ≤ 1000 }
-    ensures resumed { IfOk result (λ r. (bytes : List ℕ) × (run : Run) × (whole : ℕ)
-        × IsReplayed (S.items source) wanted.now bytes run (plan_of (items_left S.items) r.controller)
-        r.controller.state whole
+    ensures resumed { IfOk result (λ r. (lines : FileBytes) × (run : Run)
+        × IsReplayed (S.items source.now) wanted.now lines run (plan_of (items_left (λ s. S.items s.now)) r.controller)
+        r.controller.state
         × (r.controller.source.from ≡ run.from)
-        × IfSome r.recorder (λ recorder. IsTimedOut (open_after (plan_of_run wanted.now (S.items source) run) run.rows)
-        recorder.pending)) }
+        × IfSome r.recorder (λ recorder.
+        IsTimedOut (open_after (plan_of_run wanted.now (S.items source.now) run) run.rows) recorder.pending)) }
     ensures goes_on { IfOk result (λ r. IsSome r.recorder ↔ (outcome_of r.controller.state.stage ≡ None)) }
     ensures unit { IfOk result (λ r. IfSome r.recorder (λ recorder. recorder.unit ≡ wanted.now.unit)) }
     ensures name { IfOk result (λ r. IfSome r.recorder (λ recorder. recorder.name ≡ name.entry)) }
-    ensures unresumed { IfErr result (IsUnresumed (S.items source) name.entry wanted.now) }
+    ensures unresumed { IfErr result (IsUnresumed (S.items source.now) name.entry wanted.now) }
 {
-    let (mut file, mut bytes) = read_file(rt, name, wanted)?;
-    mend_end(rt, name, wanted, &source, &mut file, &mut bytes)?;
-    let replayed = replay(rt.alloc(), name, bytes.as_slice(), wanted, source)?;
-    cut(name, &file, replayed.whole, bytes.len())?;
-    go_on(rt, name, wanted.unit, file, replayed)
+    let mut file = opened(rt, name, wanted)?;
+    mend_end(rt, name, wanted, source, &mut file)?;
+    let Replayed { run, .. } = replay_file(rt.alloc(), name, wanted, source, &mut file)?;
+    cut(rt.alloc(), name, &mut file)?;
+    go_on(rt, name, wanted.unit, file, run)
 }
 
-/// Opens the file of this name, and reads it. Where its first row was torn, that is written.
-pub(crate) fn read_file<'a, R: Files<File = File> + Clock + AllocGlobal>(
+/// Opens the file of this name. Where its first row was torn, that is written.
+pub(crate) fn opened<'a, R: Files<File = File> + Clock + AllocGlobal>(
     rt: &R,
     name: &'a str,
     wanted: &Heading,
-) -> Result<(File, Vec<u8>), Failure<'a>>
+) -> Result<File, Failure<'a>>
     ensures { IfErr result (λ failure. IsUnopened name.entry failure
         ⊎ (IsUnread name.entry failure ⊎ IsUnwritten name.entry failure)) }
 {
     let mut file = open(rt, name)?;
-    let mut bytes = read_rows(rt.alloc(), name, &mut file)?;
-    mend_heading(rt, name, wanted, &mut file, &mut bytes)?;
-    Ok((file, bytes))
+    mend_heading(rt, name, wanted, &mut file)?;
+    Ok(file)
+}
+
+/// The last run of the journal in this file, which is read from its beginning.
+pub(crate) fn replay_file<'a, 's, S: Source>(
+    alloc: Global,
+    name: &'a str,
+    wanted: &Heading,
+    source: &'s S,
+    file: &mut File,
+) -> Result<Replayed<'s, S>, Failure<'a>>
+    requires some { 1 ≤ wanted.now.limit }
+    requires few { wanted.now.limit ≤ 1000 }
+    ensures replayed { IfOk result (λ r. (lines : FileBytes)
+        × Continues (λ s. S.items s.now) wanted.now (S.items source.now) lines r.run.controller r.run.«open» r.run.unsettled) }
+    ensures unresumed { IfErr result (IsUnresumed (S.items source.now) name.entry wanted.now) }
+{
+    replay_front(alloc, name, wanted, source, file, u64::MAX)
+}
+
+/// The last run of the journal in the first bytes of this file, as many as `size`, or all if it has fewer.
+pub(crate) fn replay_front<'a, 's, S: Source>(
+    alloc: Global,
+    name: &'a str,
+    wanted: &Heading,
+    source: &'s S,
+    file: &mut File,
+    size: u64,
+) -> Result<Replayed<'s, S>, Failure<'a>>
+    requires some { 1 ≤ wanted.now.limit }
+    requires few { wanted.now.limit ≤ 1000 }
+    ensures replayed { IfOk result (λ r. (lines : FileBytes)
+        × Continues (λ s. S.items s.now) wanted.now (S.items source.now) lines r.run.controller r.run.«open» r.run.unsettled) }
+    ensures unresumed { IfErr result (IsUnresumed (S.items source.now) name.entry wanted.now) }
+{
+    rewind(name, file)?;
+    replay(alloc, name, file.take(size), wanted, source)
+}
+
+// The file is read from its beginning next.
+fn rewind<'a>(name: &'a str, file: &mut File) -> Result<(), Failure<'a>>
+    ensures { IfErr result (IsUnread name.entry) }
+{
+    match file.seek(SeekFrom::Start(0)) {
+        Ok(_) => Ok(()),
+        Err(_) => Err(Failure::Read(name)),
+    }
 }
 
 /// Cuts a file off after its whole rows, if it has more than these.
-pub(crate) fn cut<'a>(
+pub(crate) fn cut<'a>(alloc: Global, name: &'a str, file: &mut File) -> Result<(), Failure<'a>>
+    ensures { IfErr result (λ failure. IsUnread name.entry failure ⊎ IsUnwritten name.entry failure) }
+{
+    let size = whole_size(alloc, name, file)?;
+    Ok(cut_to(name, file, size)?)
+}
+
+/// How many bytes the whole rows of a file are.
+pub(crate) fn whole_size<'a>(
+    alloc: Global,
     name: &'a str,
-    file: &File,
-    whole: usize,
-    all: usize,
-) -> Result<(), Failure<'a>>
+    file: &mut File,
+) -> Result<usize, Failure<'a>>
+    ensures { IfErr result (IsUnread name.entry) }
+{
+    rewind(name, file)?;
+    match size_of_lines(alloc, file) {
+        Ok(size) => Ok(size),
+        Err(error) => Err(not_read(name, &error)),
+    }
+}
+
+/// Cuts a file off after its first bytes, as many as `size`, if it has more than these.
+pub(crate) fn cut_to<'a>(name: &'a str, file: &File, size: usize) -> Result<(), Failure<'a>>
     ensures { IfErr result (IsUnwritten name.entry) }
 {
-    match size_of_rows(whole, all) {
-        Some(size) => match file.set_len(size) {
+    let Ok(found) = file.metadata() else {
+        return Err(Failure::Write(name));
+    };
+    match size_left(size as u64, found.len()) {
+        Some(left) => match file.set_len(left) {
             Ok(()) => Ok(()),
             Err(_) => Err(Failure::Write(name)),
         },
@@ -94,42 +163,38 @@ pub(crate) fn cut<'a>(
     }
 }
 
-// How many bytes are left of a file, if more follows its whole rows.
-fn size_of_rows(whole: usize, all: usize) -> Option<u64>
+// How many bytes are left of a file of `all` bytes, if more follows its whole rows.
+fn size_left(whole: u64, all: u64) -> Option<u64>
     ensures { result ≡ (if nat_lt whole all then Some whole else None) }
 {
-    if whole < all {
-        Some(whole as u64)
-    } else {
-        None
-    }
+    if whole < all { Some(whole) } else { None }
 }
 
 /// What goes on, in a file of whole rows. Where the controller has ended and no row says so, one is written.
-pub(crate) fn go_on<'a, 'r, R: Files<File = File> + Clock + AllocGlobal, S: Source + Drop>(
+pub(crate) fn go_on<'a, 'r, 's, R: Files<File = File> + Clock + AllocGlobal, S: Source>(
     rt: &'r R,
     name: &'a str,
     unit: u8,
     file: File,
-    replayed: Replayed<S>,
-) -> Result<Resumption<'a, 'r, R, S>, Failure<'a>>
+    run: LastRun<'s, S>,
+) -> Result<Resumption<'a, 'r, R, &'s S>, Failure<'a>>
     requires unit { unit ≤ 15 }
-    ensures controller { IfOk result (λ r. r.controller ≡ replayed.controller) }
+    ensures controller { IfOk result (λ r. r.controller ≡ run.entry.controller) }
     ensures goes_on { IfOk result (λ r. IsSome r.recorder ↔ (outcome_of r.controller.state.stage ≡ None)) }
     ensures unit { IfOk result (λ r. IfSome r.recorder (λ recorder. recorder.unit ≡ unit)) }
     ensures name { IfOk result (λ r. IfSome r.recorder (λ recorder. recorder.name ≡ name.entry)) }
-    ensures pending { IfOk result (λ r. IfSome r.recorder (λ recorder. IsTimedOut replayed.«open» recorder.pending)) }
+    ensures pending { IfOk result (λ r. IfSome r.recorder (λ recorder. IsTimedOut run.entry.«open» recorder.pending)) }
     ensures unwritten { IfErr result (IsUnwritten name.entry) }
 {
-    let Replayed {
+    let LastRun {
         controller,
         open,
-        rows,
+        last_note,
         ..
-    } = replayed;
+    } = run;
     let mut recorder = Recorder::after(rt, name, unit, file, pending_after(rt, open));
     if let Some(outcome) = controller.outcome() {
-        if !has_end(rows.as_slice()) {
+        if !is_end(last_note) {
             recorder.finish(Some(outcome))?;
         }
         return Ok(Resumption {

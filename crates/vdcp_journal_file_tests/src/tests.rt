@@ -101,7 +101,7 @@ fn shown(alloc: Global, journal: &[u8], times: bool) -> (u8, Vec<u8>, Vec<u8>) {
         rate: Rate::F25,
         times,
     };
-    let status = do_asrun(alloc, journal, Some(list), settings, &mut out, &mut err);
+    let status = do_asrun(alloc, journal, list, settings, &mut out, &mut err);
     (status, out, err)
 }
 
@@ -123,7 +123,8 @@ fn unbegun<'a>(rt: &HostRuntime, name: &'a str) -> Result<Option<Failure<'a>>, F
 /// Why the journal of this name can't be gone on with in this mode.
 fn unresumed<'a>(rt: &HostRuntime, name: &'a str, mode: Mode) -> Result<Option<Failure<'a>>, Fail> {
     let heading = heading(rt, mode)?;
-    Ok(resume_journal(rt, name, &heading, list(rt)?).err())
+    let list = list(rt)?;
+    Ok(resume_journal(rt, name, &heading, &list).err())
 }
 
 /// The list is played with a new journal, for some listens, and the journal ends where the run does: how many events are
@@ -142,7 +143,8 @@ fn play(rt: &HostRuntime, name: &str, listens: u64) -> Result<usize, Fail> {
 /// The journal of this name is gone on with, and ends: how many events are settled by it.
 fn end(rt: &HostRuntime, name: &str, outcome: Outcome) -> Result<usize, Fail> {
     let heading = heading(rt, Mode::Plain)?;
-    let resumed = resume_journal(rt, name, &heading, list(rt)?)
+    let list = list(rt)?;
+    let resumed = resume_journal(rt, name, &heading, &list)
         .ok()
         .ok_or("resumed")?;
     let settled = resumed.controller.settled();

@@ -13,6 +13,7 @@ use Rattle.vdcp_journal.specs.Runs.{Run}
 use Rattle.vdcp_journal.specs.declared.row.Heading.{Heading}
 use Rattle.vdcp_journal.specs.declared.row.Row.{Row}
 use Rattle.vdcp_list.specs.Rests.{FromEvent}
+use Rattle.vdcp_list.specs.Rows.{FileBytes}
 use Rattle.vdcp_journal_file.specs.Recording.{IsTimedOut, NotesFrom, Recording}
 use Rattle.vdcp_journal_file.specs.Resuming as resuming
 use Rattle.vdcp_journal_file.specs.Resuming.{IsOpenedAgain, IsReplayed, open_after, plan_of_run, state_after}
@@ -72,10 +73,10 @@ begun_new {S} items source settings journal controller recorder is some few list
 
 -- one that goes on from the last run of a journal
 replayed_so : {F : Type 0} (list : List Item) (settings : RunSettings) (journal : Option RunJournal) (first : Start)
-    (recorder : Option (Recording F)) (bytes : List ℕ) (run : Run) (whole : ℕ)
-    → 1 ≤ settings.limit → IsReplayed list (heading_for settings list) bytes run first.plan first.state whole
+    (recorder : Option (Recording F)) (lines : FileBytes) (run : Run)
+    → 1 ≤ settings.limit → IsReplayed list (heading_for settings list) lines run first.plan first.state
     → first.from ≡ run.from → BeginsBy settings list journal first recorder → IsBegun settings list journal first recorder
-replayed_so list settings journal first recorder bytes run whole some replayed is begins =
+replayed_so list settings journal first recorder lines run some replayed is begins =
     let resumed = replayed.resumes in
     let raised = raised_limit settings.limit (losses run.rows) some in
     let reached = reached_after (plan_of_run (heading_for settings list) list run) first.plan first.state run.rows raised.0
@@ -94,17 +95,16 @@ IsTimedOutIn list heading run recorder =
 
 pub begun_older : {F : Type 0} (list : List Item) (settings : RunSettings) (name : Bor (List ℕ)) (heading : Heading)
     (first : Start) (recorder : Option (Recording F)) → 1 ≤ settings.limit → heading ≡ heading_for settings list
-    → (bytes : List ℕ) × (run : Run) × (whole : ℕ) × IsReplayed list heading bytes run first.plan first.state whole
+    → (lines : FileBytes) × (run : Run) × IsReplayed list heading lines run first.plan first.state
     × (first.from ≡ run.from)
     × IfSome recorder (λ r. IsTimedOut (open_after (plan_of_run heading list run) run.rows) r.pending)
     → IsBegun settings list (Some (journals.Older name)) first recorder
-begun_older list settings name heading first recorder some of (bytes, run, whole, replayed, is, left) =
-    let replayed = subst (λ (h : Heading). IsReplayed list h bytes run first.plan first.state whole) of replayed in
+begun_older list settings name heading first recorder some of (lines, run, replayed, is, left) =
+    let replayed = subst (λ (h : Heading). IsReplayed list h lines run first.plan first.state) of replayed in
     let left = subst (λ (h : Heading). IsTimedOutIn list h run recorder) of left in
-    replayed_so list settings (Some (journals.Older name)) first recorder bytes run whole some replayed is (record {
-      bytes = bytes;
+    replayed_so list settings (Some (journals.Older name)) first recorder lines run some replayed is (record {
+      lines = lines;
       run = run;
-      whole = whole;
       replayed = replayed;
       from_is = is;
       left = left;
@@ -117,7 +117,7 @@ again_so : {F : Type 0} (list : List Item) (settings : RunSettings) (name : Bor 
     → IsOpenedAgain list (heading_for settings list) settings.from from plan state
     → IsBegun settings list (Some (journals.Again name)) (record { plan = plan; from = from; state = state }) recorder
 again_so list settings name from plan state recorder some few begins
-    (resuming.begins bytes run ended end whole replayed within after plan_is state_is) =
+    (resuming.begins lines run ended end replayed within after plan_is state_is) =
     let first : Plan = plan_for settings (drop from list) in
     let new : Reached first start [] = begun some few in
     record {
@@ -128,9 +128,9 @@ again_so list settings name from plan state recorder some few begins
           (subst (λ (s : State). Reached first s []) (sym state_is) new);
     }
 again_so list settings name from plan state recorder some few begins
-    (resuming.is_over unsaid bytes run whole replayed is over) =
-    replayed_so list settings (Some (journals.Again name)) (record { plan = plan; from = from; state = state }) recorder bytes
-    run whole some replayed is begins
+    (resuming.is_over unsaid lines run replayed is over) =
+    replayed_so list settings (Some (journals.Again name)) (record { plan = plan; from = from; state = state }) recorder lines
+    run some replayed is begins
 
 pub begun_again : {F : Type 0} (list : List Item) (settings : RunSettings) (name : Bor (List ℕ)) (heading : Heading)
     (first : Start) (recorder : Option (Recording F)) → 1 ≤ settings.limit → settings.limit ≤ 1000

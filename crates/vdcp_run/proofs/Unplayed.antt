@@ -4,15 +4,12 @@ use Rattle.std.specs.Io.KnownBytes.{Appends, Keeps}
 use Rattle.std.specs.Prelude.{Bool, true, false, if◌then◌else◌, Option, None, Some}
 use Rattle.vdcp_list.specs.declared.faults.ListFault.{ListFault}
 use Rattle.vdcp_list.specs.declared.faults.ListFault.TheVariants as lists
-use Rattle.vdcp_journal.specs.declared.faults.JournalReadFault.{JournalReadFault}
-use Rattle.vdcp_journal.specs.declared.faults.JournalReadFault.TheVariants as refused
-use Rattle.vdcp_journal.specs.declared.faults.ResumeFault.{ResumeFault}
-use Rattle.vdcp_journal.specs.declared.faults.ResumeFault.TheVariants as untold
-use Rattle.vdcp_journal.specs.Runs.{Run}
 use Rattle.vdcp_journal.specs.declared.row.Heading.{Heading}
 use Rattle.vdcp_journal_file.specs.Recording.{IsUnbegun, IsUnopened, IsUnwritten as IsRowsUnwritten}
 use Rattle.vdcp_journal_file.specs.Resuming as resuming
-use Rattle.vdcp_journal_file.specs.Resuming.{IsRefused, IsUnopenedAgain, IsUnresumed, read_failure, untold_failure}
+use Rattle.vdcp_journal_file.specs.Resuming.{IsUnopenedAgain, IsUnresumed, failure_of}
+use Rattle.vdcp_journal_file.specs.declared.reading.Refusal.{Refusal}
+use Rattle.vdcp_journal_file.specs.declared.reading.Refusal.TheVariants as refusal
 use Rattle.vdcp_text.specs.Failure.{failure_line, status_of}
 use Rattle.vdcp_value.specs.declared.part.Item.{Item}
 use Rattle.vdcp_text.specs.declared.failure.Failure.{Failure}
@@ -86,49 +83,25 @@ unbegun_status name failure (inl e) = inr (ap status_of e)
 unbegun_status name failure (inr (inl h)) = unopened_status name failure h
 unbegun_status name failure (inr (inr h)) = rows_unwritten_status name failure h
 
-read_status : (name : Bor (List ℕ)) (failure : Failure) (wrong : JournalReadFault) → failure ≡ read_failure name wrong
+refusal_status : (name : Bor (List ℕ)) (failure : Failure) (why : Refusal) → failure ≡ failure_of name why
     → one_or_three failure
-read_status name failure refused.Empty e = inl (ap status_of e)
-read_status name failure (refused.Heading wrong) e = inl (ap status_of e)
-read_status name failure (refused.Row row wrong) e = inl (ap status_of e)
-read_status name failure (refused.Long row) e = inl (ap status_of e)
-read_status name failure refused.Memory e = inr (ap status_of e)
-read_status name failure refused.Device e = inr (ap status_of e)
-
-untold_status : (name : Bor (List ℕ)) (failure : Failure) (before : ℕ) (wrong : ResumeFault)
-    → failure ≡ untold_failure name before wrong → one_or_three failure
-untold_status name failure before (untold.Command k) e = inl (ap status_of e)
-untold_status name failure before (untold.Unawaited k) e = inl (ap status_of e)
-untold_status name failure before (untold.Outcome k) e = inl (ap status_of e)
-
-run_refused_status : (items : List Item) (name : Bor (List ℕ)) (heading : Heading) (run : Run) (failure : Failure)
-    → resuming.IsRunRefused items name heading run failure → one_or_three failure
-run_refused_status items name heading run failure (resuming.no_event few e) = inl (ap status_of e)
-run_refused_status items name heading run failure (resuming.untold wrong h e) =
-    untold_status name failure run.begin wrong e
-
-refused_status : (items : List Item) (name : Bor (List ℕ)) (wanted : Heading) (bytes : List ℕ) (failure : Failure)
-    → IsRefused items name wanted bytes failure → one_or_three failure
-refused_status items name wanted bytes failure (resuming.no_journal wrong h e) = read_status name failure wrong e
-refused_status items name wanted bytes failure (resuming.of_other journal is differs h e) = inl (ap status_of e)
-refused_status items name wanted bytes failure (resuming.bad_run journal is run last h) =
-    run_refused_status items name wanted run failure h
-refused_status items name wanted bytes failure (resuming.no_memory e) = inr (ap status_of e)
+refusal_status name failure (refusal.Row row wrong) e = inl (ap status_of e)
+refusal_status name failure refusal.Read e = inr (ap status_of e)
+refusal_status name failure refusal.Memory e = inr (ap status_of e)
 
 unresumed_status : (items : List Item) (name : Bor (List ℕ)) (wanted : Heading) (failure : Failure)
     → IsUnresumed items name wanted failure → one_or_three failure
 unresumed_status items name wanted failure (resuming.no_file h) = unopened_status name failure h
-unresumed_status items name wanted failure (resuming.not_read (inl (row, e))) = inl (ap status_of e)
-unresumed_status items name wanted failure (resuming.not_read (inr (inl e))) = inr (ap status_of e)
-unresumed_status items name wanted failure (resuming.not_read (inr (inr e))) = inr (ap status_of e)
+unresumed_status items name wanted failure (resuming.not_read (inl e)) = inr (ap status_of e)
+unresumed_status items name wanted failure (resuming.not_read (inr e)) = inr (ap status_of e)
 unresumed_status items name wanted failure (resuming.kept h) = rows_unwritten_status name failure h
-unresumed_status items name wanted failure (resuming.bad bytes h) = refused_status items name wanted bytes failure h
+unresumed_status items name wanted failure (resuming.bad lines why h e) = refusal_status name failure why e
 
 unopened_again_status : (items : List Item) (name : Bor (List ℕ)) (wanted : Heading) (word : Option ℕ)
     (failure : Failure) → IsUnopenedAgain items name wanted word failure → one_or_three failure
 unopened_again_status items name wanted word failure (resuming.unresumed h) =
     unresumed_status items name wanted failure h
-unopened_again_status items name wanted word failure (resuming.unsettled unsaid bytes run ended end whole is may e) =
+unopened_again_status items name wanted word failure (resuming.unsettled unsaid lines run ended end is may e) =
     inl (ap status_of e)
 unopened_again_status items name wanted word failure (resuming.no_event k said few e) =
     inl (ap status_of e)

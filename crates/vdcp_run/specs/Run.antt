@@ -24,6 +24,7 @@ use Rattle.vdcp_journal.specs.Runs.{Run}
 use Rattle.vdcp_list.specs.Asrun.{events_text, has_part}
 use Rattle.vdcp_list.specs.Playlists.{IsListOf}
 use Rattle.vdcp_list.specs.Rests.{FromEvent, items_left}
+use Rattle.vdcp_list.specs.Rows.{FileBytes}
 use Rattle.vdcp_journal_file.specs.Recording.{IsTimedOut, IsUnbegun, NotesFrom, Recording}
 use Rattle.vdcp_journal_file.specs.Resuming.{IsOpenedAgain, IsReplayed, IsUnopenedAgain, IsUnresumed, open_after, plan_of_run}
 use Rattle.vdcp_journal_file.specs.Showing.{IsAsrunOf, digest_of}
@@ -246,10 +247,9 @@ pub record EndsRun {S : Type 0} (settings : RunSettings) (kept : Option (Bor (Li
 -- goes on, which is made with these settings, that nothing came is still to be written, if an exchange was open
 pub record GoesOn {F : Type 0} (settings : RunSettings) (items : List Item) (start : Start) (recorder : Option (Recording F))
     : Type 0 where
-  pub bytes : List ℕ
+  pub lines : FileBytes
   pub run : Run
-  pub whole : ℕ
-  pub replayed : IsReplayed items (heading_for settings items) bytes run start.plan start.state whole
+  pub replayed : IsReplayed items (heading_for settings items) lines run start.plan start.state
   pub from_is : start.from ≡ run.from
   pub left : IfSome recorder
       (λ r. IsTimedOut (open_after (plan_of_run (heading_for settings items) items run) run.rows) r.pending)

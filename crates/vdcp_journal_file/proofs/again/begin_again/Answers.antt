@@ -1,36 +1,33 @@
-use Rattle.std.proofs.Common.{ap, refl}
+use Rattle.std.proofs.Common.{refl}
 use Rattle.std.proofs.lemmas.Result.{IfOk-weaker, err_from_is_err_and}
-use Rattle.vdcp_journal.specs.Runs.{run_at}
-use Rattle.vdcp_journal_file.proofs.OpenedAgain.{not_begun}
+use Rattle.vdcp_journal_file.proofs.OpenedAgain.{not_begun, replayed_of}
 use Rattle.vdcp_journal_file.proofs.again.begin_again.Goals as goal
-use Rattle.vdcp_journal_file.specs.Recording.{Recording}
-use Rattle.vdcp_journal_file.specs.Resuming.{bad, begins, is_over, unresumed}
+use Rattle.vdcp_journal_file.specs.Resuming.{begins, is_over, unresumed}
 
-pub returns-in_err-replayed-clause-unopened : goal.returns-in_err-replayed-clause-unopened
-returns-in_err-replayed-clause-unopened g c =
-    let p = err_from_is_err_and c.from_residual-in_err-replayed.result c.from_residual-in_err-replayed.ensures.1 in
-    rw (p.1, p.2) (unresumed (bad c.as_slice.result.now c.in_err-replayed.ensures.refused))
+pub returns-in_err-run-clause-unopened : goal.returns-in_err-run-clause-unopened
+returns-in_err-run-clause-unopened g c =
+    let p = err_from_is_err_and c.from_residual-in_err-run.result c.from_residual-in_err-run.ensures.1 in
+    rw (p.1, p.2) (unresumed c.in_err-run.ensures.unresumed)
 
 pub returns-in_err-event-clause-unopened : goal.returns-in_err-event-clause-unopened
 returns-in_err-event-clause-unopened g c =
     let p = err_from_is_err_and c.from_residual-in_err-event.result c.from_residual-in_err-event.ensures.1 in
-    rw (p.1, p.2) (not_begun _ _ _ _ _ _ _ _ _ _ c.in_ok-replayed.ensures.replayed c.in_err-event.ensures.none)
+    let replayed = c.in_ok-run.ensures.replayed in
+    rw (p.1, p.2) (not_begun _ _ _ _ _ _ _ _ _ (replayed_of _ _ _ _ _ _ _ replayed.1) (c.in_err-event.ensures.none _ _ replayed.1.on))
 
 pub returns-then-is_told_again-clause-opened : goal.returns-then-is_told_again-clause-opened
 returns-then-is_told_again-clause-opened g c =
-    let over = is_over (c.is_told_again.ensures.unsaid c.if-is_told_again.true) c.as_slice.result.now
-    (run_at c.in_ok-replayed.replayed.rows.items c.in_ok-replayed.replayed.run) c.in_ok-replayed.replayed.whole
-    c.in_ok-replayed.ensures.replayed c.in_ok-replayed.ensures.from
-    (c.is_told_again.ensures.is_over c.if-is_told_again.true) in
+    let replayed = c.in_ok-run.ensures.replayed in
+    let over = is_over (c.is_told_again.ensures.unsaid c.if-is_told_again.true) replayed.0 replayed.1.run
+    (replayed_of _ _ _ _ _ _ _ replayed.1) replayed.1.on.from_is (c.is_told_again.ensures.is_over c.if-is_told_again.true) in
     IfOk-weaker c.go_on.result _ _ (λ r same. rw same over) c.go_on.ensures.controller
 
 pub returns-clause-opened : goal.returns-clause-opened
 returns-clause-opened g c =
-    rw (c.controller_of-controller.ensures, c.new-rest.ensures)
-    (begins c.as_slice.result.now (run_at c.in_ok-replayed.replayed.rows.items c.in_ok-replayed.replayed.run) _ _ _
-    c.in_ok-replayed.ensures.replayed c.in_ok-event.ensures.listed c.in_ok-event.ensures.begins refl refl)
+    let replayed = c.in_ok-run.ensures.replayed in
+    let event = c.in_ok-event.ensures.begins _ _ replayed.1.on in
+    rw c.new_controller.ensures
+    (begins replayed.0 replayed.1.run _ _ (replayed_of _ _ _ _ _ _ _ replayed.1) event.1 event.0 refl refl)
 
 pub returns-clause-from : goal.returns-clause-from
-returns-clause-from g c =
-    rw (c.controller_of-controller.ensures, c.new-rest.ensures)
-    c.note_from.ensures.noted
+returns-clause-from g c = rw c.new_controller.ensures c.note_from.ensures.noted

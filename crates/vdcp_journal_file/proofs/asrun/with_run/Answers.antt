@@ -1,0 +1,44 @@
+use Rattle.vdcp_journal_file.proofs.Shown.{shown_by_rows, shown_more}
+use Rattle.vdcp_journal_file.proofs.asrun.with_run.Goals as goal
+
+pub add_reported-requires-clause-one_each : goal.add_reported-requires-clause-one_each
+add_reported-requires-clause-one_each g c =
+    let shown = shown_by_rows c.args.settings (λ s. g.S.Source.items s.now) c.requires.0 (g.S.Source.items c.args.events.now) c.requires.1
+    c.args.made c.in-Ok-made.run' c.resume-controller.result.controller c.resume-controller.result.«open» c.source.result.now
+    c.from-from.result c.settled-reported.result c.finish-airings.result.airings.items c.finish-airings.result.unsettled
+    c.what_is_told_is_lawful.ensures.lawful c.in-Ok-made.is c.requires.2 c.resume-controller.ensures.controller
+    c.resume-controller.ensures.«open» (c.finish-airings.ensures _ _ c.requires.3) c.source.ensures c.from-from.ensures.from
+    c.settled-reported.ensures.count c.settled-reported.ensures.within (g.met.S.Source.countable c.args.events.now) in
+    rw c.as_slice.ensures.value shown.one_each
+
+pub add_reported-requires-clause-listed : goal.add_reported-requires-clause-listed
+add_reported-requires-clause-listed g c =
+    let shown = shown_by_rows c.args.settings (λ s. g.S.Source.items s.now) c.requires.0 (g.S.Source.items c.args.events.now) c.requires.1
+    c.args.made c.in-Ok-made.run' c.resume-controller.result.controller c.resume-controller.result.«open» c.source.result.now
+    c.from-from.result c.settled-reported.result c.finish-airings.result.airings.items c.finish-airings.result.unsettled
+    c.what_is_told_is_lawful.ensures.lawful c.in-Ok-made.is c.requires.2 c.resume-controller.ensures.controller
+    c.resume-controller.ensures.«open» (c.finish-airings.ensures _ _ c.requires.3) c.source.ensures c.from-from.ensures.from
+    c.settled-reported.ensures.count c.settled-reported.ensures.within (g.met.S.Source.countable c.args.events.now) in
+    shown.listed
+
+pub add_event-requires : goal.add_event-requires
+add_event-requires g c =
+    let shown = shown_by_rows c.args.settings (λ s. g.S.Source.items s.now) c.requires.0 (g.S.Source.items c.args.events.now) c.requires.1
+    c.args.made c.in-Ok-made.run' c.resume-controller.result.controller c.resume-controller.result.«open» c.source.result.now
+    c.from-from.result c.settled-reported.result c.finish-airings.result.airings.items c.finish-airings.result.unsettled
+    c.what_is_told_is_lawful.ensures.lawful c.in-Ok-made.is c.requires.2 c.resume-controller.ensures.controller
+    c.resume-controller.ensures.«open» (c.finish-airings.ensures _ _ c.requires.3) c.source.ensures c.from-from.ensures.from
+    c.settled-reported.ensures.count c.settled-reported.ensures.within (g.met.S.Source.countable c.args.events.now) in
+    shown.counts
+
+pub returns : goal.returns
+returns g c = λ heading runs run before made found.
+    let shown = shown_by_rows c.args.settings (λ s. g.S.Source.items s.now) heading (g.S.Source.items c.args.events.now) run
+    c.args.made c.in-Ok-made.run' c.resume-controller.result.controller c.resume-controller.result.«open» c.source.result.now
+    c.from-from.result c.settled-reported.result c.finish-airings.result.airings.items c.finish-airings.result.unsettled
+    c.what_is_told_is_lawful.ensures.lawful c.in-Ok-made.is made c.resume-controller.ensures.controller
+    c.resume-controller.ensures.«open» (c.finish-airings.ensures _ _ found) c.source.ensures c.from-from.ensures.from
+    c.settled-reported.ensures.count c.settled-reported.ensures.within (g.met.S.Source.countable c.args.events.now) in
+    shown_more c.args.settings (g.S.Source.items c.args.events.now) heading runs run _ _ _ _ _ _
+    (rw c.in-Ok.is at before) shown.shows (rw c.as_slice.ensures.value at c.in_ok-add_reported.ensures.text)
+    c.in_ok-add_event.ensures.told
