@@ -2,7 +2,6 @@
 mod Announced
 mod Held
 mod Journaled
-mod Raised
 mod Bytes
 mod CarriedRun
 mod Carrying

@@ -1,6 +1,6 @@
 -- Runs over a line that keeps order, whose automation keeps a journal; and what goes on from it after a kill.
 use Rattle.std.specs.Option.{option_map, option_to_list}
-use Rattle.std.specs.Prelude.{ℕ, ◌≡◌, ◌⊎◌, IsSome, List, [], ◌∷◌, ◌++◌, length, Option, None, Some}
+use Rattle.std.specs.Prelude.{ℕ, ◌≡◌, IsSome, List, [], ◌∷◌, ◌++◌, length, Option, None, Some}
 use Rattle.vdcp_words.specs.declared.reply.Reply.{Reply}
 use Rattle.vdcp_words.specs.declared.reply.Reply.TheVariants.{Ack, Nak}
 use Rattle.vdcp_port.specs.Clock.{ClockedPort}
@@ -11,8 +11,6 @@ use Rattle.vdcp_auto.specs.Turn.{ended_by, given, outcome_of, taken, ticked}
 use Rattle.vdcp_auto.specs.declared.exchange.Exchange.{Exchange}
 use Rattle.vdcp_auto.specs.declared.exchange.Heard.{Heard}
 use Rattle.vdcp_auto.specs.declared.exchange.Heard.TheVariants as heard
-use Rattle.vdcp_auto.specs.declared.outcome.Outcome.{Outcome}
-use Rattle.vdcp_auto.specs.declared.outcome.Outcome.TheVariants.{Lost}
 use Rattle.vdcp_auto.specs.declared.phase.Mode.{Mode}
 use Rattle.vdcp_auto.specs.declared.phase.Mode.TheVariants.{Plain, Confirming}
 use Rattle.vdcp_journal.specs.declared.row.Note.{Note}
@@ -80,7 +78,3 @@ played h c = record c {
   state = ticked (came_again c.plan h c.state);
   log = logged c.log (ended_by c.plan (Some h) (taken (ticked c.state)));
 }
-
--- a run hasn't ended, or it was lost: it may go on, under a greater limit
-abbrev pub MayGoOn : Option Outcome → Type 0
-MayGoOn outcome = (outcome ≡ None) ⊎ (outcome ≡ Some Lost)

@@ -1,17 +1,16 @@
 //! The laws of runs that are killed, any number of times, and go on from their journals.
 //!
 //! The functions do nothing: their contracts are the laws, and a caller whose proof needs one calls it.
-ghost use Rattle.std.specs.Prelude.{◌≡◌, ◌≤◌, ℕ, ◌∷◌, ◌++◌, [], All, Bool, IsTrue, List, Some};
+ghost use Rattle.std.specs.Prelude.{◌≡◌, ◌∷◌, ◌++◌, [], All, Bool, IsTrue, List, Some};
 ghost use Rattle.vdcp_auto.specs.declared.exchange.Heard.{Heard};
-ghost use Rattle.vdcp_auto.specs.Plan.{Plan};
-ghost use Rattle.vdcp_auto.specs.Turn.{given, outcome_of, start};
+ghost use Rattle.vdcp_auto.specs.Turn.{given, start};
 ghost use Rattle.vdcp_journal.specs.Resume.{AreTold, after_rows};
 ghost use Rattle.vdcp_journal.specs.Thinned.{AreThinned, IsThinned, asks_state, hears_done, hears_free, notes_in, takes};
 ghost use Rattle.vdcp_journal.specs.declared.row.Note.{Note};
 ghost use Rattle.vdcp_journal.specs.declared.row.Note.TheVariants as note;
 ghost use Rattle.vdcp_journal.specs.declared.row.Row.{Row};
 ghost use Rattle.vdcp_laws.specs.Announced.{Announces, played_notes};
-ghost use Rattle.vdcp_laws.specs.Kills.{IsRun, MayGoOn, asked_in_vain, played, silence_notes};
+ghost use Rattle.vdcp_laws.specs.Kills.{IsRun, asked_in_vain, played, silence_notes};
 ghost use Rattle.vdcp_world.specs.LateLine.GoingOn.{IsNoTick, gone_on};
 ghost use Rattle.vdcp_world.specs.LateLine.LateChannel.{LateChannel, IsLateReached, after_late_event, after_late_events};
 ghost use Rattle.vdcp_world.specs.LateLine.LateHeadline.{LateHeadline};
@@ -69,11 +68,3 @@ pub fn an_announced_play_may_go_out_unkept()
 {
     vdcp_port::laws::the_unit_stays();
 }
-
-/// What a run did that was lost, or goes on, each controller with a greater limit would have done: its rows tell what that
-/// one does. So it may go on as that one, of whose log and of whose line the laws say the same.
-pub fn a_lost_run_may_go_on()
-    ensures { (plan : Plan) (limit : ℕ) (rows : List Row) → plan.limit ≤ limit → AreTold plan start rows →
-        MayGoOn (outcome_of (after_rows plan start rows).stage) →
-        AreTold (record plan { limit = limit }) start rows }
-{}
