@@ -9,15 +9,18 @@ use crate::settings::{
 };
 use crate::system::System;
 use clap::ArgMatches;
-use std::io::Write;
-use vdcp_journal_file::do_asrun;
+use std::fs::File;
+use std::io::{Read, Write};
+use std::os::unix::fs::MetadataExt;
+use vdcp_files::NamedFile;
+use vdcp_journal_file::{AsrunSettings, do_asrun, do_asrun_by_cues};
 use vdcp_log::{Lines, Screen, Telling};
 use vdcp_lossy::do_lossy;
 use vdcp_offline::{do_check, do_judge, do_sim, do_vectors};
 use vdcp_panel::open_panel;
 use vdcp_probe::{do_ask, do_probe, rows};
 use vdcp_serve::do_serve;
-use vdcp_text::{Failure, do_make, do_show};
+use vdcp_text::{Failure, JournalFault, do_make, do_show};
 
 /// Runs the subcommand of this name, which isn't `run`, and gives its exit status. What is printed goes to `out` and to
 /// `err`; a failure isn't told yet.
@@ -132,12 +135,59 @@ fn run_asrun<'a, W: Write, E: Write>(
     err: &mut E,
 ) -> Result<u8, Failure<'a>> {
     let journal = open_file(system, matches, "JOURNAL")?;
-    let list = match matches.get_str("LIST") {
-        Some(_) => Some(open_file(system, matches, "LIST")?),
-        None => None,
-    };
     let settings = asrun_settings_of(matches);
-    Ok(do_asrun(system.alloc(), journal, list, settings, out, err))
+    if matches.get_str("LIST").is_some() {
+        let list = open_file(system, matches, "LIST")?;
+        return Ok(do_asrun(system.alloc(), journal, list, settings, out, err));
+    }
+    let Some(size) = regular_size(&journal.reader) else {
+        return asrun_held(system, journal, settings, out, err);
+    };
+    let cues = open_file(system, matches, "JOURNAL")?.reader;
+    if !is_one_file(&journal.reader, &cues) {
+        return asrun_held(system, journal, settings, out, err);
+    }
+    let NamedFile { name, reader } = journal;
+    let reader = reader.take(size);
+    let journal = NamedFile { name, reader };
+    Ok(do_asrun_by_cues(system.alloc(), journal, cues.take(size), settings, out, err))
+}
+
+// How many bytes a regular file has now, if it says so. A run may append to it while it is read.
+fn regular_size(file: &File) -> Option<u64> {
+    match file.metadata() {
+        Ok(found) if found.is_file() && found.len() > 0 => Some(found.len()),
+        _ => None,
+    }
+}
+
+// Whether both are one file: another one may have got the name meanwhile.
+fn is_one_file(file: &File, other: &File) -> bool {
+    match (file.metadata(), other.metadata()) {
+        (Ok(file), Ok(other)) => file.dev() == other.dev() && file.ino() == other.ino(),
+        _ => false,
+    }
+}
+
+// What can't be read twice, as a pipe, is held.
+fn asrun_held<'a, W: Write, E: Write>(
+    system: &System<'_>,
+    journal: NamedFile<'a, File>,
+    settings: AsrunSettings,
+    out: &mut W,
+    err: &mut E,
+) -> Result<u8, Failure<'a>> {
+    let name = journal.name;
+    let bytes = match journal.read_lines(system.alloc()) {
+        Ok(bytes) => bytes,
+        Err(Failure::ScriptLine(name, row, _)) => {
+            return Err(Failure::JournalRow(name, row, JournalFault::Long));
+        }
+        Err(failure) => return Err(failure),
+    };
+    let reader = bytes.as_slice();
+    let journal = NamedFile { name, reader };
+    Ok(do_asrun_by_cues(system.alloc(), journal, reader, settings, out, err))
 }
 
 fn run_judge<'a, W: Write, E: Write>(
