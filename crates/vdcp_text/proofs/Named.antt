@@ -1,5 +1,5 @@
 -- The words of a command's text, and that words name one command.
-use Rattle.std.proofs.Common.{◌≡◌, ◌≢◌, ◌<◌, ◌+◌, ◌*◌, ◌/◌, ◌%◌, ℕ, Bool, eqb, ltb, List, [], ◌∷◌, ◌++◌, length, get_or, take, drop, refl, sym, ap, subst, ◌∙◌, arith, codes, IfOk, OnErr, IsAscii, IsSomeAnd, MatchResult, IsTrue, Result, Ok, Err, Option, Some, None, Bor, MatchOption}
+use Rattle.std.proofs.Common.{◌≡◌, ◌≢◌, ◌<◌, ◌+◌, ◌*◌, ◌/◌, ◌%◌, ℕ, Bool, eqb, ltb, List, [], ◌∷◌, ◌++◌, length, get_or, take, drop, refl, sym, ap, subst, ◌∙◌, arith, codes, IfNone, IfSome, IsAscii, IsSomeAnd, MatchResult, IsTrue, Result, Ok, Err, Option, Some, None, Bor, MatchOption}
 use Rattle.std.proofs.Math.Seq.{drop-append_seam, take-append_seam}
 use Rattle.std.proofs.lemmas.Bool.{ltb-true}
 use Rattle.std.proofs.lemmas.Grind.{common_steps}
@@ -11,7 +11,6 @@ use Rattle.std.specs.List.{position_or_len, before_first, after_first, list_all}
 use Rattle.std.specs.Result.{result_ok}
 use Rattle.hex.specs.Hex.{decode_pairs, hex_digit_value}
 use Rattle.vdcp_text.specs.Make.{Names, NamesNone, IsByteText, IsTimeText}
-use Rattle.vdcp_text.specs.declared.failure.Failure.{Failure}
 use Rattle.vdcp_value.specs.Bytes.{AreBytes}
 use Rattle.vdcp_value.specs.Ids.{id_bytes, id_of_text, text_of_id, zero_id}
 use Rattle.vdcp_value.specs.IdText.{IsTextOf, hex_digit, hex_pair}
@@ -78,10 +77,11 @@ one_name says words (IdSize id) b n m = let first = has_id says words (IdSize id
     let second = has_id says words b m in grind (arith)
 
 -- what is read of words that name a command
-pub named : SaysIds → (words : List (List ℕ)) (c : Command) (r : Result Command Failure) → Names words c
-    → IfOk r (Names words) → OnErr r (NamesNone words) → result_ok r ≡ Some c
-named says words c (Ok d) names ok none = ap Some (one_name says words d c ok names)
-named says words c (Err e) names ok none = absurd (none c names)
+pub named : SaysIds → (words : List (List ℕ)) (c : Command) (r : Option Command) → Names words c → IfSome r (Names words)
+    → IfNone r (NamesNone words)
+    → r ≡ Some c
+named says words c (Some d) names some none = ap Some (one_name says words d c some names)
+named says words c None names some none = absurd (none c names)
 
 -- ---- the words of a text
 

@@ -4,7 +4,7 @@ ghost use Rattle.vdcp_words.specs.Commands.{IsWritableCommand};
 ghost use Rattle.vdcp_words.specs.Texts.{command_text};
 ghost use Rattle.vdcp_words.specs.declared.command.Command.{Command};
 
-use crate::make::command_of;
+use crate::make::{with_none, with_one, with_three, with_two};
 use arrayvec::ArrayString;
 use vdcp_value::laws::{a_text_says_its_id, an_id_has_one_text, the_text_of_an_id_is_short};
 use vdcp_words::Command;
@@ -34,18 +34,18 @@ fn command_in(text: &str) -> Option<Command>
     an_id_has_one_text();
     a_text_says_its_id();
     let Some((word, rest)) = text.split_once(' ') else {
-        return command_of(text, &[]).ok();
+        return with_none(text);
     };
     match word {
         "open" => {
             let (port, lock) = rest.split_once(' ')?;
-            command_of(word, &[port, lock]).ok()
+            with_two(word, port, lock)
         }
         "cue-data" => {
             let (id, start, duration) = part_in(rest)?;
-            command_of(word, &[id, start, duration]).ok()
+            with_three(word, id, start, duration)
         }
-        _ => command_of(word, &[rest]).ok(),
+        _ => with_one(word, rest),
     }
 }
 

@@ -1,5 +1,5 @@
 //! The subcommand `make`: words become the bytes of a command.
-ghost use Rattle.std.specs.Prelude.{◌≡◌, ◌≢◌, ◌⊎◌, ◌<◌, ◌≤◌, [], ◌∷◌, ℕ, List, codes, IfOk, IfErr, OnErr, OnOk, length};
+ghost use Rattle.std.specs.Prelude.{◌≡◌, ◌⊎◌, ◌<◌, ◌≤◌, [], ◌∷◌, ℕ, List, IfErr, IfNone, IfSome, OnOk};
 ghost use Rattle.std.specs.Io.KnownBytes.{Appends, Keeps};
 ghost use Rattle.hex.specs.Hex.{encode_lower};
 ghost use Rattle.vdcp_text.specs.Failure.{failure_line};
@@ -60,8 +60,30 @@ fn make<W: io::Write>(
         ⊎ (NamesNone (words_of word.now arguments.now) × IsMakeFault word.now e
         × Keeps (W.contents out.old) (W.contents out.new))) }
 {
-    let command = command_of(word, arguments)?;
+    let Some(command) = command_of(word, arguments) else {
+        return Err(fault_of(word));
+    };
     write_digits(out, command.encode(unit).as_slice()).map_err(|_| Failure::Writer)
+}
+
+// Why words are refused that begin with this one and name no command.
+fn fault_of(word: &str) -> Failure<'static>
+    ensures { IsMakeFault word.now result }
+{
+    match word {
+        "open"
+        | "close"
+        | "select"
+        | "cue"
+        | "cue-data"
+        | "play"
+        | "stop"
+        | "status"
+        | "active"
+        | "exists"
+        | "size" => Failure::Arguments,
+        _ => Failure::Word,
+    }
 }
 
 // Writes bytes in hexadecimal digits, in one line.
@@ -73,138 +95,99 @@ fn write_digits<W: io::Write>(out: &mut W, bytes: &[u8]) -> io::Result<()>
     out.flush()
 }
 
-/// The command that the words name.
-pub(crate) fn command_of(word: &str, arguments: &[&str]) -> Result<Command, Failure<'static>>
-    ensures ok { IfOk result (Names (words_of word.now arguments.now)) }
-    ensures unnamed { OnErr result (NamesNone (words_of word.now arguments.now)) }
-    ensures err { IfErr result (IsMakeFault word.now) }
+// The command that the words name.
+fn command_of(word: &str, arguments: &[&str]) -> Option<Command>
+    ensures some { IfSome result (Names (words_of word.now arguments.now)) }
+    ensures none { IfNone result (NamesNone (words_of word.now arguments.now)) }
+{
+    match arguments {
+        [] => with_none(word),
+        [argument] => with_one(word, argument),
+        [port, lock] => with_two(word, port, lock),
+        [id, start, duration] => with_three(word, id, start, duration),
+        _ => None,
+    }
+}
+
+/// The command of this name that has no arguments.
+pub(crate) fn with_none(word: &str) -> Option<Command>
+    ensures some { IfSome result (Names (word.now ∷ [])) }
+    ensures none { IfNone result (NamesNone (word.now ∷ [])) }
 {
     match word {
-        "open" => open(arguments),
-        "close" => Ok(Command::Close(byte_of(only(arguments)?)?)),
-        "select" => Ok(Command::Select(byte_of(only(arguments)?)?)),
-        "cue" => cue(arguments),
-        "cue-data" => cue_data(arguments),
-        "play" => alone(Command::Play, arguments),
-        "stop" => alone(Command::Stop, arguments),
-        "status" => Ok(Command::Status(byte_of(only(arguments)?)?)),
-        "active" => alone(Command::ActiveId, arguments),
-        "exists" => exists(arguments),
-        "size" => size(arguments),
-        _ => Err(Failure::Word),
+        "play" => Some(Command::Play),
+        "stop" => Some(Command::Stop),
+        "active" => Some(Command::ActiveId),
+        _ => None,
     }
 }
 
-// The command of this name, of its arguments.
-fn open(arguments: &[&str]) -> Result<Command, Failure<'static>>
-    ensures ok { IfOk result (Names (words_of (codes "open") arguments.now)) }
-    ensures unnamed { OnErr result (NamesNone (words_of (codes "open") arguments.now)) }
-    ensures err { IfErr result (λ e. e ≡ Failure.Arguments) }
+/// The command of this name that has one argument.
+pub(crate) fn with_one(word: &str, argument: &str) -> Option<Command>
+    ensures some { IfSome result (Names (word.now ∷ argument.now ∷ [])) }
+    ensures none { IfNone result (NamesNone (word.now ∷ argument.now ∷ [])) }
 {
-    let [port, lock] = arguments else {
-        return Err(Failure::Arguments);
-    };
-    Ok(Command::Open(byte_of(port)?, byte_of(lock)?))
-}
-
-// The command of this name, of its arguments.
-fn cue(arguments: &[&str]) -> Result<Command, Failure<'static>>
-    ensures ok { IfOk result (Names (words_of (codes "cue") arguments.now)) }
-    ensures unnamed { OnErr result (NamesNone (words_of (codes "cue") arguments.now)) }
-    ensures err { IfErr result (λ e. e ≡ Failure.Arguments) }
-{
-    Ok(Command::PlayCue(id_of(only(arguments)?)?))
-}
-
-// The command of this name, of its arguments.
-fn exists(arguments: &[&str]) -> Result<Command, Failure<'static>>
-    ensures ok { IfOk result (Names (words_of (codes "exists") arguments.now)) }
-    ensures unnamed { OnErr result (NamesNone (words_of (codes "exists") arguments.now)) }
-    ensures err { IfErr result (λ e. e ≡ Failure.Arguments) }
-{
-    Ok(Command::IdRequest(id_of(only(arguments)?)?))
-}
-
-// The command of this name, of its arguments.
-fn size(arguments: &[&str]) -> Result<Command, Failure<'static>>
-    ensures ok { IfOk result (Names (words_of (codes "size") arguments.now)) }
-    ensures unnamed { OnErr result (NamesNone (words_of (codes "size") arguments.now)) }
-    ensures err { IfErr result (λ e. e ≡ Failure.Arguments) }
-{
-    Ok(Command::IdSize(id_of(only(arguments)?)?))
-}
-
-// The CUE WITH DATA of an ID and two time codes.
-fn cue_data(arguments: &[&str]) -> Result<Command, Failure<'static>>
-    ensures ok { IfOk result (Names (words_of (codes "cue-data") arguments.now)) }
-    ensures unnamed { OnErr result (NamesNone (words_of (codes "cue-data") arguments.now)) }
-    ensures err { IfErr result (λ e. e ≡ Failure.Arguments) }
-{
-    match arguments {
-        [id, start, duration] => Ok(Command::CueData(
-            id_of(id)?,
-            time_of(start)?,
-            time_of(duration)?,
-        )),
-        _ => Err(Failure::Arguments),
+    match word {
+        "close" => Some(Command::Close(byte_of(argument)?)),
+        "select" => Some(Command::Select(byte_of(argument)?)),
+        "status" => Some(Command::Status(byte_of(argument)?)),
+        "cue" => Some(Command::PlayCue(id_of(argument)?)),
+        "exists" => Some(Command::IdRequest(id_of(argument)?)),
+        "size" => Some(Command::IdSize(id_of(argument)?)),
+        _ => None,
     }
 }
 
-// A command that has no arguments.
-fn alone(command: Command, arguments: &[&str]) -> Result<Command, Failure<'static>>
-    ensures ok { IfOk result (λ alone. (alone ≡ command) × (arguments.now ≡ [])) }
-    ensures some { OnErr result (arguments.now ≢ []) }
-    ensures err { IfErr result (λ e. e ≡ Failure.Arguments) }
+/// The command of this name that has two arguments: OPEN, of a port and a lock.
+pub(crate) fn with_two(word: &str, port: &str, lock: &str) -> Option<Command>
+    ensures some { IfSome result (Names (word.now ∷ port.now ∷ lock.now ∷ [])) }
+    ensures none { IfNone result (NamesNone (word.now ∷ port.now ∷ lock.now ∷ [])) }
 {
-    match arguments {
-        [] => Ok(command),
-        _ => Err(Failure::Arguments),
+    match word {
+        "open" => Some(Command::Open(byte_of(port)?, byte_of(lock)?)),
+        _ => None,
     }
 }
 
-// The argument where there is one.
-fn only<'a>(arguments: &[&'a str]) -> Result<&'a str, Failure<'static>>
-    ensures ok { IfOk result (λ text. arguments.now ≡ text ∷ []) }
-    ensures others { OnErr result (length arguments.now ≢ 1) }
-    ensures err { IfErr result (λ e. e ≡ Failure.Arguments) }
+/// The command of this name that has three arguments: CUE WITH DATA, of an ID and two time codes.
+pub(crate) fn with_three(word: &str, id: &str, start: &str, duration: &str) -> Option<Command>
+    ensures some { IfSome result (Names (word.now ∷ id.now ∷ start.now ∷ duration.now ∷ [])) }
+    ensures none { IfNone result (NamesNone (word.now ∷ id.now ∷ start.now ∷ duration.now ∷ [])) }
 {
-    match arguments {
-        [text] => Ok(text),
-        _ => Err(Failure::Arguments),
+    match word {
+        "cue-data" => Some(Command::CueData(id_of(id)?, time_of(start)?, time_of(duration)?)),
+        _ => None,
     }
 }
 
 // The byte of two hexadecimal digits.
-fn byte_of(text: &str) -> Result<u8, Failure<'static>>
-    ensures ok { IfOk result (IsByteText text.now) }
-    ensures none { OnErr result ((byte : ℕ) → ¬ IsByteText text.now byte) }
-    ensures err { IfErr result (λ e. e ≡ Failure.Arguments) }
+fn byte_of(text: &str) -> Option<u8>
+    ensures some { IfSome result (IsByteText text.now) }
+    ensures none { IfNone result ((byte : ℕ) → ¬ IsByteText text.now byte) }
 {
     match <[u8; 1]>::from_hex(text) {
-        Ok(bytes) => Ok(bytes[0]),
-        Err(_) => Err(Failure::Arguments),
+        Ok(bytes) => Some(bytes[0]),
+        Err(_) => None,
     }
 }
 
 // The bytes of a time code, in eight hexadecimal digits.
-fn time_of(text: &str) -> Result<[u8; 4], Failure<'static>>
-    ensures ok { IfOk result (IsTimeText text.now) }
-    ensures none { OnErr result ((time : List ℕ) → ¬ IsTimeText text.now time) }
-    ensures err { IfErr result (λ e. e ≡ Failure.Arguments) }
+fn time_of(text: &str) -> Option<[u8; 4]>
+    ensures some { IfSome result (IsTimeText text.now) }
+    ensures none { IfNone result ((time : List ℕ) → ¬ IsTimeText text.now time) }
 {
     match <[u8; 4]>::from_hex(text) {
-        Ok(bytes) => Ok(bytes),
-        Err(_) => Err(Failure::Arguments),
+        Ok(bytes) => Some(bytes),
+        Err(_) => None,
     }
 }
 
-fn id_of(text: &str) -> Result<ClipId, Failure<'static>>
-    ensures ok { IfOk result (IsIdText text.now) }
-    ensures none { OnErr result ((id : ClipId) → ¬ IsIdText text.now id) }
-    ensures err { IfErr result (λ e. e ≡ Failure.Arguments) }
+fn id_of(text: &str) -> Option<ClipId>
+    ensures some { IfSome result (IsIdText text.now) }
+    ensures none { IfNone result ((id : ClipId) → ¬ IsIdText text.now id) }
 {
     match ClipId::parse(text) {
-        Ok(id) => Ok(id),
-        Err(_) => Err(Failure::Arguments),
+        Ok(id) => Some(id),
+        Err(_) => None,
     }
 }
