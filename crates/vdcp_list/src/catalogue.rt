@@ -8,7 +8,7 @@ ghost use Rattle.vdcp_value.specs.declared.timecode.Timecode.{Timecode};
 
 use crate::faults::ListFault;
 use crate::fields::{field_at, first_id, time_in};
-use crate::rows::{MadeOfRows, add_rows, rows_in};
+use crate::rows::{MadeOfRows, made_of};
 use crate::table::Table;
 use csv::ByteRecord;
 use std::alloc::Global;
@@ -70,13 +70,7 @@ pub fn read_catalogue<R: Read + Drop>(
     ensures clips { IfOk result (IsCatalogueOf rate (R.remaining reader)) }
     ensures refused { IfErr result (IsCatalogueFaultOf rate (R.remaining reader)) }
 {
-    let mut rows = rows_in(alloc, reader);
-    let mut row = ByteRecord::new(alloc);
-    let mut table = Table::new(alloc);
-    match add_rows(&mut rows, &mut row, &mut table, rate) {
-        Ok(()) => Ok(table),
-        Err(fault) => Err(fault),
-    }
+    made_of(alloc, reader, Table::new(alloc), rate)
 }
 
 impl MadeOfRows for Table {

@@ -9,7 +9,7 @@ ghost use Rattle.vdcp_value.specs.declared.part.Part.{Part};
 use crate::faults::ListFault;
 use crate::fields::{field_at, fields_say_values, first_id, id_text, time_in};
 use crate::list::List;
-use crate::rows::{MadeOfRows, add_rows, rows_in};
+use crate::rows::{MadeOfRows, made_of};
 use csv::ByteRecord;
 use std::alloc::Global;
 use std::io::Read;
@@ -44,10 +44,7 @@ fn last_part(row: &ByteRecord, rate: Rate) -> Option<Option<Part>>
     ensures none { IfNone result ((part : Option Part) → CanName rate true part
         → part_fields rate part ≢ drop 1 (fields_of row.now)) }
 {
-    match (field_at(row, 1), field_at(row, 2)) {
-        (Some(start), Some(duration)) => part_in(start, duration, rate),
-        _ => None,
-    }
+    part_in(field_at(row, 1)?, field_at(row, 2)?, rate)
 }
 
 /// The part that two fields name; None, of a whole clip, if both are empty.
@@ -88,14 +85,9 @@ pub fn read_list<R: Read + Drop>(alloc: Global, reader: R, rate: Rate) -> Result
     ensures items { IfOk result (λ list. IsListOf rate (R.remaining reader) (items_of list)) }
     ensures refused { IfErr result (IsListFaultOf rate (R.remaining reader)) }
 {
-    let mut rows = rows_in(alloc, reader);
-    let mut row = ByteRecord::new(alloc);
-    let mut playlist = Playlist {
-        list: List::new(alloc),
-        columns: 0,
-    };
-    match add_rows(&mut rows, &mut row, &mut playlist, rate) {
-        Ok(()) => Ok(playlist.list),
+    let list = List::new(alloc);
+    match made_of(alloc, reader, Playlist { list, columns: 0 }, rate) {
+        Ok(playlist) => Ok(playlist.list),
         Err(fault) => Err(fault),
     }
 }

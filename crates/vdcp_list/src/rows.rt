@@ -79,9 +79,30 @@ pub(crate) trait MadeOfRows {
     ghost makes_some: { (rate : Rate) (rows : List FileRow) (made : Self) → makes rate rows made → make_some rate rows };
 }
 
-/// Adds the rows that are left to what was made of none. (Apart from what its callers own, and would let go at each way
-/// out, this is proved much sooner.)
-pub(crate) fn add_rows<R: Read, M: MadeOfRows>(
+/// What a file's rows make at this rate. `none` is what no rows make.
+pub(crate) fn made_of<R: Read + Drop, M: MadeOfRows + Drop>(
+    alloc: Global,
+    source: R,
+    none: M,
+    rate: Rate,
+) -> Result<M, ListFault>
+    requires { M.makes rate [] none }
+    ensures made { IfOk result (λ made. HasRows (R.remaining source) (λ all. (length all ≤ most_rows) × M.makes rate all made)) }
+    ensures refused { IfErr result (λ fault. HasRows (R.remaining source)
+        (λ all. IsRowsFault (M.make_some rate) (M.refuses rate) all fault)) }
+{
+    let mut rows = rows_in(alloc, source);
+    let mut row = ByteRecord::new(alloc);
+    let mut made = none;
+    match add_rows(&mut rows, &mut row, &mut made, rate) {
+        Ok(()) => Ok(made),
+        Err(fault) => Err(fault),
+    }
+}
+
+/// Adds the rows that are left to what was made of none. (It owns nothing, since the proof of each
+/// way out takes much longer if it does.)
+fn add_rows<R: Read, M: MadeOfRows>(
     rows: &mut Reader<Bounded<R>>,
     row: &mut ByteRecord,
     made: &mut M,
