@@ -9,7 +9,6 @@ use crate::paced::frames_in_second;
 use crate::page::PAGE;
 use serde_json::{Value, json};
 use std::alloc::{AllocError, Global};
-use std::io;
 use std::net::SocketAddr;
 use std::rt::Clock;
 use std::time::SystemTime;
@@ -59,7 +58,7 @@ pub struct PortPanel<'a, R: Clock> {
 
 impl<'a, R: Clock + AllocGlobal> PortPanel<'a, R> {
     /// A panel of a port that has put nothing to air yet.
-    pub fn new(rt: &'a R, panel: Panel, rate: Rate) -> io::Result<Self> {
+    pub fn new(rt: &'a R, panel: Panel, rate: Rate) -> Result<Self, AllocError> {
         Ok(PortPanel {
             alloc: rt.alloc(),
             panel,

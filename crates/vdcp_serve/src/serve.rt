@@ -4,6 +4,7 @@ ghost use Rattle.std.specs.Prelude.{◌≡◌, ◌≢◌, ◌⊎◌, ◌≤◌, 
 ghost use Rattle.vdcp_drive.specs.ServeLeaves.{ServeLeaves};
 ghost use Rattle.vdcp_files.specs.Files.{IsWholeCatalogue, file};
 ghost use Rattle.vdcp_wire.specs.Address.{IsAddress};
+ghost use Rattle.vdcp_wire.specs.Listening.{PrintsListening};
 ghost use Rattle.vdcp_serve.specs.Idle.{IdlingDoes, has_given_up, idle_frames, idle_silences, idling_failures};
 ghost use Rattle.vdcp_serve.specs.Serve.{EndsAs, IsCatalogueRefused, IsServedThere, IsUnheard, IsUnserved, PrintsEnd};
 ghost use Rattle.vdcp_serve.specs.Serve.{end_of};
@@ -16,6 +17,7 @@ use crate::paced::{Pace, frames_in_second};
 use crate::panel::PortPanel;
 use crate::stay::stay;
 use crate::watcher::Watcher;
+use std::alloc::AllocError;
 use std::io::{self, ErrorKind};
 use std::net::{Net, SocketAddrV4};
 use std::rt::Clock;
@@ -259,30 +261,12 @@ fn serve_each<R: Net + AllocGlobal + Clock, C: Catalogue + Drop, L: io::Write + 
     ensures served { OnOk result (IsServedThere settings (W.contents out.old) (W.contents out.new)) }
     ensures unheard { IfErr result (IsUnheard (W.contents out.old) (W.contents out.new)) }
 {
-    let listener = match listen_at(rt, address, out) {
-        Ok(listener) => listener,
-        Err(AcceptFault::Bind) => return Err(Failure::Bind),
-        Err(AcceptFault::Writer) => return Err(Failure::Writer),
-    };
-    let mut entrance: Entrance<R, L> = match Entrance::new(rt, listener, settings, log) {
-        Ok(entrance) => entrance,
-        Err(error) if error.kind() == ErrorKind::OutOfMemory => return Err(Failure::Memory),
-        Err(_) => return Err(Failure::Bind),
-    };
-    let turns = u64::from(settings.turns);
-    let Ok(panel) = port_panel(rt, panel, settings.rate) else {
-        return Err(Failure::Memory);
-    };
+    let mut entrance = entrance_at(rt, address, settings, log, out)?;
+    let panel = port_panel(rt, panel, settings.rate)?;
     let mut watcher = Watcher::new(log, settings.rate, panel);
-    let kept = stay(
-        port,
-        &mut entrance,
-        turns,
-        idle_silences(settings),
-        log,
-        &mut watcher,
-    );
-    if kept.is_err() {
+    let turns = u64::from(settings.turns);
+    let most = idle_silences(settings);
+    if stay(port, &mut entrance, turns, most, log, &mut watcher).is_err() {
         return Err(Failure::Bind);
     }
     match write_end(ServeEnd::Spent, out) {
@@ -291,12 +275,35 @@ fn serve_each<R: Net + AllocGlobal + Clock, C: Catalogue + Drop, L: io::Write + 
     }
 }
 
+// Listens at an address. What it gives takes the connections there.
+fn entrance_at<'a, R: Net + AllocGlobal + Clock, L: io::Write + Drop, W: io::Write>(
+    rt: &'a R,
+    address: SocketAddrV4,
+    settings: ServeSettings,
+    log: &'a Log<L>,
+    out: &mut W,
+) -> Result<Entrance<'a, R, L>, Failure<'static>>
+    ensures listens { OnOk result (PrintsListening (W.contents out.old) (W.contents out.new)) }
+    ensures unheard { IfErr result (IsUnheard (W.contents out.old) (W.contents out.new)) }
+{
+    let listener = match listen_at(rt, address, out) {
+        Ok(listener) => listener,
+        Err(AcceptFault::Bind) => return Err(Failure::Bind),
+        Err(AcceptFault::Writer) => return Err(Failure::Writer),
+    };
+    match Entrance::new(rt, listener, settings, log) {
+        Ok(entrance) => Ok(entrance),
+        Err(error) if error.kind() == ErrorKind::OutOfMemory => Err(Failure::Memory),
+        Err(_) => Err(Failure::Bind),
+    }
+}
+
 // The panel, if there is one, as it shows a port.
 fn port_panel<R: AllocGlobal + Clock>(
     rt: &R,
     panel: Option<Panel>,
     rate: Rate,
-) -> io::Result<Option<PortPanel<'_, R>>> {
+) -> Result<Option<PortPanel<'_, R>>, AllocError> {
     match panel {
         Some(panel) => Ok(Some(PortPanel::new(rt, panel, rate)?)),
         None => Ok(None),
