@@ -8,8 +8,8 @@ use vdcp_list::Table;
 use vdcp_log::{Hearing, Screen, Telling};
 use vdcp_operator::{Hand, Keys, RunPage, start_of};
 use vdcp_options::{
-    LISTENS, Output, POLL, RUN_SILENCE, System, capture_of, from_of, limit_of, mode_of, number_of,
-    open_file, port_of, rate_of, unit_of,
+    Output, System, capture_of, from_of, limit_of, listens_of, mode_of, open_file, poll_of,
+    port_of, rate_of, run_silence_of, unit_of,
 };
 use vdcp_panel::open_panel;
 use vdcp_run::{RunJournal, RunSettings, Showing, Shown, do_run};
@@ -148,9 +148,9 @@ fn run_settings_of<'a>(matches: &'a ArgMatches<'_>) -> RunSettings<'a>
         mode: mode_of(matches),
         ask: matches.get_flag("ask"),
         rate: rate_of(matches),
-        silence: number_of(matches, &RUN_SILENCE),
+        silence: run_silence_of(matches),
         hearing: hearing_of(matches),
-        listens: number_of(matches, &LISTENS),
+        listens: listens_of(matches),
         operated: is_operated(matches),
         from: from_of(matches),
         asrun: matches.get_str("asrun"),
@@ -180,7 +180,7 @@ fn run_limit_of(matches: &ArgMatches) -> u32
 // When answers are heard.
 fn hearing_of(matches: &ArgMatches) -> Hearing {
     if matches.get_flag("prompt") {
-        Hearing::AtOnce(number_of(matches, &POLL))
+        Hearing::AtOnce(poll_of(matches))
     } else {
         Hearing::AtSilences
     }

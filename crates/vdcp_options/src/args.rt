@@ -1,8 +1,8 @@
 //! The command line: each subcommand with its arguments and its help.
 use crate::number::{
-    COPY, CUE_FRAMES, CUT, DAMAGE, FORGE, LIMIT, LISTENS, LOSE, LOSSY_SILENCE, NumberOption, PORT,
-    RUN_SILENCE, SEED, SERVE_SILENCE, TURNS, UNIT, WITHIN, from_option, idle_option, number_option,
-    poll_option, run_limit_option,
+    COPY, CUE_FRAMES, CUT, DAMAGE, FORGE, FROM, IDLE, LIMIT, LISTENS, LOSE, LOSSY_SILENCE,
+    NumberOption, PORT, RUN_LIMIT, RUN_SILENCE, SEED, SERVE_SILENCE, TURNS, UNIT, WITHIN,
+    number_option, poll_option,
 };
 use crate::rate::rate_option;
 use clap::{Arg, ArgAction, Command};
@@ -62,10 +62,7 @@ enum Argument {
     ValueWith(&'static str, &'static str, &'static str, &'static str),
     Number(&'static NumberOption),
     Rate,
-    RunLimit,
     Poll,
-    Idle,
-    From,
     Only,
     Resume,
     OpenAgain,
@@ -169,7 +166,7 @@ static SERVE: Subcommand = Subcommand {
             "stay",
             "Keeps the port when a connection ends, and takes the next one",
         ),
-        Argument::Idle,
+        Argument::Number(&IDLE),
         Argument::ValueWith(
             "panel",
             "ADDR",
@@ -193,7 +190,7 @@ static RUN: Subcommand = Subcommand {
         LIST,
         Argument::Number(&UNIT),
         Argument::Number(&PORT),
-        Argument::RunLimit,
+        Argument::Number(&RUN_LIMIT),
         Argument::Rate,
         CONFIRM,
         Argument::Flag(
@@ -219,7 +216,7 @@ static RUN: Subcommand = Subcommand {
         ),
         Argument::Resume,
         Argument::OpenAgain,
-        Argument::From,
+        Argument::Number(&FROM),
         Argument::Flag(
             "operator",
             "Reads calls from standard input, a line each: take, stop",
@@ -338,59 +335,52 @@ static VECTORS: Subcommand = Subcommand {
     arguments: &[Argument::Required("FILE", "The file of bursts and their readings")],
 };
 
+// How many subcommands there are.
+const SUBCOMMANDS: usize = 12;
+
+// The subcommand at this place of the help.
+fn subcommand_at(place: usize) -> &'static Subcommand {
+    match place {
+        0 => &SHOW,
+        1 => &MAKE,
+        2 => &CHECK,
+        3 => &ASK,
+        4 => &SIM,
+        5 => &SERVE,
+        6 => &RUN,
+        7 => &ASRUN,
+        8 => &JUDGE,
+        9 => &PROBE,
+        10 => &LOSSY,
+        _ => &VECTORS,
+    }
+}
+
 /// What the command line may be. If its first word is a subcommand's name, no other one is made.
 pub fn command<'a>(alloc: Global, first: Option<&str>) -> Result<Command<'a>, AllocError> {
-    let only = subcommand_named(first);
-    let command = Command::new(alloc, "vdcp")
+    let mut command = Command::new(alloc, "vdcp")
         .bin_name("vdcp")?
         .about("One playout channel of the Video Disk Communications Protocol")
         .version(VERSION)
         .subcommand_required(true)
         .arg_required_else_help(true);
-    let command = with_subcommand(alloc, command, only, &SHOW)?;
-    let command = with_subcommand(alloc, command, only, &MAKE)?;
-    let command = with_subcommand(alloc, command, only, &CHECK)?;
-    let command = with_subcommand(alloc, command, only, &ASK)?;
-    let command = with_subcommand(alloc, command, only, &SIM)?;
-    let command = with_subcommand(alloc, command, only, &SERVE)?;
-    let command = with_subcommand(alloc, command, only, &RUN)?;
-    let command = with_subcommand(alloc, command, only, &ASRUN)?;
-    let command = with_subcommand(alloc, command, only, &JUDGE)?;
-    let command = with_subcommand(alloc, command, only, &PROBE)?;
-    let command = with_subcommand(alloc, command, only, &LOSSY)?;
-    with_subcommand(alloc, command, only, &VECTORS)
+    let only = place_of(first);
+    for place in 0..SUBCOMMANDS {
+        if only.unwrap_or(place) == place {
+            command = command.subcommand(made(alloc, subcommand_at(place))?)?;
+        }
+    }
+    Ok(command)
 }
 
-// The word, if it is a subcommand's name.
-fn subcommand_named(word: Option<&str>) -> Option<&str> {
-    match word? {
-        "show"
-        | "make"
-        | "check"
-        | "ask"
-        | "sim"
-        | "serve"
-        | "run"
-        | "asrun"
-        | "judge"
-        | "probe"
-        | "lossy"
-        | "vectors" => word,
-        _ => None,
+// The place of the subcommand of this name.
+fn place_of(name: Option<&str>) -> Option<usize> {
+    for place in 0..SUBCOMMANDS {
+        if Some(subcommand_at(place).name) == name {
+            return Some(place);
+        }
     }
-}
-
-// The command line with this subcommand, too, unless only another one is wanted.
-fn with_subcommand<'a>(
-    alloc: Global,
-    command: Command<'a>,
-    only: Option<&str>,
-    subcommand: &Subcommand,
-) -> Result<Command<'a>, AllocError> {
-    match only {
-        Some(name) if name != subcommand.name => Ok(command),
-        _ => command.subcommand(made(alloc, subcommand)?),
-    }
+    None
 }
 
 // A subcommand, as `clap` has it.
@@ -417,10 +407,7 @@ fn argument_of<'a>(alloc: Global, argument: &Argument) -> Result<Arg<'a>, AllocE
         }
         Argument::Number(number) => Ok(number_option(alloc, number)),
         Argument::Rate => Ok(rate_option(alloc)),
-        Argument::RunLimit => Ok(run_limit_option(alloc)),
         Argument::Poll => poll_option(alloc),
-        Argument::Idle => Ok(idle_option(alloc)),
-        Argument::From => Ok(from_option(alloc)),
         Argument::Only => Ok(only(alloc)),
         Argument::Resume => resume(alloc),
         Argument::OpenAgain => open_again(alloc),

@@ -22,9 +22,7 @@ mod system;
 
 pub use args::command;
 pub use file::open_file;
-pub use number::{
-    LISTENS, NumberOption, POLL, RUN_SILENCE, from_of, limit_of, number_of, port_of, unit_of,
-};
+pub use number::{from_of, limit_of, listens_of, poll_of, port_of, run_silence_of, unit_of};
 pub use output::{Output, capture_of};
 pub use rate::rate_of;
 pub use settings::mode_of;

@@ -13,8 +13,8 @@ pub struct NumberOption {
     pub value_name: &'static str,
     pub least: u32,
     pub most: u32,
-    /// The number if the option is left out, as text.
-    pub default: &'static str,
+    /// As text, the number if the option is left out; None: it says no number then.
+    pub default: Option<&'static str>,
     pub help: &'static str,
 }
 
@@ -23,7 +23,7 @@ pub const UNIT: NumberOption = NumberOption {
     value_name: "U",
     least: 0,
     most: 15,
-    default: "0",
+    default: Some("0"),
     help: "The unit address, 0 to 15",
 };
 
@@ -32,7 +32,7 @@ pub const PORT: NumberOption = NumberOption {
     value_name: "P",
     least: 0,
     most: 255,
-    default: "1",
+    default: Some("1"),
     help: "The port's number, 0 to 255",
 };
 
@@ -41,7 +41,7 @@ pub const LIMIT: NumberOption = NumberOption {
     value_name: "L",
     least: 1,
     most: 1_000,
-    default: "3",
+    default: Some("3"),
     help: "The controller gives up after this many unanswered exchanges in a row, 1 to 1000",
 };
 
@@ -50,7 +50,7 @@ pub const CUE_FRAMES: NumberOption = NumberOption {
     value_name: "F",
     least: 1,
     most: 1_000,
-    default: "1",
+    default: Some("1"),
     help: "How many frames a cue takes, 1 to 1000",
 };
 
@@ -59,7 +59,7 @@ pub const SERVE_SILENCE: NumberOption = NumberOption {
     value_name: "MS",
     least: 1,
     most: 60_000,
-    default: "20",
+    default: Some("20"),
     help: "A command has ended, and a frame has passed, when nothing came for this many milliseconds, 1 to 60000",
 };
 
@@ -68,7 +68,7 @@ pub const RUN_SILENCE: NumberOption = NumberOption {
     value_name: "MS",
     least: 1,
     most: 60_000,
-    default: "100",
+    default: Some("100"),
     help: "An answer has ended when nothing came for this many milliseconds, 1 to 60000; more than the server's",
 };
 
@@ -77,7 +77,7 @@ pub const TURNS: NumberOption = NumberOption {
     value_name: "N",
     least: 1,
     most: u32::MAX,
-    default: "4294967295",
+    default: Some("4294967295"),
     help: "Ends after this many waits for bytes or for a silence",
 };
 
@@ -86,7 +86,7 @@ pub const LISTENS: NumberOption = NumberOption {
     value_name: "N",
     least: 1,
     most: u32::MAX,
-    default: "4294967295",
+    default: Some("4294967295"),
     help: "Gives up after this many waits for bytes or for a silence",
 };
 
@@ -95,7 +95,7 @@ pub const POLL: NumberOption = NumberOption {
     value_name: "MS",
     least: 0,
     most: 60_000,
-    default: "20",
+    default: Some("20"),
     help: "With --prompt, the state is asked again after this many milliseconds at the earliest, 0 to 60000",
 };
 
@@ -104,7 +104,7 @@ pub const SEED: NumberOption = NumberOption {
     value_name: "N",
     least: 0,
     most: u32::MAX,
-    default: "1",
+    default: Some("1"),
     help: "Which throws of the dice are made: the same seed, the same throws",
 };
 
@@ -113,7 +113,7 @@ pub const LOSE: NumberOption = NumberOption {
     value_name: "P",
     least: 0,
     most: 100,
-    default: "10",
+    default: Some("10"),
     help: "How many of 100 bursts are lost, 0 to 100",
 };
 
@@ -122,7 +122,7 @@ pub const COPY: NumberOption = NumberOption {
     value_name: "P",
     least: 0,
     most: 100,
-    default: "10",
+    default: Some("10"),
     help: "How many of 100 bursts come twice, 0 to 100",
 };
 
@@ -131,7 +131,7 @@ pub const CUT: NumberOption = NumberOption {
     value_name: "P",
     least: 0,
     most: 100,
-    default: "5",
+    default: Some("5"),
     help: "How many of 100 bursts end early, 0 to 100",
 };
 
@@ -140,7 +140,7 @@ pub const DAMAGE: NumberOption = NumberOption {
     value_name: "P",
     least: 0,
     most: 100,
-    default: "5",
+    default: Some("5"),
     help: "How many of 100 bursts have bytes changed, 0 to 100",
 };
 
@@ -149,7 +149,7 @@ pub const FORGE: NumberOption = NumberOption {
     value_name: "P",
     least: 0,
     most: 100,
-    default: "0",
+    default: Some("0"),
     help: "How many of 100 exchanges end with a forged ACK or NAK, 0 to 100; for a run with --confirm",
 };
 
@@ -158,7 +158,7 @@ pub const LOSSY_SILENCE: NumberOption = NumberOption {
     value_name: "MS",
     least: 1,
     most: 60_000,
-    default: "30",
+    default: Some("30"),
     help: "A burst has ended when nothing came for this many milliseconds, 1 to 60000; more than the server's",
 };
 
@@ -167,46 +167,54 @@ pub const WITHIN: NumberOption = NumberOption {
     value_name: "MS",
     least: 1,
     most: 60_000,
-    default: "80",
+    default: Some("80"),
     help: "Nothing goes on this many milliseconds after its command, 1 to 60000; less than the silence of the run",
+};
+
+pub const RUN_LIMIT: NumberOption = NumberOption {
+    name: "limit",
+    value_name: "L",
+    least: 1,
+    most: 1_000,
+    default: None,
+    help: "The controller gives up after this many unanswered exchanges in a row, at most 1000; left out it is 3, with --prompt 10",
+};
+
+pub const IDLE: NumberOption = NumberOption {
+    name: "idle",
+    value_name: "S",
+    least: 0,
+    most: 86_400,
+    default: None,
+    help: "A connection has ended when nothing came by it for this many seconds, at most 86400 (with --stay 10 if left out); 0: it never has",
+};
+
+pub const FROM: NumberOption = NumberOption {
+    name: "from",
+    value_name: "K",
+    least: 0,
+    most: u32::MAX,
+    default: None,
+    help: "Begins with this event of the list, the first being 0; with --resume, whatever may have aired",
 };
 
 /// The option, for the command line.
 pub fn number_option<'a>(alloc: Global, option: &NumberOption) -> Arg<'a> {
     let range = i64::from(option.least)..=i64::from(option.most);
-    Arg::new(alloc, option.name)
+    let arg = Arg::new(alloc, option.name)
         .long(option.name)
         .value_name(option.value_name)
         .value_parser(value_parser!(u32).range(range))
-        .default_value(option.default)
-        .help(option.help)
-}
-
-/// The option `--limit` of a run, for the command line. Left out, it says none.
-pub fn run_limit_option<'a>(alloc: Global) -> Arg<'a> {
-    Arg::new(alloc, "limit")
-        .long("limit")
-        .value_name("L")
-        .value_parser(value_parser!(u32).range(1..=1_000))
-        .help(
-            "The controller gives up after this many unanswered exchanges in a row, at most 1000; left out it is 3, with --prompt 10",
-        )
+        .help(option.help);
+    match option.default {
+        Some(default) => arg.default_value(default),
+        None => arg,
+    }
 }
 
 /// The option `--poll`, for the command line: it needs `--prompt`.
 pub fn poll_option<'a>(alloc: Global) -> Result<Arg<'a>, AllocError> {
     number_option(alloc, &POLL).requires_arg("prompt")
-}
-
-/// The option `--idle`, for the command line: a number of seconds, 0 to 86400. Left out, it says none.
-pub fn idle_option<'a>(alloc: Global) -> Arg<'a> {
-    Arg::new(alloc, "idle")
-        .long("idle")
-        .value_name("S")
-        .value_parser(value_parser!(u32).range(0..=86_400))
-        .help(
-            "A connection has ended when nothing came by it for this many seconds, at most 86400 (with --stay 10 if left out); 0: it never has",
-        )
 }
 
 /// For how many seconds a connection may be idle, if that is bounded; left out, it is if the port stays.
@@ -225,25 +233,14 @@ pub fn idle_of(matches: &ArgMatches, stay: bool) -> Option<u32>
     }
 }
 
-/// The option `--from`, for the command line: the number of an event. Left out, it says none.
-pub fn from_option<'a>(alloc: Global) -> Arg<'a> {
-    Arg::new(alloc, "from")
-        .long("from")
-        .value_name("K")
-        .value_parser(value_parser!(u32).range(0..=4_294_967_295))
-        .help(
-            "Begins with this event of the list, the first being 0; with --resume, whatever may have aired",
-        )
-}
-
 /// The event to begin with, if it is said.
 pub fn from_of(matches: &ArgMatches) -> Option<usize> {
     let text = matches.get_str("from")?;
     Some(number_in(text, 0, u32::MAX) as usize)
 }
 
-/// The number that the option's text writes; `clap` lets no text through that writes none in the
-/// range, and gives the default if the option is left out.
+/// The number that the option's text writes; `clap` lets no text through that writes none in the range. Left out, it is
+/// the default, or `least` if the option has none.
 pub fn number_of(matches: &ArgMatches, option: &NumberOption) -> u32
     requires { option.now.least ≤ option.now.most }
     ensures least { option.now.least ≤ result }
@@ -296,6 +293,24 @@ pub fn cue_frames_of(matches: &ArgMatches) -> u32
     ensures most { result ≤ 1000 }
 {
     number_of(matches, &CUE_FRAMES)
+}
+
+/// After how many milliseconds without a byte an answer has ended.
+pub fn run_silence_of(matches: &ArgMatches) -> u32
+    ensures least { 1 ≤ result }
+    ensures most { result ≤ 60000 }
+{
+    number_of(matches, &RUN_SILENCE)
+}
+
+/// After how many milliseconds at the earliest the state is asked again.
+pub fn poll_of(matches: &ArgMatches) -> u32 {
+    number_of(matches, &POLL)
+}
+
+/// After how many waits for bytes or for a silence a run gives up.
+pub fn listens_of(matches: &ArgMatches) -> u32 {
+    number_of(matches, &LISTENS)
 }
 
 /// After how many waits for bytes or for a silence a server or a line ends.

@@ -2,8 +2,8 @@
 ghost use Rattle.std.specs.Prelude.{◌≤◌};
 
 use crate::number::{
-    COPY, CUT, DAMAGE, FORGE, LOSE, LOSSY_SILENCE, RUN_SILENCE, SEED, SERVE_SILENCE, WITHIN,
-    cue_frames_of, idle_of, limit_of, number_of, port_of, turns_of, unit_of,
+    COPY, CUT, DAMAGE, FORGE, LOSE, LOSSY_SILENCE, SEED, SERVE_SILENCE, WITHIN, cue_frames_of,
+    idle_of, limit_of, number_of, port_of, run_silence_of, turns_of, unit_of,
 };
 use crate::rate::rate_of;
 use clap::ArgMatches;
@@ -136,7 +136,7 @@ pub fn probe_settings_of(matches: &ArgMatches) -> ProbeSettings
         unit: unit_of(matches),
         port: port_of(matches),
         rate: rate_of(matches),
-        silence: number_of(matches, &RUN_SILENCE),
+        silence: run_silence_of(matches),
         only: only_of(matches),
         may_stop: matches.get_flag("yes-it-may-stop"),
     }
@@ -151,7 +151,7 @@ pub fn ask_settings_of(matches: &ArgMatches) -> AskSettings
     AskSettings {
         unit: unit_of(matches),
         rate: rate_of(matches),
-        silence: number_of(matches, &RUN_SILENCE),
+        silence: run_silence_of(matches),
     }
 }
 
