@@ -115,6 +115,7 @@ impl<S: Source, E: Ear, W: Wire> Driver<S, E, W> {
             &self.ear,
             &mut self.wire,
             &mut Unkept,
+            &mut Unpaced,
         ) {
             Ok(is_sent) => Ok(is_sent),
             Err(KeptFault::Device) => {
@@ -184,7 +185,7 @@ impl<S: Source, E: Ear, W: Wire> Driver<S, E, W> {
     /// waits and `keep` keeps it; `watch` is lent the controller before each listen.
     /// `Device` if the wire fails or has failed before. `Unkept` if a command can't be kept: none of it is sent then,
     /// and a later run tries again.
-    pub fn run_with<V: Watch<S>, K: Keep, P: Pace<S>>(
+    pub fn run_with<V: Watch<S>, K: Keep, P: Pace>(
         &mut self,
         listens: u64,
         watch: &mut V,
@@ -214,7 +215,7 @@ impl<S: Source, E: Ear, W: Wire> Driver<S, E, W> {
 }
 
 // Runs an automation until it has ended or has listened this many times.
-fn run_rounds<S: Source, E: Ear, W: Wire, V: Watch<S>, K: Keep, P: Pace<S>>(
+fn run_rounds<S: Source, E: Ear, W: Wire, V: Watch<S>, K: Keep, P: Pace>(
     controller: &mut Controller<S>,
     unit: u8,
     ear: &mut E,
@@ -248,7 +249,7 @@ fn run_rounds<S: Source, E: Ear, W: Wire, V: Watch<S>, K: Keep, P: Pace<S>>(
 }
 
 // Runs an automation for one listen: before it the next command goes out.
-fn run_round<S: Source, E: Ear, W: Wire, V: Watch<S>, K: Keep, P: Pace<S>>(
+fn run_round<S: Source, E: Ear, W: Wire, V: Watch<S>, K: Keep, P: Pace>(
     controller: &mut Controller<S>,
     unit: u8,
     ear: &mut E,
@@ -269,8 +270,7 @@ fn run_round<S: Source, E: Ear, W: Wire, V: Watch<S>, K: Keep, P: Pace<S>>(
     ensures fails { result ≡ Err KeptFault.Unkept → K.can_fail }
     ensures failures { W.failures wire.new ≡ (if is_broken result then 1 else 0) }
 {
-    pace.wait(controller);
-    if let Err(fault) = send_next(controller, unit, ear, wire, keep) {
+    if let Err(fault) = send_next(controller, unit, ear, wire, keep, pace) {
         return Err(fault);
     }
     if !controller.awaiting() {
@@ -318,13 +318,14 @@ fn is_broken(ran: Result<Ran, KeptFault>) -> bool
     matches!(ran, Err(KeptFault::Device))
 }
 
-// Has the next command kept, if there is one, and sends it. Answers whether there was one.
-fn send_next<S: Source, E: Ear, W: Wire, K: Keep>(
+// Waits by the pace, has the next command kept, and sends it, if there is one. Answers whether there was one.
+fn send_next<S: Source, E: Ear, W: Wire, K: Keep, P: Pace>(
     controller: &mut Controller<S>,
     unit: u8,
     ear: &E,
     wire: &mut W,
     keep: &mut K,
+    pace: &mut P,
 ) -> Result<bool, KeptFault>
     requires unit { unit ≤ 15 }
     requires works { W.failures wire.old ≡ 0 }
@@ -337,14 +338,16 @@ fn send_next<S: Source, E: Ear, W: Wire, K: Keep>(
     let Some(command) = controller.to_send() else {
         return Ok(false);
     };
-    if let Err(KeepFault) = keep.keep_sent(&command) {
+    pace.wait(&command);
+    let bytes = command.encode(unit);
+    if let Err(KeepFault) = keep.keep_sent(unit, &command, bytes.as_slice()) {
         return Err(KeptFault::Unkept);
     }
     if let Err(WireFault) = drop_first(ear, wire) {
         return Err(KeptFault::Device);
     }
     controller.await_answer(&command);
-    match wire.send(command.encode(unit).as_slice()) {
+    match wire.send(bytes.as_slice()) {
         Ok(()) => Ok(true),
         Err(WireFault) => Err(KeptFault::Device),
     }

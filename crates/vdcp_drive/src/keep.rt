@@ -33,7 +33,9 @@ pub enum KeptFault {
 
 /// Keeps the exchanges of an automation, so that they outlast it.
 pub trait Keep {
-    ghost use Rattle.std.specs.Prelude.{OnErr, OnOk, ⊤};
+    ghost use Rattle.std.specs.Prelude.{◌≡◌, OnErr, OnOk, ⊤};
+    ghost use Rattle.vdcp_frame.specs.Message.{spelling};
+    ghost use Rattle.vdcp_words.specs.Commands.{command_message};
     ghost use Rattle.vdcp_drive.specs.Steps.{end_of};
     ghost use Rattle.vdcp_drive.specs.declared.keep.Kept.{Kept};
     ghost use Rattle.vdcp_drive.specs.declared.keep.Kept.TheVariants as kept;
@@ -55,9 +57,10 @@ pub trait Keep {
     /// Whether it can fail.
     ghost can_fail: { Type 0 } = { ⊤ };
 
-    /// It is given a command before its first byte goes out, and makes it safe, with all that it noted before. Where
-    /// it fails, the command may be missing, and the end of the exchange before it.
-    fn keep_sent(&mut self, command: &Command) -> Result<(), KeepFault>
+    /// It is given a command to this unit, and its bytes, before the first of them goes out, and makes it safe, with all
+    /// that it noted before. Where it fails, the command may be missing, and the end of the exchange before it.
+    fn keep_sent(&mut self, unit: u8, command: &Command, bytes: &[u8]) -> Result<(), KeepFault>
+        requires { bytes.now ≡ spelling (command_message unit command.now) }
         ensures kept { OnOk result (adds (kept.Sent command.now) self.old self.new) }
         ensures lost { OnErr result (loses command.now self.old self.new) }
         ensures fails { OnErr result can_fail };
@@ -81,7 +84,7 @@ pub struct Unkept;
 impl Keep for Unkept {
     ghost can_fail = { ⊥ };
 
-    fn keep_sent(&mut self, _command: &Command) -> Result<(), KeepFault> {
+    fn keep_sent(&mut self, _unit: u8, _command: &Command, _bytes: &[u8]) -> Result<(), KeepFault> {
         Ok(())
     }
 

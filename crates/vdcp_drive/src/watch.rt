@@ -2,6 +2,7 @@
 use vdcp_auto::{Controller, Source};
 use vdcp_port::{Catalogue, Port};
 use vdcp_value::Item;
+use vdcp_words::Command;
 
 /// Watches an automation run.
 pub trait Watch<S: Source> {
@@ -43,15 +44,15 @@ impl<C: Catalogue> WatchPort<C> for Unwatched {
 }
 
 /// Sets the pace of an automation's commands.
-pub trait Pace<S: Source> {
-    /// It is lent the controller, and may wait, before the next command is kept and goes out.
-    fn wait(&mut self, controller: &Controller<S>);
+pub trait Pace {
+    /// It is lent the command that goes out next, and may wait before that is kept.
+    fn wait(&mut self, command: &Command);
 }
 
 /// Waits for nothing.
 #[derive(Drop)]
 pub struct Unpaced;
 
-impl<S: Source> Pace<S> for Unpaced {
-    fn wait(&mut self, _controller: &Controller<S>) {}
+impl Pace for Unpaced {
+    fn wait(&mut self, _command: &Command) {}
 }

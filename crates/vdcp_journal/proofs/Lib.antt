@@ -1,5 +1,4 @@
 -- The lemmas, file by file.
-mod Written
 mod Digits
 mod HexTexts
 mod Messages

@@ -1,8 +1,7 @@
 -- The rows of a journal, as fields and as text.
 use Rattle.csv.specs.Writing.{default_writer, row_text}
 use Rattle.hex.specs.Hex.{encode_lower}
-use Rattle.std.specs.Io.KnownBytes.{Appends}
-use Rattle.std.specs.Prelude.{ℕ, Option, List, [], ◌∷◌, ◌++◌, codes, decimal, map, take}
+use Rattle.std.specs.Prelude.{ℕ, ◌≡◌, List, [], ◌∷◌, ◌++◌, codes, decimal, map}
 use Rattle.std.specs.List.{flat_map}
 use Rattle.vdcp_auto.specs.declared.exchange.Heard.TheVariants as heard
 use Rattle.vdcp_auto.specs.declared.outcome.Outcome.{Outcome}
@@ -47,6 +46,11 @@ note_fields unit note.Stop = codes "stop" ∷ [] ∷ [] ∷ []
 note_fields unit (note.End outcome) = codes "end" ∷ outcome_fields outcome
 note_fields unit (note.From k) = codes "from" ∷ decimal k ∷ [] ∷ []
 
+-- these bytes carry the note's command to the unit, if it is of a command
+abbrev pub AreBytesOf : ℕ → List ℕ → Note → Type 0
+AreBytesOf unit bytes (note.Sent c) = bytes ≡ spelling (command_message unit c)
+AreBytesOf unit bytes _ = Unit {0}
+
 abbrev pub row_fields : ℕ → Row → Fields
 row_fields unit row = moment_text row.time ∷ note_fields unit row.note
 
@@ -74,7 +78,3 @@ journal_text time heading rows = fields_text (heading_fields time heading) ++ ro
 -- the fields of its rows
 abbrev pub journal_fields : Moment → Heading → List Row → List Fields
 journal_fields time heading rows = heading_fields time heading ∷ map (row_fields heading.unit) rows
-
--- known bytes grew by a beginning of a text
-abbrev pub AppendsBeginning : Option (List ℕ) → Option (List ℕ) → List ℕ → Type 0
-AppendsBeginning old new text = (count : ℕ) × Appends old new (take count text)

@@ -1,16 +1,5 @@
-//! Why a journal can't be written, read or gone on with.
+//! Why a journal can't be read or gone on with.
 use thiserror::Error;
-
-/// Why nothing, or not all, was written.
-#[derive(Clone, Copy, Debug, PartialEq, Eq, Error)]
-pub enum JournalWriteFault {
-    /// The writer failed. A beginning of the row may have been written.
-    #[error("the writer failed")]
-    Device,
-    /// Nothing was written.
-    #[error("out of memory")]
-    Memory,
-}
 
 /// Why a row doesn't stand after those before it: the controller that goes on from them doesn't send, await or come to that.
 #[derive(Clone, Copy, Debug, PartialEq, Eq, Error)]

@@ -1,28 +1,35 @@
 //! The fields of a note.
-ghost use Rattle.std.specs.Prelude.{◌≡◌, ◌≤◌, [], ◌∷◌, decimal, length};
+ghost use Rattle.std.specs.Option.{option_copied};
+ghost use Rattle.std.specs.Prelude.{◌≡◌, ◌≤◌, [], ◌∷◌, IfSome, decimal, length};
 ghost use Rattle.hex.specs.Hex.{encode_lower};
-ghost use Rattle.vdcp_journal.specs.Rows.{note_fields, outcome_fields};
+ghost use Rattle.vdcp_journal.specs.Rows.{AreBytesOf, note_fields, outcome_fields};
 
 use crate::row::Note;
-use arrayvec::ArrayString;
+use arrayvec::{ArrayString, ArrayVec};
 use std::str;
 use vdcp_auto::{Heard, Outcome};
-use vdcp_words::Command;
+use vdcp_words::LONGEST;
 
-/// The fields of a note.
+/// The fields of a note. (Its word is borrowed as the rest is, so that they can stand in one array.)
 #[derive(Drop)]
-pub(crate) struct NoteFields {
+pub(crate) struct NoteFields<'a> {
     /// What is noted.
-    pub word: &'static str,
+    pub word: &'a str,
     /// Its text, for people; or how the controller ended; or the event that a run begins with.
     pub text: ArrayString<64>,
     /// Its bytes on the line; or the number of an event.
     pub detail: ArrayString<64>,
 }
 
-/// The fields of a note, in a journal of the server at this unit.
-pub(crate) fn fields_of(unit: u8, note: &Note) -> NoteFields
-    requires { unit ≤ 15 }
+/// The fields of a note, in a journal of the server at this unit. `bytes` are those of its command; if they
+/// are None, they are made here.
+pub(crate) fn fields_of<'a>(
+    unit: u8,
+    note: &Note,
+    bytes: Option<&ArrayVec<u8, LONGEST>>,
+) -> NoteFields<'a>
+    requires unit { unit ≤ 15 }
+    requires spelled { IfSome (option_copied bytes) (λ b. AreBytesOf unit b.items note.now) }
     ensures { result.word.now ∷ result.text.bytes ∷ result.detail.bytes ∷ [] ≡ note_fields unit note.now }
 {
     let mut text = ArrayString::new();
@@ -30,7 +37,10 @@ pub(crate) fn fields_of(unit: u8, note: &Note) -> NoteFields
     let word = match note {
         Note::Sent(command) => {
             command.show(&mut text);
-            push_hex(&mut detail, command.encode(unit).as_slice());
+            match bytes {
+                Some(bytes) => push_hex(&mut detail, bytes.as_slice()),
+                None => push_hex(&mut detail, command.encode(unit).as_slice()),
+            }
             "sent"
         }
         Note::Heard(Heard::Reply(reply)) => {

@@ -2,7 +2,7 @@
 //! that one that was killed goes on where it was.
 //!
 //! A `Heading` says what is played, and each `Row` is a `Note` with the `Moment` at which it was made.
-//! `write_heading` and `write_row` append to a writer that they are lent.
+//! `write_heading` and `write_row` append the text of one row to bytes in memory.
 //!
 //! `Moment::of_unix_millis` is the moment of a clock's time, and `digest_of` the digest of a list.
 //!
@@ -34,7 +34,7 @@ mod write;
 
 pub use airings::{Airing, Airings, AiringsSoFar};
 pub use digest::digest_of;
-pub use faults::{JournalReadFault, JournalRowFault, JournalWriteFault, ResumeFault};
+pub use faults::{JournalReadFault, JournalRowFault, ResumeFault};
 pub use moment::Moment;
 pub use read::JournalRows;
 pub use replay::{Resumed, RunSoFar};

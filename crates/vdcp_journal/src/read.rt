@@ -27,7 +27,7 @@ fn is_written(unit: u8, note: &Note, word: &[u8], text: &[u8], detail: &[u8]) ->
     requires { unit ≤ 15 }
     ensures { IsTrue result ↔ (note_fields unit note.now ≡ word.now ∷ text.now ∷ detail.now ∷ []) }
 {
-    let fields = fields_of(unit, note);
+    let fields = fields_of(unit, note, None);
     fields.word.as_bytes() == word
         && fields.text.as_bytes() == text
         && fields.detail.as_bytes() == detail

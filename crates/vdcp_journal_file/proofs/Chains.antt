@@ -256,15 +256,15 @@ held_ended (pending.Failed f) row h may = refl
 
 -- A PLAY that is announced.
 
-record PlaysAfter (p : Pending) (n : Note) : Type 0 where
-  seen : Seen
-  first : Row
-  second : Row
-  left : p ≡ pending.Answered (Some seen) first second
-  plays : n ≡ note.Sent command.Play
-  done : announces (Some seen) ≡ true
+pub record PlaysAfter (p : Pending) (n : Note) : Type 0 where
+  pub seen : Seen
+  pub first : Row
+  pub second : Row
+  pub left : p ≡ pending.Answered (Some seen) first second
+  pub plays : n ≡ note.Sent command.Play
+  pub done : announces (Some seen) ≡ true
 
-plays_after : (p : Pending) (n : Note) → is_announced p n ≡ true → PlaysAfter p n
+pub plays_after : (p : Pending) (n : Note) → is_announced p n ≡ true → PlaysAfter p n
 plays_after (pending.Answered (Some seen) first second) (note.Sent command.Play) is =
     record { seen = seen; first = first; second = second; left = refl; plays = refl; done = is }
 plays_after (pending.Answered None first second) (note.Sent command.Play) is = cc is

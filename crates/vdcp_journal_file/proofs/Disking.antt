@@ -5,7 +5,7 @@ use Rattle.std.proofs.Math.Seq.{take-add, take-length, take-append_seam}
 use Rattle.std.proofs.lemmas.List.{append_cancel_left, take_rest, take-append-drop}
 use Rattle.std.specs.Io.KnownBytes.{Appends, Keeps}
 use Rattle.std.specs.Prelude.{Option, None, Some, Result, Ok, Err, OnErr}
-use Rattle.vdcp_journal.specs.Rows.{AppendsBeginning}
+use Rattle.vdcp_list.specs.Asrun.{AppendsBeginning}
 use Rattle.vdcp_journal.specs.declared.row.Row.{Row}
 use Rattle.vdcp_journal_file.specs.Disks.{Spills}
 use Rattle.vdcp_journal_file.specs.Recording.{IsSynced, ended, is_announced, with_play}

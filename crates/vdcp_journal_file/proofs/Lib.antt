@@ -1,5 +1,6 @@
 -- The lemmas, file by file.
 pub mod Chains
+mod Held
 pub mod RowSteps
 pub mod OpenedAgain
 pub mod Shown

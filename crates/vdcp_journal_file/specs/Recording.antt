@@ -1,17 +1,19 @@
 -- What a recorder has written to its journal, and what it has still to write.
 use Rattle.std.specs.Borrow.{Bor}
 use Rattle.std.specs.Io.KnownBytes.{Appends}
-use Rattle.std.specs.Prelude.{ℕ, ◌≡◌, ◌⊎◌, ◌==◌, ◌&&◌, Bool, false, if◌then◌else◌, List, [], ◌∷◌, ◌++◌, Option, None, Some}
+use Rattle.std.specs.Prelude.{ℕ, ◌≡◌, ◌⊎◌, ◌==◌, ◌&&◌, Bool, false, if◌then◌else◌, List, [], ◌∷◌, ◌++◌, Option, IfSome, None, Some}
 use Rattle.vdcp_auto.specs.Replies.{is_done, is_playing}
 use Rattle.vdcp_auto.specs.declared.exchange.Heard.{Heard}
 use Rattle.vdcp_auto.specs.declared.exchange.Heard.TheVariants as heard
 use Rattle.vdcp_auto.specs.declared.outcome.Outcome.{Outcome}
-use Rattle.vdcp_journal.specs.Rows.{AppendsBeginning, rows_text}
+use Rattle.vdcp_list.specs.Asrun.{AppendsBeginning}
+use Rattle.vdcp_journal.specs.Rows.{AreBytesOf, rows_text}
 use Rattle.vdcp_journal.specs.Thinned.{asks_state}
 use Rattle.vdcp_journal.specs.declared.moment.Moment.{Moment}
 use Rattle.vdcp_journal.specs.declared.row.Note.{Note}
 use Rattle.vdcp_journal.specs.declared.row.Note.TheVariants as note
 use Rattle.vdcp_journal.specs.declared.row.Row.{Row}
+use Rattle.vdcp_journal_file.specs.declared.pending.HeldBytes.{HeldBytes}
 use Rattle.vdcp_journal_file.specs.declared.pending.Pending.{Pending}
 use Rattle.vdcp_journal_file.specs.declared.pending.Pending.TheVariants as pending
 use Rattle.vdcp_journal_file.specs.declared.pending.RecordFault.{RecordFault}
@@ -49,6 +51,16 @@ ended (pending.Answered before asks hears) row = pending.Answered before asks ro
 ended (pending.Played before asks hears plays) row = pending.Over before asks hears plays row
 ended (pending.Over before asks hears plays last) row = pending.Over before asks hears plays row
 ended (pending.Failed fault) row = pending.Failed fault
+
+-- the bytes that are held are those of the commands whose rows are held back
+abbrev pub FitHeldRows : ℕ → HeldBytes → Pending → Type 0
+FitHeldRows unit held (pending.Asked before asks) = IfSome held.asks (λ b. AreBytesOf unit b.items asks.note)
+FitHeldRows unit held (pending.Answered before asks hears) = IfSome held.asks (λ b. AreBytesOf unit b.items asks.note)
+FitHeldRows unit held (pending.Played before asks hears plays) = IfSome held.asks (λ b. AreBytesOf unit b.items asks.note)
+    × IfSome held.plays (λ b. AreBytesOf unit b.items plays.note)
+FitHeldRows unit held (pending.Over before asks hears plays row) = IfSome held.asks (λ b. AreBytesOf unit b.items asks.note)
+    × IfSome held.plays (λ b. AreBytesOf unit b.items plays.note)
+FitHeldRows unit held _ = Unit {0}
 
 -- all that was written is safe, unless the file failed
 abbrev pub IsSynced : Pending → (safe written : Option (List ℕ)) → Type 0

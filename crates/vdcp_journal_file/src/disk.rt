@@ -2,7 +2,7 @@
 ghost use Rattle.std.specs.Io.KnownBytes.{Appends, WriteAppends};
 ghost use Rattle.std.specs.Io.{WritesAtMost};
 ghost use Rattle.std.specs.Prelude.{◌≡◌, OnErr, OnOk};
-ghost use Rattle.vdcp_journal.specs.Rows.{AppendsBeginning};
+ghost use Rattle.vdcp_list.specs.Asrun.{AppendsBeginning};
 ghost use Rattle.vdcp_journal_file.specs.Disks.{Spills};
 
 use std::fs::OpenFile;

@@ -188,7 +188,7 @@ fn text_of<R: Clock + AllocGlobal>(
             Some(note) => Some(row_now(rt, note)),
             None => None,
         };
-        add_row(rt.alloc(), unit, row, &mut text)?;
+        add_row(rt.alloc(), unit, row, None, &mut text)?;
     }
     Ok(text)
 }

@@ -1,17 +1,18 @@
 //! The rows that are held back, and why rows aren't written.
-ghost use Rattle.std.specs.Option.{option_to_list};
+ghost use Rattle.std.specs.Option.{option_copied, option_to_list};
 ghost use Rattle.std.specs.Prelude.{◌≡◌, ◌≤◌, ◌++◌, Err, IfNone, IfOk, IfSome, OnOk, Some, false, true};
-ghost use Rattle.vdcp_journal.specs.Rows.{rows_text};
-ghost use Rattle.vdcp_journal_file.specs.Recording.{announces, ended, failure_of, is_announced, rows_left, says_nothing_new, seen_before, seen_last, seen_of, is_again, with_play};
+ghost use Rattle.vdcp_journal.specs.Rows.{AreBytesOf, rows_text};
+ghost use Rattle.vdcp_journal_file.specs.Recording.{FitHeldRows, announces, ended, failure_of, is_announced, rows_left, says_nothing_new, seen_before, seen_last, seen_of, is_again, with_play};
 ghost use Rattle.vdcp_journal_file.specs.declared.pending.Pending.TheVariants.{Failed};
 ghost use Rattle.vdcp_journal_file.specs.declared.pending.RecordFault.{RecordFault};
 
+use arrayvec::ArrayVec;
 use std::alloc::Global;
 use thiserror::Error;
 use vdcp_auto::Heard;
 use vdcp_journal::{Note, Row, write_row};
 use vdcp_text::Failure;
-use vdcp_words::{Command, Reply};
+use vdcp_words::{Command, LONGEST, Reply};
 
 // The bits of a state byte that say that the cue is done, and that a clip plays.
 pub(crate) const CUE_DONE: u8 = 0x80;
@@ -47,6 +48,15 @@ pub enum Pending {
     Failed(RecordFault),
 }
 
+/// The bytes of the commands whose rows are held back, or None: they are made for the row.
+#[derive(Drop)]
+pub struct HeldBytes {
+    /// Those of the command that asks for the state.
+    pub asks: Option<ArrayVec<u8, LONGEST>>,
+    /// Those of a PLAY.
+    pub plays: Option<ArrayVec<u8, LONGEST>>,
+}
+
 impl Pending {
     /// After the end of an exchange, which is noted in place of another one.
     pub(crate) fn ended(self, row: Row) -> Pending
@@ -70,29 +80,34 @@ impl Pending {
         self,
         alloc: Global,
         unit: u8,
+        held: &HeldBytes,
         text: &mut Vec<u8>,
     ) -> Result<(), RecordFault>
-        requires { unit ≤ 15 }
+        requires unit { unit ≤ 15 }
+        requires held { FitHeldRows unit held.now self }
         ensures added { OnOk result (text.new.items ≡ text.old.items ++ rows_text unit (rows_left self)) }
         ensures refused { (fault : RecordFault) → self ≡ Failed fault → result ≡ Err fault }
     {
         match self {
             Pending::Nothing => Ok(()),
-            Pending::End(row) | Pending::Asked(_, row) => add_row(alloc, unit, Some(row), text),
+            Pending::End(row) => add_row(alloc, unit, Some(row), None, text),
+            Pending::Asked(_, asks) => {
+                add_row(alloc, unit, Some(asks), held.asks.as_ref(), text)
+            }
             Pending::Answered(_, asks, hears) => {
-                add_row(alloc, unit, Some(asks), text)?;
-                add_row(alloc, unit, Some(hears), text)
+                add_row(alloc, unit, Some(asks), held.asks.as_ref(), text)?;
+                add_row(alloc, unit, Some(hears), None, text)
             }
             Pending::Played(_, asks, hears, plays) => {
-                add_row(alloc, unit, Some(asks), text)?;
-                add_row(alloc, unit, Some(hears), text)?;
-                add_row(alloc, unit, Some(plays), text)
+                add_row(alloc, unit, Some(asks), held.asks.as_ref(), text)?;
+                add_row(alloc, unit, Some(hears), None, text)?;
+                add_row(alloc, unit, Some(plays), held.plays.as_ref(), text)
             }
             Pending::Over(_, asks, hears, plays, row) => {
-                add_row(alloc, unit, Some(asks), text)?;
-                add_row(alloc, unit, Some(hears), text)?;
-                add_row(alloc, unit, Some(plays), text)?;
-                add_row(alloc, unit, Some(row), text)
+                add_row(alloc, unit, Some(asks), held.asks.as_ref(), text)?;
+                add_row(alloc, unit, Some(hears), None, text)?;
+                add_row(alloc, unit, Some(plays), held.plays.as_ref(), text)?;
+                add_row(alloc, unit, Some(row), None, text)
             }
             Pending::Failed(fault) => Err(fault),
         }
@@ -187,20 +202,22 @@ fn seen_of(asks: Note, hears: Note) -> Option<Seen>
     }
 }
 
-/// Adds a row's text, if there is a row.
+/// Adds a row's text, if there is a row. `bytes` are those of its command; if they are None, they are made here.
 pub(crate) fn add_row(
     alloc: Global,
     unit: u8,
     row: Option<Row>,
+    bytes: Option<&ArrayVec<u8, LONGEST>>,
     text: &mut Vec<u8>,
 ) -> Result<(), RecordFault>
-    requires { unit ≤ 15 }
+    requires unit { unit ≤ 15 }
+    requires spelled { IfSome row (λ r. IfSome (option_copied bytes) (λ b. AreBytesOf unit b.items r.note)) }
     ensures { OnOk result (text.new.items ≡ text.old.items ++ rows_text unit (option_to_list row)) }
 {
     let Some(row) = row else {
         return Ok(());
     };
-    match write_row(alloc, unit, &row, text) {
+    match write_row(alloc, unit, &row, bytes, text) {
         Ok(()) => Ok(()),
         Err(_) => Err(RecordFault::Memory),
     }

@@ -1,20 +1,22 @@
 //! The recorder of a run, which writes the rows.
 ghost use Rattle.std.specs.Io.KnownBytes.{Appends};
-ghost use Rattle.std.specs.Option.{option_to_list};
-ghost use Rattle.std.specs.Prelude.{◌≡◌, ◌≢◌, ◌≤◌, ◌∷◌, [], ◌++◌, Err, IfErr, IfOk, IsFalse, IsTrue, OnErr, OnOk, false, true};
-ghost use Rattle.vdcp_journal.specs.Rows.{AppendsBeginning, fields_text, heading_fields, rows_text};
+ghost use Rattle.std.specs.Option.{option_copied, option_to_list};
+ghost use Rattle.std.specs.Prelude.{◌≡◌, ◌≢◌, ◌≤◌, ◌∷◌, [], ◌++◌, Err, IfErr, IfOk, IfSome, IsFalse, IsTrue, OnErr, OnOk, false, true};
+ghost use Rattle.vdcp_list.specs.Asrun.{AppendsBeginning};
+ghost use Rattle.vdcp_journal.specs.Rows.{AreBytesOf, fields_text, heading_fields, rows_text};
 ghost use Rattle.vdcp_journal.specs.declared.moment.Moment.{Moment};
 ghost use Rattle.vdcp_auto.specs.Plan.{plan_of};
 ghost use Rattle.vdcp_drive.specs.Auto.{auto_of};
 ghost use Rattle.vdcp_drive.specs.Leaves.{RunLeaves};
 ghost use Rattle.vdcp_journal.specs.Thinned.{asks_state};
 ghost use Rattle.vdcp_journal_file.specs.Recorded.{IsNoAct, IsRecorded, KeepsRow, Loses, LosesRow, MayHold, Notes, call_note};
-ghost use Rattle.vdcp_journal_file.specs.Recording.{Adds, AddsBeginning, IsSynced, IsUnwritten, MakesBeginning, MakesSafe, NotesFrom, Recording, after_row, end_note, ended, is_announced, outcome_rows, rows_due, rows_left, with_play};
+ghost use Rattle.vdcp_journal_file.specs.Recording.{Adds, AddsBeginning, FitHeldRows, IsSynced, IsUnwritten, MakesBeginning, MakesSafe, NotesFrom, Recording, after_row, end_note, ended, is_announced, outcome_rows, rows_due, rows_left, with_play};
 ghost use Rattle.vdcp_journal_file.specs.declared.pending.Pending.TheVariants.{Failed, Nothing};
 ghost use Rattle.vdcp_journal_file.specs.declared.pending.RecordFault.{RecordFault};
 
 use crate::disk::{Disk, append_safely};
-use crate::pending::{Pending, RecordFault, add_row};
+use crate::pending::{HeldBytes, Pending, RecordFault, add_row};
+use arrayvec::ArrayVec;
 use std::alloc::Global;
 use std::marker::Model;
 use std::rt::Clock;
@@ -22,7 +24,7 @@ use vdcp_auto::{Heard, Outcome, Source};
 use vdcp_drive::{Call, Driver, Ear, Keep, KeepFault, KeptFault, Pace, Ran, Watch, Wire, laws};
 use vdcp_journal::{Heading, Moment, Note, Row, write_heading};
 use vdcp_text::Failure;
-use vdcp_words::Command;
+use vdcp_words::{Command, LONGEST};
 
 /// Writes a journal's rows, that of each command before it goes out.
 ///
@@ -39,19 +41,20 @@ pub struct Recorder<'a, 'r, R, F: Disk> {
     unit: u8,
     file: F,
     pending: Pending,
+    held: HeldBytes,
 }
 
 impl<'a, 'r, R, F: Disk> Model for Recorder<'a, 'r, R, F> {
     ghost use Rattle.std.specs.Prelude.{◌≤◌};
     ghost use Rattle.vdcp_journal_file.specs.Recorded.{MayHold};
-    ghost use Rattle.vdcp_journal_file.specs.Recording.{IsSynced, Recording};
+    ghost use Rattle.vdcp_journal_file.specs.Recording.{FitHeldRows, IsSynced, Recording};
 
     ghost Value = { Recording F };
 
     ghost view = { λ r. record { name = r.name; unit = r.unit; file = r.file; pending = r.pending } };
 
     ghost invariant = { λ r. (r.unit ≤ 15) × MayHold r.pending
-        × IsSynced r.pending (F.safe r.file) (F.written r.file) };
+        × IsSynced r.pending (F.safe r.file) (F.written r.file) × FitHeldRows r.unit r.held r.pending };
 }
 
 impl<'a, 'r, R: Clock + AllocGlobal, F: Disk + Drop> Recorder<'a, 'r, R, F> {
@@ -94,6 +97,10 @@ impl<'a, 'r, R: Clock + AllocGlobal, F: Disk + Drop> Recorder<'a, 'r, R, F> {
             unit,
             file,
             pending,
+            held: HeldBytes {
+                asks: None,
+                plays: None,
+            },
         }
     }
 
@@ -104,9 +111,11 @@ impl<'a, 'r, R: Clock + AllocGlobal, F: Disk + Drop> Recorder<'a, 'r, R, F> {
         self.name
     }
 
-    /// Makes safe what is due before a command goes out, or a call is given: all that is pending but what says nothing
-    /// new, and its own row, which is held back where it asks for the state. A PLAY that is announced waits for nothing.
-    pub fn keep(&mut self, note: Note) -> Result<(), RecordFault>
+    // Makes safe what is due before a command goes out, or a call is given: all that is pending but what says nothing
+    // new, and its own row, which is held back where it asks for the state. A PLAY that is announced waits for nothing.
+    // `bytes` are those of the command; if they are None, they are made for its row.
+    fn keep(&mut self, note: Note, bytes: Option<ArrayVec<u8, LONGEST>>) -> Result<(), RecordFault>
+        requires { IfSome bytes (λ b. AreBytesOf self.old.unit b.items note) }
         ensures kept { OnOk result (KeepsRow F.safe note self.old self.new) }
         ensures torn { OnErr result (LosesRow F.safe note self.old self.new) }
         ensures failed { IfErr result (λ fault. self.new ≡ record self.old
@@ -116,18 +125,20 @@ impl<'a, 'r, R: Clock + AllocGlobal, F: Disk + Drop> Recorder<'a, 'r, R, F> {
     {
         let row = row_now(self.rt, note);
         if asks_state(&row.note) {
-            return self.hold(row);
+            return self.hold(row, bytes);
         }
-        if let Some(held) = self.pending.with_play(row) {
-            self.pending = held;
+        if let Some(pending) = self.pending.with_play(row) {
+            self.pending = pending;
+            self.held.plays = bytes;
             return Ok(());
         }
-        self.write(Some(row))
+        self.write(Some(row), bytes.as_ref())
     }
 
     // Holds back the row of a command that asks for the state, and makes what is pending safe unless it says nothing new.
-    fn hold(&mut self, row: Row) -> Result<(), RecordFault>
-        requires { IsTrue (asks_state row.note) }
+    fn hold(&mut self, row: Row, bytes: Option<ArrayVec<u8, LONGEST>>) -> Result<(), RecordFault>
+        requires asks { IsTrue (asks_state row.note) }
+        requires spelled { IfSome bytes (λ b. AreBytesOf self.old.unit b.items row.note) }
         ensures kept { OnOk result (MakesSafe F.safe self.old self.new (rows_due self.old.pending row)
             × (self.new ≡ record self.old { file = self.new.file; pending = after_row self.old.pending row })) }
         ensures torn { OnErr result (MakesBeginning F.safe self.old self.new (rows_due self.old.pending row)) }
@@ -138,14 +149,15 @@ impl<'a, 'r, R: Clock + AllocGlobal, F: Disk + Drop> Recorder<'a, 'r, R, F> {
     {
         let last = self.pending.seen_last();
         if !self.pending.says_nothing_new(row.note) {
-            self.write(None)?;
+            self.write(None, None)?;
         }
         self.pending = Pending::Asked(last, row);
+        self.held.asks = bytes;
         Ok(())
     }
 
-    /// Notes what ended an exchange, in place of what was pending.
-    pub fn note(&mut self, heard: Option<Heard>)
+    // Notes what ended an exchange, in place of what was pending.
+    fn note(&mut self, heard: Option<Heard>)
         ensures { (time : Moment) × (self.new ≡ record self.old
             { pending = ended self.old.pending (record { time = time; note = end_note heard }) }) }
     {
@@ -188,7 +200,7 @@ impl<'a, 'r, R: Clock + AllocGlobal, F: Disk + Drop> Recorder<'a, 'r, R, F> {
         ensures failure { IfErr result (IsUnwritten self.old.name) }
     {
         let time = now(self.rt);
-        if let Err(fault) = self.write(outcome_row(time, outcome)) {
+        if let Err(fault) = self.write(outcome_row(time, outcome), None) {
             return Err(fault.failure(self.name));
         }
         Ok(())
@@ -196,7 +208,7 @@ impl<'a, 'r, R: Clock + AllocGlobal, F: Disk + Drop> Recorder<'a, 'r, R, F> {
 
     /// Runs an automation, and keeps each of its commands before it goes out. At each moment the rows that are safe have
     /// every command of which a byte went out, but for those that ask for the state, and a PLAY that they announce.
-    pub fn run<S: Source, E: Ear, W: Wire, V: Watch<S>, P: Pace<S>>(
+    pub fn run<S: Source, E: Ear, W: Wire, V: Watch<S>, P: Pace>(
         &mut self,
         driver: &mut Driver<S, E, W>,
         listens: u64,
@@ -215,8 +227,13 @@ impl<'a, 'r, R: Clock + AllocGlobal, F: Disk + Drop> Recorder<'a, 'r, R, F> {
         driver.run_with(listens, watch, self, pace)
     }
 
-    // Writes what is pending, and then a row, if there is one.
-    fn write(&mut self, last: Option<Row>) -> Result<(), RecordFault>
+    // Writes what is pending, and then a row, if there is one. `bytes` are those of its command.
+    fn write(
+        &mut self,
+        last: Option<Row>,
+        bytes: Option<&ArrayVec<u8, LONGEST>>,
+    ) -> Result<(), RecordFault>
+        requires { IfSome last (λ row. IfSome (option_copied bytes) (λ b. AreBytesOf self.old.unit b.items row.note)) }
         ensures written { OnOk result (Adds F.safe self.old self.new (option_to_list last)) }
         ensures rest { OnOk result (self.new ≡ record self.old { file = self.new.file; pending = Nothing }) }
         ensures torn { OnErr result (AddsBeginning F.safe self.old self.new (option_to_list last)) }
@@ -229,7 +246,9 @@ impl<'a, 'r, R: Clock + AllocGlobal, F: Disk + Drop> Recorder<'a, 'r, R, F> {
             self.rt.alloc(),
             self.unit,
             self.pending,
+            &self.held,
             last,
+            bytes,
             &mut self.file,
         ) {
             Ok(()) => {
@@ -255,8 +274,14 @@ impl<R: Clock + AllocGlobal, F: Disk + Drop> Keep for Recorder<'_, '_, R, F> {
 
     ghost misses = { λ call. LosesRow F.safe (call_note call) };
 
-    fn keep_sent(&mut self, command: &Command) -> Result<(), KeepFault> {
-        match self.keep(Note::Sent(*command)) {
+    fn keep_sent(&mut self, unit: u8, command: &Command, bytes: &[u8]) -> Result<(), KeepFault> {
+        // (the row has the bytes to the journal's own unit)
+        let bytes = if unit == self.unit {
+            ArrayVec::try_from(bytes).ok()
+        } else {
+            None
+        };
+        match self.keep(Note::Sent(*command), bytes) {
             Ok(()) => Ok(()),
             Err(_) => Err(KeepFault),
         }
@@ -267,7 +292,7 @@ impl<R: Clock + AllocGlobal, F: Disk + Drop> Keep for Recorder<'_, '_, R, F> {
     }
 
     fn keep_call(&mut self, call: Call) -> Result<(), KeepFault> {
-        match self.keep(note_of_call(call)) {
+        match self.keep(note_of_call(call), None) {
             Ok(()) => Ok(()),
             Err(_) => Err(KeepFault),
         }
@@ -377,10 +402,14 @@ fn write_rows<F: Disk>(
     alloc: Global,
     unit: u8,
     left: Pending,
+    held: &HeldBytes,
     last: Option<Row>,
+    bytes: Option<&ArrayVec<u8, LONGEST>>,
     file: &mut F,
 ) -> Result<(), RecordFault>
     requires unit { unit ≤ 15 }
+    requires held { FitHeldRows unit held.now left }
+    requires spelled { IfSome last (λ row. IfSome (option_copied bytes) (λ b. AreBytesOf unit b.items row.note)) }
     requires synced { IsSynced left (F.safe file.old) (F.written file.old) }
     ensures all { OnOk result (Appends (F.safe file.old) (F.safe file.new)
         (rows_text unit (rows_left left ++ option_to_list last))) }
@@ -390,8 +419,8 @@ fn write_rows<F: Disk>(
     ensures refused { (fault : RecordFault) → left ≡ Failed fault → (result ≡ Err fault) × (file.new ≡ file.old) }
 {
     let mut text = Vec::new(alloc);
-    left.add_to(alloc, unit, &mut text)?;
-    add_row(alloc, unit, last, &mut text)?;
+    left.add_to(alloc, unit, held, &mut text)?;
+    add_row(alloc, unit, last, bytes, &mut text)?;
     if text.is_empty() {
         return Ok(());
     }

@@ -1,4 +1,4 @@
-//! What is written of a run, what its rows bring about, and failing writers.
+//! What is written of a run, and what its rows bring about.
 
 ghost use Rattle.std.specs.Prelude.{◌≤◌};
 
@@ -6,11 +6,10 @@ use std::alloc::Global;
 use std::process::Abort;
 use vdcp_auto::{Heard, Mode, Outcome, Source};
 use vdcp_journal::{
-    Airing, AiringsSoFar, Heading, JournalWriteFault, Moment, Note, ResumeFault, Resumed, Row,
-    RunSoFar, begins_at, write_heading, write_row,
+    Airing, AiringsSoFar, Heading, Moment, Note, ResumeFault, Resumed, Row, RunSoFar, begins_at,
+    write_heading, write_row,
 };
 use vdcp_list::{List, Rest, read_list, write_timed_events, write_timed_heading};
-use vdcp_testing::{FailingWriter, Fails};
 use vdcp_value::{ClipId, Rate};
 use vdcp_words::{Command, Reply};
 
@@ -85,7 +84,7 @@ fn expect_written(rt: &impl Abort, alloc: Global, note: &TableNote, text: &str) 
         note: note.note(),
     };
     let mut written = Vec::new(alloc);
-    let wrote = write_row(alloc, 0, &row, &mut written);
+    let wrote = write_row(alloc, 0, &row, None, &mut written);
     let wanted = format!(in alloc; "2026-11-24T09:30:00.125Z,{text}\n").expect(rt, "memory");
     assert_eq!(rt;
         (wrote, written.as_slice()),
@@ -147,40 +146,6 @@ fn a_heading_names_what_is_played(rt: HostRuntime) {
     assert_eq!(rt;
         (wrote_plain, wrote_confirming, written.as_slice()),
         (Ok(()), Ok(()), wanted.as_bytes())
-    );
-}
-
-// Writes a row in pieces of five bytes, if the calls of the writer fail from this one on.
-fn write_until(
-    rt: &(impl Abort + AllocGlobal),
-    call: usize,
-) -> (FailingWriter, Result<(), JournalWriteFault>) {
-    let row = Row {
-        time: time(rt),
-        note: Note::Silence,
-    };
-    let mut writer = FailingWriter::new(rt.alloc(), Fails::From(call));
-    writer.piece = 5;
-    let wrote = write_row(rt.alloc(), 0, &row, &mut writer);
-    (writer, wrote)
-}
-
-#[test]
-fn a_failing_writer_gets_a_beginning_of_the_row(rt: HostRuntime) {
-    let text = b"2026-11-24T09:30:00.125Z,silence,,\n".as_slice();
-    for call in 0..8 {
-        let (writer, wrote) = write_until(&rt, call);
-        let begins = text.starts_with(writer.bytes.as_slice());
-        assert_eq!(rt;
-            (wrote, begins),
-            (Err(JournalWriteFault::Device), true),
-            "call {call}"
-        );
-    }
-    let (writer, wrote) = write_until(&rt, 8);
-    assert_eq!(rt;
-        (wrote, writer.bytes.as_slice(), writer.flushes),
-        (Ok(()), text, 1)
     );
 }
 

@@ -1,7 +1,6 @@
 //! How soon the state is asked again.
 use std::rt::Clock;
 use std::time::{Duration, Instant};
-use vdcp_auto::{Controller, Source};
 use vdcp_drive::Pace;
 use vdcp_words::Command;
 
@@ -24,12 +23,12 @@ impl<'a, R: Clock> Polling<'a, R> {
     }
 }
 
-impl<R: Clock, S: Source> Pace<S> for Polling<'_, R> {
+impl<R: Clock> Pace for Polling<'_, R> {
     // (if the clock can't be read there is no wait)
-    fn wait(&mut self, controller: &Controller<S>) {
-        let Some(Command::Status(_)) = controller.to_send() else {
+    fn wait(&mut self, command: &Command) {
+        if !matches!(command, Command::Status(_)) {
             return;
-        };
+        }
         if let (Some(last), Ok(now)) = (self.last, Instant::now(self.clock)) {
             self.clock
                 .sleep(self.least.saturating_sub(now.duration_since(last)));

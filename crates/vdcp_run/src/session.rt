@@ -278,7 +278,7 @@ fn play_by<
     S: Source + Copy,
     E: Ear + Drop,
     W: Wire + Drop,
-    P: Pace<Rest<S>> + Drop,
+    P: Pace + Drop,
     V: Watch<Rest<S>>,
     F: Disk + Drop,
     I: io::Read + Drop,
@@ -299,45 +299,17 @@ fn play_by<
     ensures end { EndsRun settings.entry (journal_of recorder.old) S.items driver.controller result }
 {
     if settings.operated {
-        play_operated(rt, &mut driver, watcher, recorder, settings, hand)
-    } else {
-        play_driven(rt, &mut driver, &mut pace, watcher, recorder, settings)
+        return play_operated(rt, &mut driver, watcher, recorder, settings, hand);
     }
-}
-
-// Runs an automation, and ends its journal.
-fn play_driven<
-    'a,
-    R: Files + Clock + AllocGlobal,
-    S: Source,
-    E: Ear,
-    W: Wire,
-    P: Pace<Rest<S>>,
-    V: Watch<Rest<S>>,
-    F: Disk + Drop,
->(
-    rt: &R,
-    driver: &mut Driver<Rest<S>, E, W>,
-    pace: &mut P,
-    watcher: &mut V,
-    recorder: &mut Option<Recorder<'a, '_, R, F>>,
-    settings: RunSettings<'a>,
-) -> RunEnd<'a>
-    requires works { W.failures driver.old.wire ≡ 0 }
-    ensures plays { Plays false W.does F.safe V.sees E.fold driver.old.ear driver.old.unit settings.entry.listens
-        (start_of S.items driver.old.controller)
-        (record { wire = driver.old.wire; keep = recorder.old; watch = watcher.old }) watcher.new result }
-    ensures end { EndsRun settings.entry (journal_of recorder.old) S.items driver.old.controller result }
-{
     let listens = u64::from(settings.listens);
     match recorder {
         None => {
-            let ran = driver.run_with(listens, watcher, &mut Unkept, pace);
+            let ran = driver.run_with(listens, watcher, &mut Unkept, &mut pace);
             ended(rt, driver.controller(), LineEnd::of_run(ran), settings)
         }
         Some(recorder) => {
             let name = recorder.name();
-            let line = LineEnd::of_run(recorder.run(driver, listens, watcher, pace));
+            let line = LineEnd::of_run(recorder.run(&mut driver, listens, watcher, &mut pace));
             let unkept = close(name, recorder, driver.controller().outcome(), line);
             RunEnd {
                 unkept,
@@ -347,7 +319,7 @@ fn play_driven<
     }
 }
 
-// As `play_driven`, where an operator has a hand, which shows the end too.
+// Runs an automation with an operator's hand, which shows the end too, and ends its journal.
 fn play_operated<
     'a,
     R: Files + Clock + AllocGlobal,

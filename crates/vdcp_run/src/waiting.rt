@@ -56,7 +56,7 @@ pub fn await_clip<R: Net + Clock + AllocGlobal, S: Source>(
 }
 
 // Runs an automation that sends nothing but what asks for the state.
-fn ask_by<S: Source + Copy, E: Ear + Drop, W: Wire + Drop, P: Pace<S> + Drop>(
+fn ask_by<S: Source + Copy, E: Ear + Drop, W: Wire + Drop, P: Pace + Drop>(
     mut driver: Driver<S, E, W>,
     mut pace: P,
     listens: u32,
@@ -69,7 +69,7 @@ fn ask_by<S: Source + Copy, E: Ear + Drop, W: Wire + Drop, P: Pace<S> + Drop>(
 struct OnlyAsks;
 
 impl Keep for OnlyAsks {
-    fn keep_sent(&mut self, command: &Command) -> Result<(), KeepFault> {
+    fn keep_sent(&mut self, _unit: u8, command: &Command, _bytes: &[u8]) -> Result<(), KeepFault> {
         match command {
             Command::Status(_) => Ok(()),
             _ => Err(KeepFault),

@@ -18,7 +18,7 @@ struct Diary {
 }
 
 impl Keep for Diary {
-    fn keep_sent(&mut self, command: &Command) -> Result<(), KeepFault> {
+    fn keep_sent(&mut self, _unit: u8, command: &Command, _bytes: &[u8]) -> Result<(), KeepFault> {
         if self.room == 0 {
             return Err(KeepFault);
         }

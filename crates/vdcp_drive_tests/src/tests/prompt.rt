@@ -417,7 +417,7 @@ struct Tally {
 }
 
 impl Keep for Tally {
-    fn keep_sent(&mut self, _command: &Command) -> Result<(), KeepFault> {
+    fn keep_sent(&mut self, _unit: u8, _command: &Command, _bytes: &[u8]) -> Result<(), KeepFault> {
         self.commands = self.commands.saturating_add(1);
         Ok(())
     }

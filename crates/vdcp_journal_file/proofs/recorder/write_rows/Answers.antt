@@ -1,6 +1,6 @@
 use Rattle.std.proofs.Common.{◌≡◌, arith, rules, subst}
 use Rattle.std.proofs.lemmas.Grind.{common_steps}
-use Rattle.vdcp_journal.specs.Rows.{AppendsBeginning}
+use Rattle.vdcp_list.specs.Asrun.{AppendsBeginning}
 use Rattle.vdcp_journal_file.proofs.recorder.write_rows.Goals as goal
 
 pub returns-clause-beginning : goal.returns-clause-beginning

@@ -2,9 +2,13 @@ use Rattle.std.proofs.Common.{◌≡◌, ap, false, refl, subst, sym, true}
 use Rattle.std.proofs.lemmas.Result.{on_ok_weaker}
 use Rattle.vdcp_journal_file.proofs.Chains.{announced_may_hold, keeps_row, loses_row, on_err_both, play_kept, write_kept, write_lost}
 use Rattle.vdcp_journal_file.proofs.Disking.{synced_with_play}
+use Rattle.vdcp_journal_file.proofs.Held.{held_with_play}
+use Rattle.std.specs.Prelude.{IfSome}
+use Rattle.vdcp_journal.specs.Rows.{AreBytesOf}
+use Rattle.vdcp_journal.specs.declared.row.Note.{Note}
 use Rattle.vdcp_journal_file.proofs.recorder.Recorder.keep.Goals as goal
 use Rattle.vdcp_journal_file.specs.Recorded.{MayHold}
-use Rattle.vdcp_journal_file.specs.Recording.{IsSynced, Recording, is_announced, with_play}
+use Rattle.vdcp_journal_file.specs.Recording.{FitHeldRows, IsSynced, Recording, is_announced, with_play}
 use Rattle.vdcp_journal_file.specs.declared.pending.Pending.{Pending}
 
 pub returns-then-asks_state-clause-kept : goal.returns-then-asks_state-clause-kept
@@ -27,6 +31,11 @@ invariant_of-self g c =
           (sym c.in-Some.ensures.held.0)
           (synced_with_play before.pending c.row_now-row.result (g.F.Disk.safe before.file) (g.F.Disk.written before.file)
           c.in-Some.ensures.held.1 c.self.invariant.2),
+      subst (FitHeldRows before.unit (record before.held { plays = c.args.bytes })) (sym c.in-Some.ensures.held.0)
+          (held_with_play before.unit before.held c.args.bytes before.pending c.row_now-row.result c.in-Some.ensures.held.1
+          (subst (λ (n : Note). IfSome c.args.bytes (λ b. AreBytesOf before.unit b.items n)) (sym c.row_now-row.ensures)
+          (subst (λ (r : Recording _). IfSome c.args.bytes (λ b. AreBytesOf r.unit b.items c.args.note)) (sym c.self.view_is) c.requires))
+          c.self.invariant.3),
     )
 
 pub returns-in-Some-clause-kept : goal.returns-in-Some-clause-kept
@@ -34,7 +43,7 @@ returns-in-Some-clause-kept g c =
     let held = c.in-Some.ensures.held in
     let row = c.row_now-row.result in
     let before = c.self.inside in
-    let new : Recording _ = record { name = before.name; unit = before.unit; file = before.file; pending = c.in-Some.held } in
+    let new : Recording _ = record { name = before.name; unit = before.unit; file = before.file; pending = c.in-Some.pending } in
     play_kept g.F.Disk.safe c.args.note row c.args.self.now new c.row_now-row.ensures
     (subst (λ (r : Recording _). is_announced r.pending row.note ≡ true) c.self.view_is held.1)
     (subst (λ (r : Recording _). new ≡ record r { pending = with_play r.pending row }) c.self.view_is

@@ -1,9 +1,10 @@
 use Rattle.std.proofs.Common.{subst, sym}
 use Rattle.vdcp_journal_file.specs.Recorded.{MayHold}
-use Rattle.vdcp_journal_file.specs.Recording.{IsSynced}
+use Rattle.vdcp_journal_file.specs.Recording.{FitHeldRows, IsSynced}
 use Rattle.vdcp_journal_file.specs.declared.pending.Pending.{Pending}
 use Rattle.vdcp_journal_file.proofs.Chains.{ended_may_hold}
 use Rattle.vdcp_journal_file.proofs.Disking.{synced_at_end}
+use Rattle.vdcp_journal_file.proofs.Held.{held_at_end}
 use Rattle.vdcp_journal_file.proofs.recorder.Recorder.note_row.Goals as goal
 
 pub invariant_of-self : goal.invariant_of-self
@@ -16,4 +17,6 @@ invariant_of-self g c =
           (sym c.ended-self-inside.ensures)
           (synced_at_end before.pending c.args.row (g.F.Disk.safe before.file) (g.F.Disk.written before.file)
           c.self.invariant.2),
+      subst (FitHeldRows before.unit before.held) (sym c.ended-self-inside.ensures)
+          (held_at_end before.unit before.held before.pending c.args.row c.self.invariant.3),
     )
