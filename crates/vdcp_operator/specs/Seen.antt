@@ -19,12 +19,12 @@ use Rattle.vdcp_port.specs.Clips.{length_of}
 use Rattle.vdcp_text.specs.Items.{item_text}
 use Rattle.vdcp_text.specs.Outcome.{outcome_text}
 use Rattle.vdcp_value.specs.Bcd.{frames_in, is_time}
+use Rattle.vdcp_value.specs.Clock.{millis_of}
 use Rattle.vdcp_value.specs.Timecodes.{frames_of, rate_of}
 use Rattle.vdcp_value.specs.declared.clip_id.ClipId.{ClipId}
 use Rattle.vdcp_value.specs.declared.part.Item.{Item}
 use Rattle.vdcp_value.specs.declared.part.Part.{Part}
 use Rattle.vdcp_value.specs.declared.rate.Rate.{Rate}
-use Rattle.vdcp_value.specs.declared.rate.Rate.TheVariants.{F24, F25, F30, D30}
 use Rattle.vdcp_value.specs.declared.timecode.Timecode.{Timecode}
 
 abbrev pub phase_text : Phase → List ℕ
@@ -51,14 +51,7 @@ abbrev pub number_data : Option ℕ → Data
 number_data None = null
 number_data (Some n) = number (unsigned n)
 
--- how long frames last, in milliseconds, if a second has 24, 25, 30 or 30000/1001 of them
-abbrev pub millis_of : Rate → ℕ → ℕ
-millis_of F24 n = n * 1000 / 24
-millis_of F25 n = n * 1000 / 25
-millis_of F30 n = n * 1000 / 30
-millis_of D30 n = n * 1001 / 30
-
--- the same of a clip of this length, or of a part of it
+-- how long a clip of this length lasts, or a part of it, in milliseconds
 abbrev pub length_if : Option Timecode → Option Part → Option ℕ
 length_if None part = None
 length_if (Some clip) None = Some (millis_of (rate_of clip) (frames_of clip))

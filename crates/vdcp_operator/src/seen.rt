@@ -3,7 +3,7 @@ ghost use Rattle.std.specs.Prelude.{◌≡◌, IfOk, map};
 ghost use Rattle.serde_json.specs.Data.{array, boolean, string};
 ghost use Rattle.serde_json.specs.View.{items_of, view};
 ghost use Rattle.vdcp_text.specs.Outcome.{outcome_text};
-ghost use Rattle.vdcp_operator.specs.Seen.{length_by, millis_of, number_data, row_data, seen_data, stage_text};
+ghost use Rattle.vdcp_operator.specs.Seen.{length_by, number_data, row_data, seen_data, stage_text};
 
 use serde_json::{Value, json};
 use std::alloc::{AllocError, Global};
@@ -175,18 +175,5 @@ fn length_by(clips: &Option<Table>, item: Item) -> Option<u64>
         None => clip,
         Some(part) => Timecode::from_bcd(clip.rate(), part.duration).ok()?,
     };
-    Some(millis_of(clip.rate(), length.frames()))
-}
-
-// How long frames last, in milliseconds.
-fn millis_of(rate: Rate, frames: u32) -> u64
-    ensures { result ≡ millis_of rate frames }
-{
-    let frames = u64::from(frames);
-    match rate {
-        Rate::F24 => frames * 1000 / 24,
-        Rate::F25 => frames * 1000 / 25,
-        Rate::F30 => frames * 1000 / 30,
-        Rate::D30 => frames * 1001 / 30,
-    }
+    Some(clip.rate().millis_of(length.frames()))
 }

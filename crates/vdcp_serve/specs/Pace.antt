@@ -2,8 +2,8 @@
 use Rattle.std.specs.Prelude.{ℕ, ◌≡◌, ◌≢◌, ◌≤◌, ◌+◌, ◌-◌, ◌*◌, ◌/◌, ◌++◌, Bool, true, false, List, [], take, nat_le}
 use Rattle.vdcp_frame.specs.Message.{Content, Spells}
 use Rattle.vdcp_serve.specs.Held.{IsAtFault}
+use Rattle.vdcp_value.specs.Clock.{frames_after}
 use Rattle.vdcp_value.specs.declared.rate.Rate.{Rate}
-use Rattle.vdcp_value.specs.declared.rate.Rate.TheVariants.{F24, F25, F30, D30}
 use Rattle.vdcp_wire.specs.Acts.{Act, sends, brings, drops, fails}
 use Rattle.vdcp_wire.specs.Wires.{Arrival, bytes, silence, close}
 use Rattle.vdcp_wire.specs.declared.wire.Came.{Came}
@@ -14,24 +14,17 @@ use Rattle.vdcp_serve.specs.declared.paced.Pace.{Pace}
 use Rattle.vdcp_serve.specs.declared.paced.Pace.TheVariants as pace
 use Rattle.vdcp_serve.specs.declared.paced.Paced.{Paced}
 
--- how many frames are over after this many nanoseconds, if a second has 24, 25, 30 or 30000/1001 of them
-abbrev pub frames_in : Rate → ℕ → ℕ
-frames_in F24 n = n * 24 / 1000000000
-frames_in F25 n = n * 25 / 1000000000
-frames_in F30 n = n * 30 / 1000000000
-frames_in D30 n = n * 30 / 1001000000
-
 -- one frame more passed, which was over
 abbrev pub HasPassed : Rate → ℕ → ℕ → ℕ → Type 0
-HasPassed rate now frames frames' = (frames' ≡ frames + 1) × (frames' ≤ frames_in rate now)
+HasPassed rate now frames frames' = (frames' ≡ frames + 1) × (frames' ≤ frames_after rate now)
 
 -- after a listen as many frames have passed as the time says, unless this one has let one of several pass; and each
 -- silence is a frame
 pub record CountsFrames (rate : Rate) (came : Came) (frames frames' now' : ℕ) : Type 0 where
   pub passes : came ≡ arrives.Silence → frames' ≡ frames + 1
   pub stays : came ≢ arrives.Silence → frames' ≡ frames
-  pub never_ahead : frames' ≤ frames_in rate now'
-  pub counted : came ≢ arrives.Silence → frames' ≡ frames_in rate now'
+  pub never_ahead : frames' ≤ frames_after rate now'
+  pub counted : came ≢ arrives.Silence → frames' ≡ frames_after rate now'
 
 -- whether nothing has come for as long as ends a burst
 abbrev pub is_silent : (time now heard : ℕ) → Bool

@@ -1,11 +1,11 @@
 //! Frames that pass by the clock, or at silences.
 ghost use Rattle.std.specs.Duration.{as_nanos};
 ghost use Rattle.std.specs.Prelude.{◌≡◌, ◌≢◌, ◌≤◌, ◌+◌, ◌*◌, ◌-◌, [], length, take, false, true, IfOk, OnErr, OnOk};
-ghost use Rattle.vdcp_value.specs.Labels.{frames_per_second};
+ghost use Rattle.vdcp_value.specs.Clock.{frames_after};
 ghost use Rattle.vdcp_wire.specs.Acts.{brings, fails};
 ghost use Rattle.vdcp_wire.specs.Wires.{arrival_of, FitsBuffer};
 ghost use Rattle.vdcp_serve.specs.Held.{most_held};
-ghost use Rattle.vdcp_serve.specs.Pace.{after_silence, frames_in, is_over, is_silent, taking, BringsBelow, CountsFrames, HandsOn, HasFetched, HasPassed, PacedBrings};
+ghost use Rattle.vdcp_serve.specs.Pace.{after_silence, is_over, is_silent, taking, BringsBelow, CountsFrames, HandsOn, HasFetched, HasPassed, PacedBrings};
 
 use crate::held::{Handed, Held};
 use crate::idling::Hears;
@@ -40,27 +40,13 @@ impl Pace {
     /// How long a frame is that passes while there is no line: by the clock the least time after which one is over.
     pub fn pause(self, silence: u32) -> Duration
         ensures silence { self ≡ Pace.Silences → as_nanos result ≡ silence * 1000000 }
-        ensures frame { (rate : Rate) → self ≡ Pace.Clock rate → (frames_in rate (as_nanos result) ≡ 1)
-            × (frames_in rate (as_nanos result - 1) ≡ 0) }
+        ensures frame { (rate : Rate) → self ≡ Pace.Clock rate → (frames_after rate (as_nanos result) ≡ 1)
+            × (frames_after rate (as_nanos result - 1) ≡ 0) }
     {
         match self {
             Pace::Silences => Duration::from_millis(u64::from(silence)),
-            Pace::Clock(Rate::F24) => Duration::from_nanos(41_666_667),
-            Pace::Clock(Rate::F25) => Duration::from_nanos(40_000_000),
-            Pace::Clock(Rate::F30) => Duration::from_nanos(33_333_334),
-            Pace::Clock(Rate::D30) => Duration::from_nanos(33_366_667),
+            Pace::Clock(rate) => Duration::from_nanos(rate.frame_nanos()),
         }
-    }
-}
-
-/// How many frames pass in a second at most.
-pub fn frames_in_second(rate: Rate) -> u64
-    ensures { result ≡ frames_per_second rate }
-{
-    match rate {
-        Rate::F24 => 24,
-        Rate::F25 => 25,
-        Rate::F30 | Rate::D30 => 30,
     }
 }
 
@@ -156,9 +142,9 @@ impl<'a, R: Clock, W: Wire> Paced<'a, R, W> {
         ensures burst { result ≡ true → self.new.burst ≡ after_silence self.old.burst
             (is_silent self.old.silence self.old.now self.old.heard) }
         ensures stays { result ≡ false → self.new ≡ self.old }
-        ensures none_over { result ≡ false → frames_in rate self.old.now ≤ self.old.frames }
+        ensures none_over { result ≡ false → frames_after rate self.old.now ≤ self.old.frames }
     {
-        if frames_in(rate, self.now) <= self.frames {
+        if rate.frames_after(self.now) <= self.frames {
             return false;
         }
         self.frames += 1;
@@ -211,7 +197,7 @@ impl<'a, R: Clock, W: Wire> Paced<'a, R, W> {
             self.old self.new) }
         ensures fails { OnErr result (W.does fails self.old.wire self.new.wire) }
         ensures counts { (rate : Rate) → self.old.pace ≡ Pace.Clock rate
-            → self.old.frames ≤ frames_in rate self.old.now →
+            → self.old.frames ≤ frames_after rate self.old.now →
             IfOk result (λ came. CountsFrames rate came self.old.frames self.new.frames self.new.now) }
     {
         let Pace::Clock(rate) = self.pace else {
@@ -269,19 +255,6 @@ impl<'a, R: Clock, W: Wire> Paced<'a, R, W> {
             Came::Silence => Ok(true),
             Came::Closed => Ok(false),
         }
-    }
-}
-
-// How many frames are over after this many nanoseconds.
-fn frames_in(rate: Rate, nanoseconds: u64) -> u128
-    ensures { result ≡ frames_in rate nanoseconds }
-{
-    let time = u128::from(nanoseconds);
-    match rate {
-        Rate::F24 => time * 24 / 1_000_000_000,
-        Rate::F25 => time * 25 / 1_000_000_000,
-        Rate::F30 => time * 30 / 1_000_000_000,
-        Rate::D30 => time * 30 / 1_001_000_000,
     }
 }
 

@@ -5,7 +5,6 @@ ghost use Rattle.serde_json.specs.View.{items_of, view};
 ghost use Rattle.vdcp_text.specs.Items.{item_text};
 ghost use Rattle.vdcp_serve.specs.Panel.{ShowsPort, access_text, airing_data, from_data, seen_data, slot_data};
 
-use crate::paced::frames_in_second;
 use crate::page::PAGE;
 use serde_json::{Value, json};
 use std::alloc::{AllocError, Global};
@@ -156,7 +155,7 @@ impl PortView<'_> {
             "from": from,
             "number": self.kept.number,
             "playing": playing,
-            "rate": frames_in_second(self.rate),
+            "rate": self.rate.frames_per_second(),
             "state": self.state,
             "unit": self.kept.unit
         })

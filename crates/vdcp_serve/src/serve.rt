@@ -13,7 +13,7 @@ ghost use Rattle.vdcp_text.specs.Failure.{failure_line};
 
 use crate::entrance::{Entrance, line_over};
 use crate::idling::{Hears, Idling};
-use crate::paced::{Pace, frames_in_second};
+use crate::paced::Pace;
 use crate::panel::PortPanel;
 use crate::stay::stay;
 use crate::watcher::Watcher;
@@ -195,7 +195,7 @@ fn idle_silences(settings: ServeSettings) -> Option<u64>
     let seconds = u64::from(settings.idle?);
     match settings.pace {
         Pace::Silences => Some((seconds * 1000).div_ceil(u64::from(settings.silence.max(1)))),
-        Pace::Clock(rate) => Some(seconds * frames_in_second(rate)),
+        Pace::Clock(rate) => Some(seconds * u64::from(rate.frames_per_second())),
     }
 }
 

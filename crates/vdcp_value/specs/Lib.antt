@@ -1,6 +1,7 @@
 -- The definitions, file by file.
 pub mod Bcd
 pub mod Bytes
+pub mod Clock
 pub mod Day
 pub mod IdText
 pub mod Ids

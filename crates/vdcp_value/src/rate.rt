@@ -1,5 +1,6 @@
 //! Frame rates.
-ghost use Rattle.std.specs.Prelude.{◌≡◌};
+ghost use Rattle.std.specs.Prelude.{◌≡◌, ◌-◌};
+ghost use Rattle.vdcp_value.specs.Clock.{frames_after, millis_of};
 ghost use Rattle.vdcp_value.specs.Day.{frames_of_day};
 ghost use Rattle.vdcp_value.specs.Labels.{frames_per_second};
 
@@ -18,8 +19,8 @@ pub enum Rate {
 }
 
 impl Rate {
-    /// A label's frames are below this.
-    pub(crate) fn frames_per_second(self) -> u32
+    /// A label's frames are below this. So many frames pass in a second at most.
+    pub fn frames_per_second(self) -> u32
         ensures { result ≡ frames_per_second self }
     {
         match self {
@@ -38,6 +39,45 @@ impl Rate {
             Rate::F25 => 2_160_000,
             Rate::F30 => 2_592_000,
             Rate::D30 => 2_589_408,
+        }
+    }
+
+    /// How many frames are over after this many nanoseconds.
+    pub fn frames_after(self, nanoseconds: u64) -> u128
+        ensures { result ≡ frames_after self nanoseconds }
+    {
+        let time = u128::from(nanoseconds);
+        match self {
+            Rate::F24 => time * 24 / 1_000_000_000,
+            Rate::F25 => time * 25 / 1_000_000_000,
+            Rate::F30 => time * 30 / 1_000_000_000,
+            Rate::D30 => time * 30 / 1_001_000_000,
+        }
+    }
+
+    /// The least number of nanoseconds after which a frame is over.
+    pub fn frame_nanos(self) -> u64
+        ensures over { frames_after self result ≡ 1 }
+        ensures least { frames_after self (result - 1) ≡ 0 }
+    {
+        match self {
+            Rate::F24 => 41_666_667,
+            Rate::F25 => 40_000_000,
+            Rate::F30 => 33_333_334,
+            Rate::D30 => 33_366_667,
+        }
+    }
+
+    /// How long frames last, in whole milliseconds.
+    pub fn millis_of(self, frames: u32) -> u64
+        ensures { result ≡ millis_of self frames }
+    {
+        let frames = u64::from(frames);
+        match self {
+            Rate::F24 => frames * 1000 / 24,
+            Rate::F25 => frames * 1000 / 25,
+            Rate::F30 => frames * 1000 / 30,
+            Rate::D30 => frames * 1001 / 30,
         }
     }
 }
