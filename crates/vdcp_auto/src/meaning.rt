@@ -9,14 +9,8 @@ ghost use Rattle.vdcp_auto.specs.Turn as turn;
 use crate::exchange::{Exchange, Heard};
 use crate::phase::Mode;
 use vdcp_value::Item;
+use vdcp_words::state::{CUE_DONE, CUEING, PLAYING};
 use vdcp_words::{Command, Reply};
-
-/// The bit of a state byte that says that something is being cued.
-const CUEING: u8 = 0x02;
-/// The bit of a state byte that says that a clip plays.
-const PLAYING: u8 = 0x04;
-/// The bit of a state byte that says that the cue is done.
-const CUE_DONE: u8 = 0x80;
 
 pub fn is_receipt(reply: &Reply) -> bool
     ensures { result ≡ replies.is_receipt reply.now }

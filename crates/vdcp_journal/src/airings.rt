@@ -15,6 +15,7 @@ use std::alloc::{AllocError, Global};
 use vdcp_auto::laws::a_log_grows;
 use vdcp_auto::{Exchange, Heard, Judge, Mode, Source};
 use vdcp_list::Timed;
+use vdcp_words::state::{CUE_DONE, PLAYING};
 use vdcp_words::{Command, Reply};
 
 /// When an event aired.
@@ -240,11 +241,6 @@ fn announces_after(before: bool, note: &Note) -> bool
         Note::Silence | Note::Take | Note::Stop | Note::End(_) | Note::From(_) => false,
     }
 }
-
-// The bits of a state byte that say that the cue is done, and that a clip plays.
-const CUE_DONE: u8 = 0x80;
-
-const PLAYING: u8 = 0x04;
 
 /// Whether a state with the cue done is heard.
 fn hears_done(heard: &Heard) -> bool

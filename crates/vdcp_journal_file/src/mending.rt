@@ -4,7 +4,7 @@ ghost use Rattle.vdcp_journal_file.specs.Recording.{IsUnwritten};
 ghost use Rattle.vdcp_journal_file.specs.Resuming.{IsUnread, IsUnresumed};
 
 use crate::disk::append_safely;
-use crate::pending::{CUE_DONE, PLAYING, RecordFault, add_row};
+use crate::pending::{RecordFault, add_row};
 use crate::reading::{LastRun, Replayed, is_end};
 use crate::recorder::{heading_text, row_now};
 use crate::resume::{cut_to, replay_file, replay_front, whole_size};
@@ -15,6 +15,7 @@ use std::rt::Clock;
 use vdcp_auto::{Heard, Outcome, Phase, Source, Standing};
 use vdcp_journal::{Heading, Note};
 use vdcp_text::Failure;
+use vdcp_words::state::{CUE_DONE, PLAYING};
 use vdcp_words::{Command, Reply};
 
 /// Writes the first row if it was torn; nothing was sent then.

@@ -12,12 +12,8 @@ use thiserror::Error;
 use vdcp_auto::Heard;
 use vdcp_journal::{Note, Row, write_row};
 use vdcp_text::Failure;
+use vdcp_words::state::{CUE_DONE, PLAYING};
 use vdcp_words::{Command, LONGEST, Reply};
-
-// The bits of a state byte that say that the cue is done, and that a clip plays.
-pub(crate) const CUE_DONE: u8 = 0x80;
-
-pub(crate) const PLAYING: u8 = 0x04;
 
 /// A state that was asked for and heard.
 #[derive(Clone, Copy)]

@@ -16,6 +16,7 @@ use std::alloc::{AllocError, Global};
 use vdcp_port::Catalogue;
 use vdcp_text::Failure;
 use vdcp_wire::Wire;
+use vdcp_words::state::{CUE_DONE, PLAYING};
 
 /// How often the state is asked for until it is as awaited.
 const MOST_POLLS: u32 = 250;
@@ -137,8 +138,8 @@ fn is_reached(awaited: Awaited, state: u8) -> bool
     ensures { result ≡ is_reached awaited state }
 {
     match awaited {
-        Awaited::CueDone => state & 0x80 != 0,
-        Awaited::ClipEnded => state & 0x04 == 0,
+        Awaited::CueDone => state & CUE_DONE != 0,
+        Awaited::ClipEnded => state & PLAYING == 0,
     }
 }
 

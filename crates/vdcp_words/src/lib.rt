@@ -17,7 +17,7 @@
 //! Reading doesn't look at the unit that a message names: the caller compares it. Nothing here
 //! allocates.
 //!
-//! Files, in reading order: `command`, `reply`, `data`, `room`, `encoding`, `text`, `fault`, `laws`.
+//! Files, in reading order: `command`, `reply`, `data`, `room`, `encoding`, `text`, `state`, `fault`, `laws`.
 #![tactic(auto)]
 
 mod command;
@@ -27,6 +27,7 @@ mod fault;
 pub mod laws;
 mod reply;
 mod room;
+pub mod state;
 mod text;
 
 pub use command::Command;
