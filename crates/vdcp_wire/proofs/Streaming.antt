@@ -3,8 +3,8 @@ use Rattle.std.proofs.Common.{ℕ, ◌+◌, ◌-◌, List, [], ◌++◌, length,
 use Rattle.std.proofs.KnownBytes.{Appends-kept, Appends-trans, Consumes-nil, Consumes-trans, Consumes-kept}
 use Rattle.std.proofs.Math.Seq.{take-add}
 use Rattle.std.proofs.lemmas.List.{take_rest, take-append-drop}
-use Rattle.std.specs.Io.KnownBytes.{Appends, Keeps, ReadConsumes}
-use Rattle.std.specs.Prelude.{Option, Result, Ok, Err, OnErr}
+use Rattle.std.specs.Io.KnownBytes.{Appends, ReadConsumes, WriteAppends}
+use Rattle.std.specs.Prelude.{Option, Result, Ok, Err}
 use Rattle.vdcp_wire.specs.Acts.{OfFront}
 use Rattle.vdcp_wire.specs.Streams.{Takes}
 
@@ -28,10 +28,8 @@ pub front_of : (a b : Option (List ℕ)) (xs : List ℕ) (n : ℕ) → Appends a
 front_of a b xs n h =
     record { front = take n xs; rest = drop n xs; parts = sym (take-append-drop n xs); is_so = h }
 
-pub front_kept : (a b c : Option (List ℕ)) (xs : List ℕ) (n : ℕ) → Appends a b (take n xs) → Keeps b c
-    → OfFront xs (Appends a c)
-front_kept a b c xs n h k = front_of a c xs n (Appends-kept a b c (take n xs) h k)
-
-pub on_err_of : {T E P : Type 0} (r : Result T E) → P → OnErr r P
-on_err_of (Ok x) p = tt
-on_err_of (Err e) p = p
+-- a write that is the last
+pub wrote_front : {E : Type 0} (a b c : Option (List ℕ)) (xs : List ℕ) (at : ℕ) (wrote : Result ℕ E)
+    → Appends a b (take at xs) → WriteAppends b c wrote (take (length xs - at) (drop at xs)) → OfFront xs (Appends a c)
+wrote_front a b c xs at (Ok n) first next = front_of a c xs (at + n) (appends_more a b c xs at n first next)
+wrote_front a b c xs at (Err e) first next = front_of a c xs at (Appends-kept a b c (take at xs) first next)

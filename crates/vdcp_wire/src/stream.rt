@@ -85,28 +85,6 @@ impl<S: Duplex + Drop> StreamWire<S> {
         })
     }
 
-    // What comes next. After a close nothing is read.
-    fn receive(&mut self, buffer: &mut [u8; PIECE]) -> io::Result<Came>
-        requires { failures_of self.old.connection ≡ 0 }
-        ensures fits { IfOk result FitsBuffer }
-        ensures bytes { IfOk result (λ came. Consumes self.old.ahead self.new.ahead (take (brought came) buffer.new)) }
-        ensures kept { OnErr result (Keeps self.old.ahead self.new.ahead) }
-        ensures apart { Keeps self.old.written self.new.written }
-        ensures end { self.old.connection ≡ Connection.Open → result ≡ Ok Came.Closed → IsAtEnd self.new.ahead }
-        ensures next { IfOk result (λ came. self.new.connection ≡ connection_behind came self.old.connection) }
-        ensures closed { self.old.connection ≡ Connection.Closed → (result ≡ Ok Came.Closed) × (self.new ≡ self.old) }
-        ensures works { failures_of self.new.connection ≡ 0 }
-    {
-        if let Connection::Closed = self.connection {
-            return Ok(Came::Closed);
-        }
-        let came = came_of(self.stream.read_some(buffer))?;
-        if let Came::Closed = came {
-            self.connection = Connection::Closed;
-        }
-        Ok(came)
-    }
-
     // Drops what waits. After a close nothing is read.
     fn drop_reads(&mut self) -> io::Result<()>
         requires { failures_of self.old.connection ≡ 0 }
@@ -157,7 +135,7 @@ impl<S: Duplex + Drop> Wire for StreamWire<S> {
     {
         match write_all(&mut self.stream, bytes) {
             Ok(()) => Ok(()),
-            Err(_) => Err(self.fail()),
+            Err(WireFault) => Err(self.fail()),
         }
     }
 
@@ -172,10 +150,16 @@ impl<S: Duplex + Drop> Wire for StreamWire<S> {
         ensures closed { self.old.connection ≡ Connection.Closed → (result ≡ Ok Came.Closed) × (self.new ≡ self.old) }
         ensures failed { OnErr result (failures_of self.new.connection ≡ 1) }
     {
-        match self.receive(buffer) {
-            Ok(came) => Ok(came),
-            Err(_) => Err(self.fail()),
+        if let Connection::Closed = self.connection {
+            return Ok(Came::Closed);
         }
+        let Ok(came) = came_of(self.stream.read_some(buffer)) else {
+            return Err(self.fail());
+        };
+        if let Came::Closed = came {
+            self.connection = Connection::Closed;
+        }
+        Ok(came)
     }
 
     fn drop_waiting(&mut self) -> Result<(), WireFault>
@@ -198,7 +182,8 @@ impl<S: Duplex + Drop> Wire for StreamWire<S> {
 }
 
 // Writes all these bytes, or a beginning of them if it fails.
-fn write_all<S: Duplex>(stream: &mut S, bytes: &[u8]) -> io::Result<()>
+#[tactic(auto, using(crate::proofs::Streaming::wrote_front))]
+fn write_all<S: Duplex>(stream: &mut S, bytes: &[u8]) -> Result<(), WireFault>
     ensures all { OnOk result (Appends (S.written stream.old) (S.written stream.new) bytes.now) }
     ensures front { OnErr result (OfFront bytes.now (Appends (S.written stream.old) (S.written stream.new))) }
     ensures apart { Keeps (S.ahead stream.old) (S.ahead stream.new) }
@@ -208,25 +193,13 @@ fn write_all<S: Duplex>(stream: &mut S, bytes: &[u8]) -> io::Result<()>
         if at == bytes.len() {
             return Ok(());
         }
-        at += write_some(stream, &bytes[at..])?;
+        match stream.write_some(&bytes[at..]) {
+            Ok(n) if n > 0 => at += n,
+            Err(error) if error.kind() == ErrorKind::Interrupted => continue,
+            Ok(_) | Err(_) => return Err(WireFault),
+        }
     }
-    Err(io::Error::from(ErrorKind::TimedOut))
-}
-
-// Writes some of these bytes: none if that is interrupted.
-fn write_some<S: Duplex>(stream: &mut S, bytes: &[u8]) -> io::Result<usize>
-    ensures bound { WritesAtMost result bytes.now }
-    ensures bytes { WriteAppends (S.written stream.old) (S.written stream.new) result bytes.now }
-    ensures apart { Keeps (S.ahead stream.old) (S.ahead stream.new) }
-{
-    match stream.write_some(bytes) {
-        Ok(0) => Err(io::Error::from(ErrorKind::WriteZero)),
-        Ok(n) => Ok(n),
-        Err(error) => match error.kind() {
-            ErrorKind::Interrupted => Ok(0),
-            _ => Err(error),
-        },
-    }
+    Err(WireFault)
 }
 
 // Reads what waits on a connection that doesn't wait, and says whether the other end has closed.

@@ -1,18 +1,13 @@
 use Rattle.std.proofs.Common.{arith}
 use Rattle.std.proofs.KnownBytes.{Keeps-trans}
-use Rattle.vdcp_wire.proofs.Streaming.{appends_more, front_of, front_kept, on_err_of}
+use Rattle.vdcp_wire.proofs.Streaming.{appends_more, front_of}
 use Rattle.vdcp_wire.proofs.stream.write_all.Goals as goal
-
-pub returns-in_err-at-clause-front : goal.returns-in_err-at-clause-front
-returns-in_err-at-clause-front g c = on_err_of c.from_residual.result
-    (front_kept _ (g.S.Duplex.written c.writes.stream) _ c.args.bytes.now c.writes.at c.writes.invariant.appended
-    c.in_err-at.ensures.bytes)
 
 pub writes-preserved : goal.writes-preserved
 writes-preserved g c = record {
   within = search arith;
-  appended = appends_more _ (g.S.Duplex.written c.writes.stream) _ c.args.bytes.now c.writes.at
-      c.in_ok-at.field-0 c.writes.invariant.appended c.in_ok-at.ensures.bytes;
+  appended = appends_more _ (g.S.Duplex.written c.writes.stream) _ c.args.bytes.now c.writes.at c.in-Ok.n
+      c.writes.invariant.appended c.in-Ok.ensures.bytes;
   apart = Keeps-trans _ (g.S.Duplex.ahead c.writes.stream) _ c.writes.invariant.apart c.write_some.ensures.apart;
 }
 
