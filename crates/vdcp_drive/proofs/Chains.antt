@@ -1,13 +1,14 @@
 -- Steps one after another.
-use Rattle.std.proofs.Common.{ℕ, ◌≡◌, List, [], ◌∷◌, ◌++◌, map, refl, sym, ap, subst, append_assoc}
-use Rattle.std.proofs.lemmas.List.{map-append}
-use Rattle.std.specs.Prelude.{Option}
+use Rattle.std.proofs.Common.{ℕ, ◌≡◌, ◌+◌, ◌-◌, ◌∙◌, List, [], ◌∷◌, ◌++◌, length, take, drop, map, refl, sym, ap, subst, append_assoc}
+use Rattle.std.proofs.Math.Seq.{take-add}
+use Rattle.std.proofs.lemmas.List.{map-append, take_rest}
+use Rattle.std.specs.Prelude.{Option, Some}
 use Rattle.vdcp_auto.specs.Plan.{Plan}
 use Rattle.vdcp_auto.specs.State.{State}
 use Rattle.vdcp_auto.specs.Turn.{came_to}
 use Rattle.vdcp_auto.specs.declared.exchange.Heard.{Heard}
 use Rattle.vdcp_wire.specs.Acts.{Act}
-use Rattle.vdcp_drive.specs.Steps.{Chain}
+use Rattle.vdcp_drive.specs.Steps.{Chain, ended_notes}
 use Rattle.vdcp_drive.specs.Auto.{ended, receives}
 use Rattle.vdcp_drive.specs.Ears.{Fold, IsPiecewise}
 use Rattle.vdcp_drive.specs.Leaves.{HearsPiece}
@@ -61,14 +62,24 @@ hears_nothing fold adds plan unit laws s e k = record {
   noted = rw (laws.hears_none unit e) refl;
 }
 
+-- one message more
 pub hears_further : {E K : Type 0} (fold : Fold E) (adds : Kept → K → K → Type 0) (plan : Plan) (unit : ℕ)
-    (laws : IsPiecewise fold) (xs ys : List ℕ) (s₀ s₁ s₂ : State) (e₀ e₁ e₂ : E) (k₀ k₁ k₂ : K)
-    → HearsPiece fold adds plan unit xs s₀ e₀ k₀ s₁ e₁ k₁ → HearsPiece fold adds plan unit ys s₁ e₁ k₁ s₂ e₂ k₂
-    → HearsPiece fold adds plan unit (xs ++ ys) s₀ e₀ k₀ s₂ e₂ k₂
-hears_further fold adds plan unit laws xs ys s₀ s₁ s₂ e₀ e₁ e₂ k₀ k₁ k₂ first next = record {
-  state_is = rw (laws.hears_both unit xs ys e₀, map-append, receives_both)
-      (rw (first.ear_is, first.state_is) at next.state_is);
-  ear_is = rw (laws.takes_both unit xs ys e₀) (rw first.ear_is at next.ear_is);
-  noted = rw (laws.hears_both unit xs ys e₀, map-append, ended_both, map-append)
-      (chain_both adds _ _ k₀ k₁ k₂ first.noted (rw (first.ear_is, first.state_is) at next.noted));
-}
+    (laws : IsPiecewise fold) (xs : List ℕ) (at n : ℕ) (heard : List Heard) (s₀ s₁ s₂ : State) (e₀ e₁ e₂ : E) (k₀ k₁ k₂ : K)
+    → HearsPiece fold adds plan unit (take at xs) s₀ e₀ k₀ s₁ e₁ k₁
+    → heard ≡ fold.hears unit (take n (take (length xs - at) (drop at xs))) e₁
+    → e₂ ≡ fold.takes unit (take n (take (length xs - at) (drop at xs))) e₁ → s₂ ≡ receives plan (map Some heard) s₁
+    → Chain adds (ended_notes (ended plan (map Some heard) s₁)) k₁ k₂
+    → HearsPiece fold adds plan unit (take (at + n) xs) s₀ e₀ k₀ s₂ e₂ k₂
+hears_further fold adds plan unit laws xs at n heard s₀ s₁ s₂ e₀ e₁ e₂ k₀ k₁ k₂ first hears takes received noted =
+    let front : List ℕ = take at xs in
+    let more : List ℕ = take n (take (length xs - at) (drop at xs)) in
+    let both : front ++ more ≡ take (at + n) xs =
+    ap (λ (l : List ℕ). front ++ take n l) (take_rest xs at) ∙ sym (take-add at n xs) in
+    let whole : HearsPiece fold adds plan unit (front ++ more) s₀ e₀ k₀ s₂ e₂ k₂ = record {
+      state_is = rw (laws.hears_both unit front more e₀, map-append, receives_both)
+          (rw (hears, first.ear_is, first.state_is) at received);
+      ear_is = rw (laws.takes_both unit front more e₀) (rw first.ear_is at takes);
+      noted = rw (laws.hears_both unit front more e₀, map-append, ended_both, map-append)
+          (chain_both adds _ _ k₀ k₁ k₂ first.noted (rw (hears, first.ear_is, first.state_is) at noted));
+    } in
+    rw both at whole

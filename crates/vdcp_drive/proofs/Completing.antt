@@ -4,7 +4,7 @@ use Rattle.std.proofs.Common.{append_assoc, append-nil, length-append, arith}
 use Rattle.std.proofs.Math.Seq.{take-append_seam}
 use Rattle.std.proofs.lemmas.List.{length-take-le}
 use Rattle.std.proofs.lemmas.List.Elements.{All-append, All-take}
-use Rattle.std.specs.Prelude.{Option, Some, None}
+use Rattle.std.specs.Prelude.{Some, None}
 use Rattle.vdcp_frame.specs.Burst.{messages_of, end_of}
 use Rattle.vdcp_frame.specs.Head.{IsWrong}
 use Rattle.vdcp_frame.specs.Message.{Content, AreOctets, Spells}
@@ -17,7 +17,7 @@ use Rattle.vdcp_auto.specs.Heard.{heard_as}
 use Rattle.vdcp_auto.specs.declared.exchange.Heard.{Heard}
 use Rattle.vdcp_drive.specs.HearingLaws.{completed_both, held_both}
 use Rattle.vdcp_drive.specs.Below.{Below}
-use Rattle.vdcp_drive.specs.Reading.{Held, holds, skips, held_with, held_after, completed, IsReader, HasRead}
+use Rattle.vdcp_drive.specs.Reading.{Held, holds, skips, held_with, held_after, held_by, completed, IsReader, HasRead}
 
 -- Bytes that begin a message and are no whole one.
 
@@ -197,18 +197,14 @@ completes_nothing (x ∷ xs) = completes_nothing xs
 
 -- What is read, by what the reader gave for these bytes.
 
-pub read_none : (unit : ℕ) (reader reader' : Option Progress) (xs : List ℕ) → reader ≡ None → reader' ≡ None
-    → HasRead unit reader xs reader' None
-read_none unit reader reader' xs is then_is = subst (λ (r : Option Progress). HasRead unit r xs reader' None) (sym is)
-    (subst (λ (r : Option Progress). HasRead unit None xs r None) (sym then_is) (record {
-      hears = ap (map (heard_as unit)) (completes_nothing xs).0;
-      holds_then = sym (completes_nothing xs).1;
-    }))
+pub read_none : (unit : ℕ) (xs : List ℕ) → HasRead unit skips xs skips None
+read_none unit xs =
+    record { hears = ap (map (heard_as unit)) (completes_nothing xs).0; holds_then = sym (completes_nothing xs).1 }
 
 pub read_message : (law : Below) (unit : ℕ) (p : Progress) (piece : List ℕ) (n : ℕ) (m : Content) (h : Heard)
     → IsReader (Some p)
     → Gives p piece n (message m) → h ≡ heard_as unit m
-    → HasRead unit (Some p) (take n piece) (Some (reading 0 [])) (Some h)
+    → HasRead unit (held_by (Some p)) (take n piece) (holds []) (Some h)
 read_message law unit (reading taken held) piece n m h begun t is =
     let c = completes law held (take n piece) m (omega (arith, t.some, length-take-le n piece t.within)) t.spelt
     in record {
@@ -218,7 +214,7 @@ read_message law unit (reading taken held) piece n m h begun t is =
 read_message law unit failed piece n m h begun t is = absurd begun
 
 pub read_more : (law : Below) (unit : ℕ) (p : Progress) (piece : List ℕ) (n : ℕ) → IsReader (Some p)
-    → Gives p piece n more → HasRead unit (Some p) (take n piece) (Some (fed p piece n more)) None
+    → Gives p piece n more → HasRead unit (held_by (Some p)) (take n piece) (held_by (Some (fed p piece n more))) None
 read_more law unit (reading taken held) piece n begun t =
     let c = completes_none law held (take n piece) t.unfinished in
     record { hears = ap (map (heard_as unit)) c.0; holds_then = sym c.1 }
@@ -227,7 +223,7 @@ read_more law unit failed piece n begun t = absurd begun
 wrong_so : (law : Below) (unit : ℕ) (taken : ℕ) (held piece : List ℕ) (n : ℕ) (which : Fault) (place : ℕ)
     → IsUnfinished held → AreOctets piece
     → TakesWrong taken held piece n which → Reads (held ++ take n piece) [] (fault which place)
-    → HasRead unit (Some (reading taken held)) (take n piece) None None
+    → HasRead unit (holds held) (take n piece) skips None
 wrong_so law unit taken held piece n which place u fits t r =
     let all : AreOctets (held ++ take n piece) =
     All-append (λ b. b < 256) held (take n piece) (unfinished_octets law held u) (All-take (λ b. b < 256) n piece fits)
@@ -239,7 +235,7 @@ wrong_so law unit taken held piece n which place u fits t r =
 wrong_by : (law : Below) (unit : ℕ) (taken : ℕ) (held piece : List ℕ) (n : ℕ) (which : Fault) (place : ℕ)
     → taken ≡ length held → IsUnfinished held
     → AreOctets piece → TakesFault taken held piece n which → Reads (held ++ take n piece) [] (fault which place)
-    → HasRead unit (Some (reading taken held)) (take n piece) None None
+    → HasRead unit (holds held) (take n piece) skips None
 wrong_by law unit taken held piece n Long place is u fits t r = absurd (never_long law taken n held piece is t)
 wrong_by law unit taken held piece n which place is u fits t r =
     wrong_so law unit taken held piece n which place u fits t r
@@ -249,7 +245,7 @@ pub read_wrong : (law : Below) (unit : ℕ) (p : Progress) (piece : List ℕ) (n
     → AreOctets piece → Gives p piece n (wrong which place)
     → ((burst : List ℕ) (ms : List Content) → Follows burst ms p
     → FollowsNext (burst ++ take n piece) ms (wrong which place) then_is)
-    → HasRead unit (Some p) (take n piece) None None
+    → HasRead unit (held_by (Some p)) (take n piece) skips None
 read_wrong law unit (reading taken held) piece n which place then_is begun fits t follows =
     let f : Follows held [] (reading taken held) =
     subst (λ (k : ℕ). Follows held [] (reading k held)) (sym begun.0) (follows_held law held begun.1) in

@@ -339,15 +339,15 @@ last_open : (xs : List Arrival) → has_closed xs ≡ false → until_close xs �
 last_open xs h = simp append-nil at (last_both xs [] h refl)
 
 pub run_spent : {E W K V : Type 0} (rules : Rules W K V) (fold : Fold E) (plan : Plan) (unit : ℕ) (made count : ℕ)
-    (a a' : Auto E) (world world' : World W K V) (r : Ran) → Stands rules fold plan unit made a a' world world'
-    → made ≡ count → r ≡ ran_unless_ended (outcome_of a'.state.stage) ran.Spent
-    → HasRun rules fold plan unit count a a' world world' (Ok r)
-run_spent {E} rules fold plan unit made count a a' world world' r h all is = record {
+    (a a' : Auto E) (world world' : World W K V) (answer : Result Ran KeptFault) → Stands rules fold plan unit made a a' world world'
+    → made ≡ count → answer ≡ Ok (ran_unless_ended (outcome_of a'.state.stage) ran.Spent)
+    → HasRun rules fold plan unit count a a' world world' answer
+run_spent {E} rules fold plan unit made count a a' world world' answer h all is = record {
   came = h.came;
   octets = h.octets;
   closes_last = last_open h.came h.open_still;
   more = [];
   happened = simp append-nil h.happened;
-  ending = by_itself r refl (rw (← h.auto_is, is) (spent_by (outcome_of a'.state.stage) count h.came h.open_still
+  ending = by_itself _ is (rw (← h.auto_is) (spent_by (outcome_of a'.state.stage) count h.came h.open_still
       (h.count ∙ all))) refl h.auto_is;
 }

@@ -199,53 +199,28 @@ impl<S: Source, E: Ear, W: Wire> Driver<S, E, W> {
         if self.failed {
             return Err(KeptFault::Device);
         }
-        let ran = run_rounds(
-            &mut self.controller,
-            self.unit,
-            &mut self.ear,
-            &mut self.wire,
-            listens,
-            watch,
-            keep,
-            pace,
-        );
-        self.failed = is_broken(ran);
-        ran
-    }
-}
-
-// Runs an automation until it has ended or has listened this many times.
-fn run_rounds<S: Source, E: Ear, W: Wire, V: Watch<S>, K: Keep, P: Pace>(
-    controller: &mut Controller<S>,
-    unit: u8,
-    ear: &mut E,
-    wire: &mut W,
-    listens: u64,
-    watch: &mut V,
-    keep: &mut K,
-    pace: &mut P,
-) -> Result<Ran, KeptFault>
-    requires unit { unit ≤ 15 }
-    requires works { W.failures wire.old ≡ 0 }
-    ensures runs { HasRun (record { does = W.does; adds = K.adds; loses = K.loses; sees = V.sees }) E.fold
-        (plan_of S.items controller.old) unit listens
-        (record { ear = ear.old; state = controller.old.state })
-        (record { ear = ear.new; state = controller.new.state })
-        (record { wire = wire.old; keep = keep.old; watch = watch.old })
-        (record { wire = wire.new; keep = keep.new; watch = watch.new }) result }
-    ensures controller { controller.new ≡ record controller.old { state = controller.new.state } }
-    ensures fails { result ≡ Err KeptFault.Unkept → K.can_fail }
-    ensures failures { W.failures wire.new ≡ (if is_broken result then 1 else 0) }
-{
-    let mut made = 0;
-    'listens: while made < listens {
-        let ran = run_round(controller, unit, ear, wire, watch, keep, pace);
-        if !is_spent(ran) {
-            return ran;
+        let mut made = 0;
+        'listens: while made < listens {
+            let ran = run_round(
+                &mut self.controller,
+                self.unit,
+                &mut self.ear,
+                &mut self.wire,
+                watch,
+                keep,
+                pace,
+            );
+            self.failed = is_broken(ran);
+            if !is_spent(ran) {
+                return ran;
+            }
+            made += 1;
         }
-        made += 1;
+        match self.controller.outcome() {
+            Some(_) => Ok(Ran::Ended),
+            None => Ok(Ran::Spent),
+        }
     }
-    Ok(unless_ended(controller, Ran::Spent))
 }
 
 // Runs an automation for one listen: before it the next command goes out.
@@ -278,28 +253,19 @@ fn run_round<S: Source, E: Ear, W: Wire, V: Watch<S>, K: Keep, P: Pace>(
     }
     watch.look(controller);
     match hear(controller, unit, ear, wire, keep) {
-        Ok(line) => Ok(unless_ended(controller, ran_of(line))),
+        Ok(line) => Ok(ran_of(controller, line)),
         Err(WireFault) => Err(KeptFault::Device),
     }
 }
 
-// That the controller has ended goes before any other answer.
-fn unless_ended<S: Source>(controller: &Controller<S>, ran: Ran) -> Ran
-    ensures { result ≡ ran_unless_ended (turns.outcome_of controller.now.state.stage) ran }
+// What a listen makes of a run, of which it was the last. That the controller has ended goes before any other answer.
+fn ran_of<S: Source>(controller: &Controller<S>, line: Line) -> Ran
+    ensures { result ≡ ran_unless_ended (turns.outcome_of controller.now.state.stage) (ran_of line) }
 {
-    match controller.outcome() {
-        Some(_) => Ran::Ended,
-        None => ran,
-    }
-}
-
-// What a listen makes of a run, of which it was the last.
-fn ran_of(line: Line) -> Ran
-    ensures { result ≡ ran_of line }
-{
-    match line {
-        Line::More | Line::Ended => Ran::Spent,
-        Line::Closed => Ran::Closed,
+    match (controller.outcome(), line) {
+        (Some(_), _) => Ran::Ended,
+        (None, Line::More | Line::Ended) => Ran::Spent,
+        (None, Line::Closed) => Ran::Closed,
     }
 }
 
@@ -343,28 +309,13 @@ fn send_next<S: Source, E: Ear, W: Wire, K: Keep, P: Pace>(
     if let Err(KeepFault) = keep.keep_sent(unit, &command, bytes.as_slice()) {
         return Err(KeptFault::Unkept);
     }
-    if let Err(WireFault) = drop_first(ear, wire) {
+    if ear.drops() && wire.drop_waiting().is_err() {
         return Err(KeptFault::Device);
     }
     controller.await_answer(&command);
     match wire.send(bytes.as_slice()) {
         Ok(()) => Ok(true),
         Err(WireFault) => Err(KeptFault::Device),
-    }
-}
-
-// Drops what waits, if that is to be done first.
-fn drop_first<E: Ear, W: Wire>(ear: &E, wire: &mut W) -> Result<(), WireFault>
-    requires { W.failures wire.old ≡ 0 }
-    ensures dropped { OnOk result (Chain W.does (dropping E.fold.drops) wire.old wire.new) }
-    ensures nothing { OnErr result ((E.fold.drops ≡ true) × W.does fails wire.old wire.new) }
-    ensures works { OnOk result (W.failures wire.new ≡ 0) }
-    ensures failed { OnErr result (W.failures wire.new ≡ 1) }
-{
-    if ear.drops() {
-        wire.drop_waiting()
-    } else {
-        Ok(())
     }
 }
 
@@ -418,53 +369,21 @@ fn hear_piece<S: Source, E: Ear, K: Keep>(
 {
     let mut at = 0;
     'piece: while at < piece.len() {
-        at += hear_some(controller, unit, ear, &piece[at..], keep);
-    }
-}
-
-// Reads up to the end of one message that is heard at once, and gives how many bytes it used up.
-fn hear_some<S: Source, E: Ear, K: Keep>(
-    controller: &mut Controller<S>,
-    unit: u8,
-    ear: &mut E,
-    piece: &[u8],
-    keep: &mut K,
-) -> usize
-    ensures within { result ≤ length piece.now }
-    ensures some { 0 < length piece.now → 0 < result }
-    ensures hears { HearsPiece E.fold K.adds (plan_of S.items controller.old) unit (take result piece.now)
-        controller.old.state ear.old keep.old controller.new.state ear.new keep.new }
-    ensures controller { controller.new ≡ record controller.old { state = controller.new.state } }
-{
-    let (taken, heard) = ear.read(unit, piece);
-    receive_if(controller, heard, keep);
-    taken
-}
-
-// The controller receives what was heard, if something was.
-fn receive_if<S: Source, K: Keep>(
-    controller: &mut Controller<S>,
-    heard: Option<Heard>,
-    keep: &mut K,
-)
-    ensures state { controller.new ≡ record controller.old {
-      state = receives (plan_of S.items controller.old) (map Some (option_to_list heard)) controller.old.state;
-    } }
-    ensures noted { Chain K.adds (ended_notes (ended (plan_of S.items controller.old) (map Some (option_to_list heard))
-        controller.old.state)) keep.old keep.new }
-{
-    if let Some(heard) = heard {
+        let (taken, heard) = ear.read(unit, &piece[at..]);
+        at += taken;
+        let Some(heard) = heard else {
+            continue;
+        };
         receive(controller, Some(heard), keep);
     }
 }
 
 // The controller receives what came, or that nothing came in time, and the exchange that this ended is noted.
 fn receive<S: Source, K: Keep>(controller: &mut Controller<S>, came: Option<Heard>, keep: &mut K)
-    ensures state { controller.new ≡ record controller.old {
-      state = receives (plan_of S.items controller.old) (came ∷ []) controller.old.state;
-    } }
+    ensures state { controller.new.state ≡ receives (plan_of S.items controller.old) (came ∷ []) controller.old.state }
     ensures noted { Chain K.adds (ended_notes (ended (plan_of S.items controller.old) (came ∷ [])
         controller.old.state)) keep.old keep.new }
+    ensures controller { controller.new ≡ record controller.old { state = controller.new.state } }
 {
     if let Some(exchange) = controller.receive(came) {
         keep.note_end(exchange.heard);

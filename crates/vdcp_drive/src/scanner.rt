@@ -40,10 +40,25 @@ impl Scanner {
     pub(crate) fn read(&mut self, unit: u8, piece: &[u8]) -> (usize, Option<Heard>)
         ensures within { result.0 ≤ length piece.now }
         ensures some { 0 < length piece.now → 0 < result.0 }
-        ensures hears { map (heard_as unit) (completed self.old (take result.0 piece.now)) ≡ option_to_list result.1 }
-        ensures holds { self.new ≡ held_after self.old (take result.0 piece.now) }
+        ensures reads { HasRead unit self.old (take result.0 piece.now) self.new result.1 }
     {
-        read_some(unit, &mut self.reader, piece)
+        laws::laws_below();
+        let Some(reader) = &mut self.reader else {
+            return (piece.len(), None);
+        };
+        let (taken, got) = reader.feed(piece);
+        match got {
+            Got::Message(message) => {
+                let heard = Heard::of_message(&message, unit);
+                reader.silence();
+                (taken, Some(heard))
+            }
+            Got::More => (taken, None),
+            Got::Fault(_, _) => {
+                self.reader = None;
+                (taken, None)
+            }
+        }
     }
 
     /// After a fault, reading begins anew.
@@ -62,31 +77,4 @@ fn new_reader() -> Reader
     ensures holds { held_by (Some result) ≡ holds [] }
 {
     Reader::new()
-}
-
-// Reads up to the end of one message, and gives how many bytes it used up and what is heard in the message.
-fn read_some(unit: u8, reader: &mut Option<Reader>, piece: &[u8]) -> (usize, Option<Heard>)
-    requires { IsReader reader.old }
-    ensures within { result.0 ≤ length piece.now }
-    ensures some { 0 < length piece.now → 0 < result.0 }
-    ensures reads { HasRead unit reader.old (take result.0 piece.now) reader.new result.1 }
-    ensures reader { IsReader reader.new }
-{
-    laws::laws_below();
-    let Some(begun) = reader else {
-        return (piece.len(), None);
-    };
-    let (taken, got) = begun.feed(piece);
-    match got {
-        Got::Message(message) => {
-            let heard = Heard::of_message(&message, unit);
-            begun.silence();
-            (taken, Some(heard))
-        }
-        Got::More => (taken, None),
-        Got::Fault(_, _) => {
-            *reader = None;
-            (taken, None)
-        }
-    }
 }

@@ -1,6 +1,5 @@
 use Rattle.std.proofs.Common.{ap, sym, ◌∙◌}
 use Rattle.vdcp_auto.specs.Plan.{plan_of}
-use Rattle.vdcp_drive.specs.Lines.{ran_unless_ended}
 use Rattle.vdcp_drive.proofs.Running.{round_ended, round_heard, round_unheard, round_unsent}
 use Rattle.vdcp_drive.proofs.driver.run_round.Goals as goal
 
@@ -18,8 +17,8 @@ pub returns-in-Ok-clause-runs : goal.returns-in-Ok-clause-runs
 returns-in-Ok-clause-runs g c =
     let out = c.in_default.ensures.sends in
     round_heard _ g.E.Ear.fold _ c.args.unit _ _ _ _ c.in-Ok.line _ _ _ _ _ _ _ _ out.0 out.2 out.3 c.look.ensures
-    (rw (ap (plan_of g.S.Source.items) c.in_default.ensures.controller) at c.in-Ok.ensures.hears) c.unless_ended.result
-    (c.unless_ended.ensures ∙ ap (ran_unless_ended _) c.ran_of.ensures)
+    (rw (ap (plan_of g.S.Source.items) c.in_default.ensures.controller) at c.in-Ok.ensures.hears) c.ran_of.result
+    c.ran_of.ensures
 
 pub returns-in-Err-hear-clause-runs : goal.returns-in-Err-hear-clause-runs
 returns-in-Err-hear-clause-runs g c =
