@@ -1,10 +1,10 @@
 -- What writes in a row do to a disk's bytes.
 use Rattle.std.proofs.Common.{ℕ, ◌≡◌, true, true≢false, ◌+◌, ◌-◌, List, [], ◌++◌, length, take, drop, inl, inr, sym, ap, subst, ◌∙◌, append_assoc}
 use Rattle.std.proofs.KnownBytes.{Appends-kept, Appends-nil, Appends-trans}
-use Rattle.std.proofs.Math.Seq.{take-add, take-length, take-append_seam}
+use Rattle.std.proofs.Math.Seq.{take-add, take-append_seam}
 use Rattle.std.proofs.lemmas.List.{append_cancel_left, take_rest, take-append-drop}
-use Rattle.std.specs.Io.KnownBytes.{Appends, Keeps}
-use Rattle.std.specs.Prelude.{Option, None, Some, Result, Ok, Err, OnErr}
+use Rattle.std.specs.Io.KnownBytes.{Appends, WriteAppends}
+use Rattle.std.specs.Prelude.{Option, None, Some, Result, Ok, Err}
 use Rattle.vdcp_list.specs.Asrun.{AppendsBeginning}
 use Rattle.vdcp_journal.specs.declared.row.Row.{Row}
 use Rattle.vdcp_journal_file.specs.Disks.{Spills}
@@ -36,7 +36,7 @@ spills_more a b c w w' first next = record {
 }
 
 -- of what was written since, a beginning is safe
-pub spilled : (safe safe' written' : Option (List ℕ)) (xs : List ℕ) → AppendsBeginning safe written' xs
+spilled : (safe safe' written' : Option (List ℕ)) (xs : List ℕ) → AppendsBeginning safe written' xs
     → Spills safe safe' written' → AppendsBeginning safe safe' xs
 spilled None safe' written' xs wrote spills = (0, tt)
 spilled (Some s) None written' xs wrote spills = absurd spills.grows
@@ -52,13 +52,19 @@ spilled (Some s) (Some t) (Some w) xs wrote spills =
           (sym (ap (take (length spills.more)) all ∙ take-append_seam spills.more (spills.unsafe ++ rest))),
     )
 
-pub begins_whole : (a b c : Option (List ℕ)) (xs : List ℕ) → Appends a b xs → Keeps b c → AppendsBeginning a c xs
-begins_whole a b c xs wrote kept =
-    (length xs, subst (Appends a c) (sym (take-length xs)) (Appends-kept a b c xs wrote kept))
+pub safe_front : (safe safe' w w' : Option (List ℕ)) (xs : List ℕ) (n : ℕ) → safe ≡ w → Appends w w' (take n xs)
+    → Spills safe safe' w' → AppendsBeginning safe safe' xs
+safe_front safe safe' w w' xs n synced wrote = spilled safe safe' w' xs
+    (n, subst (λ (from : Option (List ℕ)). Appends from w' (take n xs)) (sym synced) wrote)
 
-pub on_err_of : {T E P : Type 0} (r : Result T E) → P → OnErr r P
-on_err_of (Ok x) p = tt
-on_err_of (Err e) p = p
+-- a write that is the last
+pub broke_off : {E : Type 0} (safe safe' safe'' w w' w'' : Option (List ℕ)) (xs : List ℕ) (at : ℕ) (wrote : Result ℕ E)
+    → safe ≡ w → Appends w w' (take at xs) → (safe ≡ w → Spills safe safe' w')
+    → WriteAppends w' w'' wrote (take (length xs - at) (drop at xs)) → Spills safe' safe'' w'' → AppendsBeginning safe safe'' xs
+broke_off safe safe' safe'' w w' w'' xs at (Ok n) synced first spills next more = safe_front safe safe'' w w'' xs (at + n)
+    synced (appends_more w w' w'' xs at n first next) (spills_more safe safe' safe'' w' w'' (spills synced) more)
+broke_off safe safe' safe'' w w' w'' xs at (Err e) synced first spills next more = safe_front safe safe'' w w'' xs at
+    synced (Appends-kept w w' w'' (take at xs) first next) (spills_more safe safe' safe'' w' w'' (spills synced) more)
 
 -- all that was written is safe, also once an end is noted
 pub synced_at_end : (left : Pending) (row : Row) (safe written : Option (List ℕ)) → IsSynced left safe written

@@ -54,39 +54,17 @@ pub fn append_safely<D: Disk>(disk: &mut D, bytes: &[u8]) -> io::Result<()>
     ensures beginning { D.safe disk.old ≡ D.written disk.old →
         OnErr result (AppendsBeginning (D.safe disk.old) (D.safe disk.new) bytes.now) }
 {
-    append(disk, bytes)?;
-    disk.sync()
-}
-
-// Appends these bytes, or a beginning of them if it fails.
-fn append<D: Disk>(disk: &mut D, bytes: &[u8]) -> io::Result<()>
-    ensures all { OnOk result (Appends (D.written disk.old) (D.written disk.new) bytes.now) }
-    ensures beginning { OnErr result (AppendsBeginning (D.written disk.old) (D.written disk.new) bytes.now) }
-    ensures spills { D.safe disk.old ≡ D.written disk.old →
-        Spills (D.safe disk.old) (D.safe disk.new) (D.written disk.new) }
-{
     let mut at = 0;
     'writes: for _ in 0..u32::MAX {
         if at == bytes.len() {
-            return Ok(());
+            return disk.sync();
         }
-        at += append_some(disk, &bytes[at..])?;
+        match disk.write_some(&bytes[at..]) {
+            Ok(n) if n > 0 => at += n,
+            Err(error) if error.kind() == ErrorKind::Interrupted => continue,
+            Ok(_) => return Err(io::Error::from(ErrorKind::WriteZero)),
+            Err(error) => return Err(error),
+        }
     }
     Err(io::Error::from(ErrorKind::TimedOut))
-}
-
-// Appends some of these bytes: none if that is interrupted.
-fn append_some<D: Disk>(disk: &mut D, bytes: &[u8]) -> io::Result<usize>
-    ensures bound { WritesAtMost result bytes.now }
-    ensures bytes { WriteAppends (D.written disk.old) (D.written disk.new) result bytes.now }
-    ensures spills { Spills (D.safe disk.old) (D.safe disk.new) (D.written disk.new) }
-{
-    match disk.write_some(bytes) {
-        Ok(0) => Err(io::Error::from(ErrorKind::WriteZero)),
-        Ok(n) => Ok(n),
-        Err(error) => match error.kind() {
-            ErrorKind::Interrupted => Ok(0),
-            _ => Err(error),
-        },
-    }
 }

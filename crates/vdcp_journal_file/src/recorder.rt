@@ -9,7 +9,7 @@ ghost use Rattle.vdcp_auto.specs.Plan.{plan_of};
 ghost use Rattle.vdcp_drive.specs.Auto.{auto_of};
 ghost use Rattle.vdcp_drive.specs.Leaves.{RunLeaves};
 ghost use Rattle.vdcp_journal.specs.Thinned.{asks_state};
-ghost use Rattle.vdcp_journal_file.specs.Recorded.{IsNoAct, IsRecorded, KeepsRow, Loses, LosesRow, MayHold, Notes, call_note};
+ghost use Rattle.vdcp_journal_file.specs.Recorded.{IsRecorded, KeepsRow, Loses, LosesRow, MayHold, Notes, call_note, commands_of_note};
 ghost use Rattle.vdcp_journal_file.specs.Recording.{Adds, AddsBeginning, FitHeldRows, IsSynced, IsUnwritten, MakesBeginning, MakesSafe, NotesFrom, Recording, after_row, end_note, ended, is_announced, outcome_rows, rows_due, rows_left, with_play};
 ghost use Rattle.vdcp_journal_file.specs.declared.pending.Pending.TheVariants.{Failed, Nothing};
 ghost use Rattle.vdcp_journal_file.specs.declared.pending.RecordFault.{RecordFault};
@@ -123,7 +123,10 @@ impl<'a, 'r, R: Clock + AllocGlobal, F: Disk + Drop> Recorder<'a, 'r, R, F> {
         ensures stays { (fault : RecordFault) → self.old.pending ≡ Failed fault →
             (result ≡ Err fault) × (self.new ≡ self.old) }
     {
-        let row = row_now(self.rt, note);
+        let row = Row {
+            time: now(self.rt),
+            note,
+        };
         if asks_state(&row.note) {
             return self.hold(row, bytes);
         }
@@ -156,15 +159,15 @@ impl<'a, 'r, R: Clock + AllocGlobal, F: Disk + Drop> Recorder<'a, 'r, R, F> {
         Ok(())
     }
 
-    // Notes what ended an exchange, in place of what was pending.
-    fn note(&mut self, heard: Option<Heard>)
+    // Notes what ended an exchange, or the event that the run begins with, in place of what was pending.
+    fn note(&mut self, note: Note)
+        requires { commands_of_note note ≡ [] }
         ensures { (time : Moment) × (self.new ≡ record self.old
-            { pending = ended self.old.pending (record { time = time; note = end_note heard }) }) }
+            { pending = ended self.old.pending (record { time = time; note = note }) }) }
     {
-        let time = now(self.rt);
-        self.note_row(Row {
-            time,
-            note: note_of(heard),
+        self.pending = self.pending.ended(Row {
+            time: now(self.rt),
+            note,
         });
     }
 
@@ -175,19 +178,8 @@ impl<'a, 'r, R: Clock + AllocGlobal, F: Disk + Drop> Recorder<'a, 'r, R, F> {
         ensures rest { self.new ≡ record self.old { pending = self.new.pending } }
     {
         if let Some(event) = event {
-            let time = now(self.rt);
-            self.note_row(Row {
-                time,
-                note: Note::From(event),
-            });
+            self.note(Note::From(event));
         }
-    }
-
-    fn note_row(&mut self, row: Row)
-        requires { IsNoAct row }
-        ensures { self.new ≡ record self.old { pending = ended self.old.pending row } }
-    {
-        self.pending = self.pending.ended(row);
     }
 
     /// Writes what is pending, and how the controller ended, if it has ended. The failure is that of the first row
@@ -288,7 +280,10 @@ impl<R: Clock + AllocGlobal, F: Disk + Drop> Keep for Recorder<'_, '_, R, F> {
     }
 
     fn note_end(&mut self, heard: Option<Heard>) {
-        self.note(heard);
+        match heard {
+            Some(heard) => self.note(Note::Heard(heard)),
+            None => self.note(Note::Silence),
+        }
     }
 
     fn keep_call(&mut self, call: Call) -> Result<(), KeepFault> {
@@ -329,28 +324,8 @@ fn note_of_call(call: Call) -> Note
     }
 }
 
-// The note of what ended an exchange.
-fn note_of(heard: Option<Heard>) -> Note
-    ensures { result ≡ end_note heard }
-{
-    match heard {
-        Some(heard) => Note::Heard(heard),
-        None => Note::Silence,
-    }
-}
-
-/// A row of now.
-pub(crate) fn row_now<R: Clock>(rt: &R, note: Note) -> Row
-    ensures { result.note ≡ note }
-{
-    Row {
-        time: now(rt),
-        note,
-    }
-}
-
-// A clock that fails shows 1970.
-fn now<R: Clock>(rt: &R) -> Moment {
+/// The time of now. A clock that fails shows 1970.
+pub(crate) fn now<R: Clock>(rt: &R) -> Moment {
     let millis = match rt.since_1970() {
         Ok(time) => u64::try_from(time.as_millis()).unwrap_or(u64::MAX),
         Err(_) => 0,

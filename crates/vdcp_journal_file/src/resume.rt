@@ -13,13 +13,13 @@ use crate::file::open;
 use crate::mending::{mend_end, mend_heading, not_read};
 use crate::pending::Pending;
 use crate::reading::{LastRun, Replayed, is_end, replay};
-use crate::recorder::{Recorder, row_now};
+use crate::recorder::{Recorder, now};
 use std::alloc::Global;
 use std::fs::{File, OpenFile};
 use std::io::{Read, Seek, SeekFrom};
 use std::rt::{Clock, Files};
 use vdcp_auto::{Controller, Source};
-use vdcp_journal::{Heading, Note, size_of_lines};
+use vdcp_journal::{Heading, Note, Row, size_of_lines};
 use vdcp_list::Rest;
 use vdcp_text::Failure;
 use vdcp_words::Command;
@@ -214,7 +214,10 @@ fn pending_after<R: Clock>(rt: &R, open: Option<Command>) -> Pending
     ensures ends { MayHold result }
 {
     match open {
-        Some(_) => Pending::End(row_now(rt, Note::Silence)),
+        Some(_) => Pending::End(Row {
+            time: now(rt),
+            note: Note::Silence,
+        }),
         None => Pending::Nothing,
     }
 }

@@ -1,12 +1,26 @@
-use Rattle.std.proofs.Common.{ap, ◌∙◌}
-use Rattle.vdcp_journal.specs.declared.row.Note.{Note}
-use Rattle.vdcp_journal_file.proofs.Chains.{end_note_no_command}
+use Rattle.std.proofs.Common.{ap, refl, subst, sym}
+use Rattle.vdcp_journal.specs.declared.row.Row.{Row}
+use Rattle.vdcp_journal_file.specs.Recorded.{MayHold, acting}
+use Rattle.vdcp_journal_file.specs.Recording.{FitHeldRows, IsSynced}
+use Rattle.vdcp_journal_file.specs.declared.pending.Pending.{Pending}
+use Rattle.vdcp_journal_file.proofs.Chains.{ended_may_hold}
+use Rattle.vdcp_journal_file.proofs.Disking.{synced_at_end}
+use Rattle.vdcp_journal_file.proofs.Held.{held_at_end}
 use Rattle.vdcp_journal_file.proofs.recorder.Recorder.note.Goals as goal
-use Rattle.vdcp_journal_file.specs.Recorded.{acting, commands_of_note}
+
+pub invariant_of-self : goal.invariant_of-self
+invariant_of-self g c =
+    let before = c.self.inside in
+    let row : Row = record { time = c.now.result; note = c.args.note } in (
+      c.self.invariant.0,
+      subst (λ (p : Pending). MayHold p) (sym c.ended-self-inside.ensures)
+          (ended_may_hold before.pending row (ap acting c.requires) c.self.invariant.1),
+      subst (λ (p : Pending). IsSynced p (g.F.Disk.safe before.file) (g.F.Disk.written before.file))
+          (sym c.ended-self-inside.ensures)
+          (synced_at_end before.pending row (g.F.Disk.safe before.file) (g.F.Disk.written before.file) c.self.invariant.2),
+      subst (FitHeldRows before.unit before.held) (sym c.ended-self-inside.ensures)
+          (held_at_end before.unit before.held before.pending row c.self.invariant.3),
+    )
 
 pub returns : goal.returns
-returns g c = (c.now-time.result, rw c.note_of.ensures at c.note_row.ensures)
-
-pub note_row-requires : goal.note_row-requires
-note_row-requires g c =
-    ap (λ (n : Note). acting (commands_of_note n)) c.note_of.ensures ∙ ap acting (end_note_no_command c.args.heard)
+returns g c = (c.now.result, rw (← c.self.view_is, c.ended-self-inside.ensures) refl)

@@ -6,8 +6,9 @@ use Rattle.vdcp_journal_file.specs.declared.pending.Pending.{Pending}
 
 pub returns-in-Some-clause-noted : goal.returns-in-Some-clause-noted
 returns-in-Some-clause-noted g c =
+    let noted = c.note.ensures in
     rw c.in-Some.is (
-      c.now-time.result,
-      ap (λ (r : Recording _). r.pending) c.note_row.ensures
-          ∙ ap (λ (p : Pending). ended p (record { time = c.now-time.result; note = From c.in-Some.event })) c.requires,
+      noted.0,
+      ap (λ (r : Recording _). r.pending) noted.1
+          ∙ ap (λ (p : Pending). ended p (record { time = noted.0; note = From c.in-Some.event })) c.requires,
     )

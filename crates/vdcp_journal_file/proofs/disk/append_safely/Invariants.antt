@@ -1,7 +1,7 @@
 use Rattle.std.proofs.Common.{◌≡◌, length, ◌≤◌, take}
 use Rattle.std.specs.Io.KnownBytes.{Appends}
 use Rattle.vdcp_journal_file.specs.Disks.{Spills}
-use Rattle.vdcp_journal_file.proofs.disk.append.Given as goal
+use Rattle.vdcp_journal_file.proofs.disk.append_safely.Given as goal
 
 abbrev pub invariant-writes : goal.invariant-writes
 invariant-writes g l = record {
