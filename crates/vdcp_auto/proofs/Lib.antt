@@ -17,7 +17,6 @@ pub mod Courses
 pub mod Receipts
 pub mod Law
 mod Forbidden
-mod Commands
 mod Logs
 mod Cues
 mod Judged

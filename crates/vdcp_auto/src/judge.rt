@@ -19,9 +19,8 @@ use crate::notes::Notes;
 use crate::phase::Mode;
 use crate::source::Source;
 use std::marker::Model;
-use vdcp_frame::laws::a_spelling_is_its_message;
+use vdcp_value::laws::an_id_is_its_bytes;
 use vdcp_words::Command;
-use vdcp_words::laws::{command_is_read_first, written_command_is_read};
 
 /// What the last cue of a log is good for.
 #[derive(Clone, Copy, Debug, PartialEq, Eq)]
@@ -238,7 +237,8 @@ impl<S: Source> Judge<S> {
     fn cues_next(&self, command: &Command) -> bool
         ensures { IsTrue result ↔ CuesItemAt (S.items self.now.source) self.now.settled command.now }
     {
-        self.settled < self.source.len() && is_same(command, &cue_of(&self.source.at(self.settled)))
+        an_id_is_its_bytes();
+        self.settled < self.source.len() && *command == cue_of(&self.source.at(self.settled))
     }
 
     /// The exchange settles one more event.
@@ -329,14 +329,4 @@ impl<S: Source> Judge<S> {
             LastCue::Void
         }
     }
-}
-
-/// Commands are compared by their bytes: these are of one command.
-fn is_same(a: &Command, b: &Command) -> bool
-    ensures { IsTrue result ↔ (a.now ≡ b.now) }
-{
-    command_is_read_first();
-    a_spelling_is_its_message();
-    written_command_is_read();
-    a.encode(0).as_slice() == b.encode(0).as_slice()
 }

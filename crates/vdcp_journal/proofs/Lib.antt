@@ -4,7 +4,6 @@ mod HexTexts
 mod Messages
 mod Moments
 mod BeforePlay
-mod Commands
 mod Told
 mod Raised
 mod RunsSoFar

@@ -15,10 +15,9 @@ use crate::losses::{is_loss, limit_after};
 use crate::row::{Note, Row};
 use std::marker::Model;
 use vdcp_auto::{Controller, Mode, Outcome, Snapshot, Source};
-use vdcp_frame::laws::a_spelling_is_its_message;
 use vdcp_list::Rest;
+use vdcp_value::laws::an_id_is_its_bytes;
 use vdcp_words::Command;
-use vdcp_words::laws::{command_is_read_first, written_command_is_read};
 
 /// A controller that goes on from a journal.
 #[derive(Drop)]
@@ -198,9 +197,10 @@ fn goes_on<S: Source>(controller: &mut Controller<S>, note: &Note) -> bool
     } }
     ensures made_with { controller.new ≡ record controller.old { state = controller.new.state } }
 {
+    an_id_is_its_bytes();
     match note {
         Note::Sent(command) => match controller.tick() {
-            Some(given) => is_same(&given, command),
+            Some(given) => given == *command,
             None => false,
         },
         Note::Heard(heard) => controller.receive(Some(*heard)).is_some(),
@@ -250,14 +250,4 @@ fn fault_of(note: &Note) -> ResumeFault
         }
         Note::End(_) => ResumeFault::Outcome,
     }
-}
-
-// Commands are compared by their bytes: these are of one command.
-fn is_same(a: &Command, b: &Command) -> bool
-    ensures { IsTrue result ↔ (a.now ≡ b.now) }
-{
-    command_is_read_first();
-    a_spelling_is_its_message();
-    written_command_is_read();
-    a.encode(0).as_slice() == b.encode(0).as_slice()
 }
