@@ -11,7 +11,8 @@ use Rattle.vdcp_words.specs.declared.command.Command.TheVariants.{Open, Close, S
 use Rattle.vdcp_words.specs.declared.fault.WordFault.{WordFault}
 use Rattle.vdcp_words.specs.declared.fault.WordFault.TheVariants.{NotCommand, Unknown, Length}
 use Rattle.vdcp_words.specs.Messages.{unit_of, rest_of, IsReceipt, IsFramed, SameCode}
-use Rattle.vdcp_words.proofs.Values.{ValueLaws, length_of_bytes, length_of_id}
+use Rattle.vdcp_words.proofs.Values.{length_of_bytes, length_of_id}
+use Rattle.vdcp_words.specs.LawsBelow.{ValueLaws}
 use Rattle.vdcp_words.specs.Commands.{command_message, IsWritableCommand, IsCommand, IsUnknownCommand, HasOtherLength, ReadsCommand}
 
 -- type and code as one number

@@ -12,7 +12,7 @@ use Rattle.vdcp_words.specs.declared.command.Command.TheVariants.{Open, Close, S
 use Rattle.vdcp_words.specs.Messages.{rest_of, SameCode}
 use Rattle.vdcp_words.specs.Commands.{command_message, ReadsCommand}
 use Rattle.vdcp_words.specs.Computed.{no_data, one_byte, two_bytes, with_id, cue_data_of, immediate_of, preset_of, sense_request_of, command_of}
-use Rattle.vdcp_words.proofs.Values.{ValueLaws}
+use Rattle.vdcp_words.specs.LawsBelow.{ValueLaws}
 use Rattle.vdcp_words.proofs.CommandLemmas.{stop_length, play_length, close_length, select_length, play_cue_length, cue_data_length, open_length, status_length, active_id_length, id_size_length, id_request_length}
 
 -- ---- no command has the code

@@ -11,7 +11,8 @@ use Rattle.vdcp_words.specs.declared.reply.Reply.TheVariants.{Ack, Nak, Opened, 
 use Rattle.vdcp_words.specs.declared.fault.WordFault.{WordFault}
 use Rattle.vdcp_words.specs.declared.fault.WordFault.TheVariants.{NotCommand, Unknown, Length}
 use Rattle.vdcp_words.specs.Messages.{unit_of, IsFramed, SameCode}
-use Rattle.vdcp_words.proofs.Values.{ValueLaws, length_of_bytes, length_of_id}
+use Rattle.vdcp_words.proofs.Values.{length_of_bytes, length_of_id}
+use Rattle.vdcp_words.specs.LawsBelow.{ValueLaws}
 use Rattle.vdcp_words.specs.Replies.{reply_message, IsReadFrom, IsReply, IsWritableReply, IsUnknownReply, IsShortReply, ReadsReply, bytes_named}
 
 -- a reply is read from its own message

@@ -6,7 +6,7 @@ use Rattle.std.proofs.lemmas.List.{length-take}
 use Rattle.std.proofs.lemmas.List.Elements.{All-tail, All-take}
 use Rattle.vdcp_value.specs.Bytes.{are_bytes}
 use Rattle.vdcp_value.specs.Ids.{id_of}
-use Rattle.vdcp_words.proofs.Values.{ValueLaws}
+use Rattle.vdcp_words.specs.LawsBelow.{ValueLaws}
 use Rattle.vdcp_frame.specs.Message.{Content, ack, nak, framed}
 use Rattle.vdcp_words.specs.declared.reply.Reply.{Reply}
 use Rattle.vdcp_words.specs.declared.reply.Reply.TheVariants.{Ack, Nak, Opened, State, Active, Present, Size}

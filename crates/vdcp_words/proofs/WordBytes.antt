@@ -10,7 +10,8 @@ use Rattle.vdcp_words.specs.declared.command.Command.{Command}
 use Rattle.vdcp_words.specs.declared.command.Command.TheVariants as commands
 use Rattle.vdcp_words.specs.declared.reply.Reply.{Reply}
 use Rattle.vdcp_words.specs.declared.reply.Reply.TheVariants as replies
-use Rattle.vdcp_words.proofs.Values.{ValueLaws, bytes_below, id_below, length_of_bytes, length_of_id}
+use Rattle.vdcp_words.proofs.Values.{bytes_below, id_below, length_of_bytes, length_of_id}
+use Rattle.vdcp_words.specs.LawsBelow.{FrameLaws, ValueLaws}
 use Rattle.vdcp_words.specs.Commands.{command_message, IsWritableCommand}
 use Rattle.vdcp_words.specs.Messages.{rest_of}
 use Rattle.vdcp_words.specs.Computed.{command_of, reply_of}
@@ -150,15 +151,6 @@ reply_of-written v unit reply writable =
     (reply_computed v (reply_message unit reply) fits) (reply_written v unit reply writable)
 
 -- ---- what is read first
-
--- what the laws of vdcp_frame say of readings
-pub record FrameLaws : Type 0 where
-  pub spelt : (m : Content) → Fits m → Spells m (spelling m)
-  pub only : (burst : List ℕ) (ms ns : List Content) (e f : End) → Reads burst ms e → Reads burst ns f →
-      (ms ≡ ns) × (e ≡ f)
-  pub first : (ms ns : List Content) (bytes more : List ℕ) (end : End) → SpellsAll ms bytes → length bytes ≤ 4096
-      → Reads (bytes ++ more) ns end → (others : List Content) × (ns ≡ ms ++ others)
-  pub alone : (ms : List Content) (bytes : List ℕ) → SpellsAll ms bytes → length bytes ≤ 4096 → Reads bytes ms clean
 
 spelling_size : (m : Content) (bytes : List ℕ) → Spells m bytes → length bytes ≤ 258
 spelling_size ack bytes s = omega (arith, ap length s)

@@ -4,3 +4,4 @@ pub mod Commands
 pub mod Replies
 pub mod Texts
 pub mod Computed
+pub mod LawsBelow

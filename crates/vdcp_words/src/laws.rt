@@ -4,6 +4,7 @@
 ghost use Rattle.std.specs.Prelude.{◌≡◌, ◌<◌, ◌≤◌, ℕ, List, [], ◌∷◌, ◌++◌, All, Result, Ok};
 ghost use Rattle.vdcp_frame.specs.Message.{Content, nak, Fits, spelling};
 ghost use Rattle.vdcp_frame.specs.Reading.{End, clean, Reads};
+ghost use Rattle.vdcp_words.specs.LawsBelow.{FrameLaws, ValueLaws};
 ghost use Rattle.vdcp_words.specs.Messages.{unit_of, rest_of, IsFramed};
 ghost use Rattle.vdcp_words.specs.Commands.{command_message, IsWritableCommand, ReadsCommand};
 ghost use Rattle.vdcp_words.specs.Replies.{reply_message, IsWritableReply, ReadsReply};
@@ -22,8 +23,7 @@ pub fn one_command()
     ensures only { (message : Content) (a b : Result Command WordFault) →
         ReadsCommand message a → ReadsCommand message b → a ≡ b }
 {
-    bytes_are_counted();
-    an_id_is_its_bytes();
+    ids_are_bytes();
 }
 
 /// A message of bytes is read as a reply or has a fault, and that in one way.
@@ -33,8 +33,7 @@ pub fn one_reply()
     ensures only { (message : Content) (a b : Result Reply WordFault) →
         ReadsReply message a → ReadsReply message b → a ≡ b }
 {
-    bytes_are_counted();
-    an_id_is_its_bytes();
+    ids_are_bytes();
 }
 
 /// The message of a command is read as that command and as no other, and names its unit.
@@ -47,8 +46,7 @@ pub fn written_command_is_read()
         command_of (command_message unit command) ≡ Ok command }
     ensures unit { (unit : ℕ) (command : Command) → unit_of (command_message unit command) ≡ unit }
 {
-    bytes_are_counted();
-    an_id_is_its_bytes();
+    ids_are_bytes();
     one_command();
 }
 
@@ -64,8 +62,7 @@ pub fn written_reply_is_read()
     ensures unit { (unit : ℕ) (reply : Reply) → IsFramed (reply_message unit reply) →
         unit_of (reply_message unit reply) ≡ unit }
 {
-    bytes_are_counted();
-    an_id_is_its_bytes();
+    ids_are_bytes();
     one_reply();
 }
 
@@ -77,11 +74,8 @@ pub fn command_is_read_first()
         unit ≤ 15 → IsWritableCommand command → Reads (spelling (command_message unit command) ++ more) ms end →
         (others : List Content) × (ms ≡ command_message unit command ∷ others) }
 {
-    bytes_are_counted();
-    an_id_is_its_bytes();
-    one_spelling();
-    one_reading();
-    written_is_read();
+    ids_are_bytes();
+    bursts_are_read();
 }
 
 /// The message of a reply fits. Its bytes are read first, as that message, whatever follows them.
@@ -92,20 +86,15 @@ pub fn reply_is_read_first()
         unit ≤ 15 → IsWritableReply reply → Reads (spelling (reply_message unit reply) ++ more) ms end →
         (others : List Content) × (ms ≡ reply_message unit reply ∷ others) }
 {
-    bytes_are_counted();
-    an_id_is_its_bytes();
-    one_spelling();
-    one_reading();
-    written_is_read();
+    ids_are_bytes();
+    bursts_are_read();
 }
 
 /// An empty burst: no message.
 pub fn no_bytes_are_no_message()
     ensures { (ms : List Content) (end : End) → Reads [] ms end → (ms ≡ []) × (end ≡ clean) }
 {
-    one_spelling();
-    one_reading();
-    written_is_read();
+    bursts_are_read();
 }
 
 /// What the server writes at the end of a burst that it can't read to its end is one NAK: 04h for
@@ -115,6 +104,21 @@ pub fn naks_of_a_burst_end()
         (ms ≡ nak 0x04 ∷ []) × (end ≡ clean) }
     ensures cut { (ms : List Content) (end : End) → Reads (5 ∷ 0x80 ∷ []) ms end →
         (ms ≡ nak 0x80 ∷ []) × (end ≡ clean) }
+{
+    bursts_are_read();
+}
+
+// What the laws of vdcp_value say of bytes and IDs.
+fn ids_are_bytes()
+    ensures { ValueLaws }
+{
+    bytes_are_counted();
+    an_id_is_its_bytes();
+}
+
+// What the laws of vdcp_frame say of readings.
+fn bursts_are_read()
+    ensures { FrameLaws }
 {
     one_spelling();
     one_reading();

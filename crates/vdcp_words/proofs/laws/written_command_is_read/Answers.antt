@@ -13,11 +13,4 @@ returns-clause-only c unit command outcome writable reads =
     (command_written unit command writable)
 
 pub returns-clause-computed : goal.returns-clause-computed
-returns-clause-computed c =
-    command_of-written
-    (record {
-      counted = c.bytes_are_counted.ensures;
-      eight = c.an_id_is_its_bytes.ensures.eight;
-      one = c.an_id_is_its_bytes.ensures.one;
-      of_bytes = c.an_id_is_its_bytes.ensures.of_bytes;
-    })
+returns-clause-computed c = command_of-written c.ids_are_bytes.ensures
