@@ -2,4 +2,3 @@
 pub mod Files
 pub mod Lines
 pub mod Playable
-pub mod Subcommand

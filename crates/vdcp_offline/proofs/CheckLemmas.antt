@@ -3,7 +3,7 @@ use Rattle.std.proofs.Common.{◌≡◌, ◌≢◌, ◌⊎◌, ◌<◌, ℕ, Boo
 use Rattle.std.specs.Io.KnownBytes.{Appends, Keeps}
 use Rattle.std.specs.Prelude.{Option, None, Some}
 use Rattle.vdcp_files.specs.Files.{File}
-use Rattle.vdcp_files.specs.Subcommand.{IsSubcommand}
+use Rattle.vdcp_text.specs.Subcommand.{IsSubcommand}
 use Rattle.vdcp_offline.specs.Check.{IsRefused, IsUnchecked, no_files, writer_failed}
 use Rattle.vdcp_text.specs.Failure.{failure_line, status_of}
 use Rattle.vdcp_text.specs.declared.failure.Failure.{Failure}

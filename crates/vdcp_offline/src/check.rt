@@ -2,7 +2,7 @@
 ghost use Rattle.std.specs.Io.KnownBytes.{Keeps};
 ghost use Rattle.std.specs.Prelude.{◌≡◌, ◌≢◌, ◌⊎◌, IfErr, IfOk, if◌then◌else◌};
 ghost use Rattle.vdcp_files.specs.Files.{file};
-ghost use Rattle.vdcp_files.specs.Subcommand.{IsSubcommand};
+ghost use Rattle.vdcp_text.specs.Subcommand.{IsSubcommand};
 ghost use Rattle.vdcp_offline.specs.Check.{AreWhole, IsChecked, IsRefused, IsUnchecked};
 ghost use Rattle.vdcp_text.specs.Failure.{status_of};
 

@@ -11,7 +11,7 @@ ghost use Rattle.std.specs.Io.KnownBytes.{Appends, Keeps};
 ghost use Rattle.std.specs.Prelude.{◌≡◌, ◌≢◌, ◌⊎◌, IfErr, IfOk, OnOk};
 ghost use Rattle.vdcp_offline.specs.Judged.{AreWhole, IsJudged, IsToldOnly};
 ghost use Rattle.vdcp_files.specs.Files.{file};
-ghost use Rattle.vdcp_files.specs.Subcommand.{Counted, IsSubcommand};
+ghost use Rattle.vdcp_text.specs.Subcommand.{Counted, IsSubcommand};
 ghost use Rattle.vdcp_text.specs.Failure.{status_of};
 ghost use Rattle.vdcp_text.specs.declared.failure.Failure.TheVariants as failures;
 

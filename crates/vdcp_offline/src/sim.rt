@@ -7,7 +7,7 @@ ghost use Rattle.std.specs.Io.KnownBytes.{Appends, Keeps};
 ghost use Rattle.std.specs.Prelude.{◌≡◌, ◌≢◌, ◌⊎◌, ◌≤◌, IfErr, IsTrue, OnOk, false, true};
 ghost use Rattle.vdcp_offline.specs.Check.{AreWhole};
 ghost use Rattle.vdcp_files.specs.Files.{file};
-ghost use Rattle.vdcp_files.specs.Subcommand.{IsSubcommand};
+ghost use Rattle.vdcp_text.specs.Subcommand.{IsSubcommand};
 ghost use Rattle.vdcp_world.specs.LateLine.Joined.{late_of};
 ghost use Rattle.vdcp_offline.specs.Sim.{IsRun, IsRunFailure, IsSimulated, IsUnsimulated, RefusesOne};
 ghost use Rattle.vdcp_offline.specs.Sim.{aired_line, aired_text, channel_of, end_text, exchange_line, run_text, trace_text};

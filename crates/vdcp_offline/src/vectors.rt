@@ -5,7 +5,7 @@ ghost use Rattle.std.specs.Io.KnownBytes.{Appends, Keeps};
 ghost use Rattle.std.specs.Prelude.{◌≡◌, ◌⊎◌, ◌<◌, ◌≤◌, ℕ, ◌≢◌, ◌++◌, ◌∷◌, [], IfErr, IfNone, IfOk, IfSome, List, OnOk, Option, codes, length, string_bytes, true};
 ghost use Rattle.vdcp_text.specs.Failure.{failure_line};
 ghost use Rattle.vdcp_text.specs.Text.{message_text};
-ghost use Rattle.vdcp_files.specs.Subcommand.{Counted, IsSubcommand};
+ghost use Rattle.vdcp_text.specs.Subcommand.{Counted, IsSubcommand};
 ghost use Rattle.vdcp_offline.specs.Vectors.{AreTested, Finding, HasTooMany, IsTally, IsTallyOf, IsUntested, RefusesRows, bad_count, finding_of, finding_of_burst, finding_of_row, finding_text, joined_reading, joined_text, too_long, too_many, vectors_text};
 ghost use Rattle.vdcp_frame.specs.Burst.{end_of, messages_of};
 ghost use Rattle.vdcp_frame.specs.Message.{content_of};

@@ -5,5 +5,6 @@ pub mod Items
 pub mod Outcome
 pub mod Exchange
 pub mod Failure
+pub mod Subcommand
 pub mod Show
 pub mod Make

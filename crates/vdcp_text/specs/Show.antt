@@ -1,6 +1,7 @@
 -- What `show` prints of a burst.
-use Rattle.std.specs.Prelude.{ℕ, Bool, ◌≡◌, ◌↔◌, List, Option}
+use Rattle.std.specs.Prelude.{ℕ, Bool, ◌≡◌, ◌↔◌, IsOkAnd, IsTrue, List, Option}
 use Rattle.std.specs.Io.KnownBytes.{Appends}
+use Rattle.hex.specs.Hex.{decode_of}
 use Rattle.vdcp_frame.specs.Message.{Content}
 use Rattle.vdcp_frame.specs.Reading.{End, clean, Reads}
 use Rattle.vdcp_text.specs.Text.{reading_text}
@@ -12,8 +13,7 @@ pub record GainsReading (meanings : Bool) (burst : List ℕ) (old new : Option (
   pub reads : Reads burst messages end
   pub gained : Appends old new (reading_text meanings messages end)
 
--- the same, and the status is 0 exactly if the end is clean
-pub record IsShown (meanings : Bool) (burst : List ℕ) (old new : Option (List ℕ)) (status : ℕ) : Type 0 where
-  pub end : End
-  pub reading : GainsReading meanings burst old new end
-  pub is_clean : (status ≡ 0) ↔ (end ≡ clean)
+-- a writer gained the reading of the burst that these digits spell, which has a clean end or not
+abbrev pub IsShown : Bool → List ℕ → Bool → Option (List ℕ) → Option (List ℕ) → Type 0
+IsShown meanings digits is_good old new = IsOkAnd (decode_of digits)
+    (λ burst. (end : End) × GainsReading meanings burst old new end × (IsTrue is_good ↔ (end ≡ clean)))

@@ -1,5 +1,5 @@
 //! The subcommand `show`: a burst's reading, line by line.
-ghost use Rattle.std.specs.Prelude.{◌≡◌, ◌⊎◌, ◌<◌, IfOk, IfErr, OnErr, OnOk, IsErr, IsOkAnd};
+ghost use Rattle.std.specs.Prelude.{◌≡◌, ◌⊎◌, IfOk, IfErr, OnErr, OnOk, IsErr, IsOk, IsOkAnd};
 ghost use Rattle.std.specs.Io.KnownBytes.{Appends, Keeps};
 ghost use Rattle.hex.specs.Hex.{decode_of};
 ghost use Rattle.vdcp_frame.specs.Burst.{end_of, messages_of};
@@ -8,6 +8,7 @@ ghost use Rattle.vdcp_frame.specs.Walk.{end_seen};
 ghost use Rattle.vdcp_text.specs.Failure.{failure_line};
 ghost use Rattle.vdcp_text.specs.Text.{end_text, line, messages_text, shown_text};
 ghost use Rattle.vdcp_text.specs.Show.{GainsReading, IsShown};
+ghost use Rattle.vdcp_text.specs.Subcommand.{IsSubcommand};
 
 use crate::failure::Failure;
 use crate::text::{EndText, MeaningText, MessageText};
@@ -31,14 +32,11 @@ pub fn do_show<A: Allocator, W: io::Write, E: io::Write>(
     out: &mut W,
     err: &mut E,
 ) -> u8
-    ensures shown { IfOk (decode_of hex.now) (λ burst. result < 2 →
-        IsShown meanings burst (W.contents out.old) (W.contents out.new) result) }
-    ensures silent { OnErr (decode_of hex.now) (Keeps (W.contents out.old) (W.contents out.new)) }
-    ensures refused { OnErr (decode_of hex.now) ((result ≡ 1) ⊎ (result ≡ 3)) }
-    ensures told { OnErr (decode_of hex.now)
-        (result ≡ 1 → Appends (E.contents err.old) (E.contents err.new) (failure_line Failure.Hex)) }
-    ensures untold { OnOk (decode_of hex.now) (result < 2 → Keeps (E.contents err.old) (E.contents err.new)) }
-    ensures statuses { (result < 2) ⊎ (result ≡ 3) }
+    // The status is 1 for an end that isn't clean, and for what isn't digits.
+    ensures { IsSubcommand (IsShown meanings hex.now)
+        (λ old new err err'. IsErr (decode_of hex.now) × Keeps old new × Appends err err' (failure_line Failure.Hex))
+        (IsOk (decode_of hex.now))
+        (W.contents out.old) (W.contents out.new) (E.contents err.old) (E.contents err.new) result }
 {
     match show(alloc, hex, meanings, out) {
         Ok(End::Clean) => 0,
