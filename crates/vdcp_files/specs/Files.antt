@@ -7,7 +7,6 @@ use Rattle.vdcp_list.specs.declared.faults.ListFault.TheVariants as lists
 use Rattle.vdcp_list.specs.declared.faults.ListFault.{ListFault}
 use Rattle.vdcp_text.specs.declared.failure.Failure.{Failure}
 use Rattle.vdcp_text.specs.declared.failure.Failure.TheVariants.{Memory, Read, Row as RefusedRow, ScriptLine}
-use Rattle.vdcp_text.specs.declared.failure.RowFault.TheVariants as rows
 use Rattle.vdcp_text.specs.declared.failure.ScriptLineFault.TheVariants.{Long}
 use Rattle.vdcp_value.specs.declared.clip_id.ClipId.{ClipId}
 use Rattle.vdcp_value.specs.declared.part.Item.{Item}
@@ -24,12 +23,7 @@ bytes_of (file name bytes) = bytes
 
 -- why a list or a catalogue of this name isn't read
 abbrev pub file_failure : Bor (List ℕ) → ListFault → Failure
-file_failure name (lists.Columns row) = RefusedRow name row rows.Columns
-file_failure name (lists.Id row) = RefusedRow name row rows.Id
-file_failure name (lists.Time row) = RefusedRow name row rows.Time
-file_failure name (lists.Twice row) = RefusedRow name row rows.Twice
-file_failure name (lists.TooMany row) = RefusedRow name row rows.TooMany
-file_failure name (lists.Long row) = RefusedRow name row rows.Long
+file_failure name (lists.Row row fault) = RefusedRow name row fault
 file_failure name lists.Memory = Memory
 file_failure name lists.Read = Read name
 

@@ -10,7 +10,7 @@ use crate::lines::{LONGEST_LINE, Lined, line_failure};
 use std::alloc::Global;
 use std::io::{self, Read};
 use vdcp_list::{List, ListFault, Table, read_catalogue, read_list};
-use vdcp_text::{Failure, RowFault};
+use vdcp_text::Failure;
 use vdcp_value::Rate;
 
 /// A file to read, with its name.
@@ -69,12 +69,7 @@ pub fn file_failure<'a>(name: &'a str, fault: ListFault) -> Failure<'a>
     ensures { result ≡ file_failure name.entry fault }
 {
     match fault {
-        ListFault::Columns(row) => Failure::Row(name, row, RowFault::Columns),
-        ListFault::Id(row) => Failure::Row(name, row, RowFault::Id),
-        ListFault::Time(row) => Failure::Row(name, row, RowFault::Time),
-        ListFault::Twice(row) => Failure::Row(name, row, RowFault::Twice),
-        ListFault::TooMany(row) => Failure::Row(name, row, RowFault::TooMany),
-        ListFault::Long(row) => Failure::Row(name, row, RowFault::Long),
+        ListFault::Row(row, fault) => Failure::Row(name, row, fault),
         ListFault::Memory => Failure::Memory,
         ListFault::Read => Failure::Read(name),
     }

@@ -194,8 +194,8 @@ fn fault_in(fault: ListFault) -> JournalReadFault
 {
     match fault {
         ListFault::Memory => JournalReadFault::Memory,
-        ListFault::Long(row) => JournalReadFault::Long(row),
-        _ => JournalReadFault::Device,
+        ListFault::Row(row, _) => JournalReadFault::Long(row),
+        ListFault::Read => JournalReadFault::Device,
     }
 }
 

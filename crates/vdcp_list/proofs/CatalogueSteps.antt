@@ -7,11 +7,10 @@ use Rattle.std.proofs.lemmas.Map.Keys.{IsDistinct-push}
 use Rattle.std.specs.List.{IsDistinct, list_any}
 use Rattle.std.specs.Prelude.{◌↔◌, IsSome, IsTrue, None, Some, is_some, slice_get}
 use Rattle.vdcp_list.proofs.ClipPlaces.{same_ids}
-use Rattle.vdcp_list.proofs.ItemRows.{first_of}
 use Rattle.vdcp_list.proofs.SlotClips.{none_of}
 use Rattle.vdcp_list.specs.Catalogues.{CanLast, Gives, IsClipFault, StandsIn, clip_row, ids_of}
 use Rattle.vdcp_list.specs.Rows.{FileRow}
-use Rattle.vdcp_list.specs.declared.faults.ListFault.TheVariants.{Twice}
+use Rattle.vdcp_value.specs.declared.faults.RowFault.TheVariants.{Twice}
 use Rattle.vdcp_port.specs.Clips.{length_of}
 use Rattle.vdcp_value.specs.Ids.{is_same_id, text_of_id}
 use Rattle.vdcp_value.specs.declared.clip_id.ClipId.{ClipId}
@@ -58,22 +57,15 @@ stands same (clip ∷ clips) id e = stands_if (is_same_id id clip.0) refl e (sta
 
 -- the next row has the ID of an earlier one
 pub twice : ((a b : ClipId) → IsTrue (is_same_id a b) ↔ (a ≡ b)) → (rate : Rate) (front : List FileRow)
-    → (clips : List (ClipId × Timecode)) (row : FileRow) (clip : ClipId × Timecode) (k : ℕ) → Gives rate front clips
+    → (clips : List (ClipId × Timecode)) (row : FileRow) (clip : ClipId × Timecode) → Gives rate front clips
     → clip_row clip ≡ row → CanLast rate clip.1 → IsSome (length_of clips clip.0)
-    → IsClipFault rate front row k (Twice k)
-twice same rate front clips row clip k given e can there = (
-  refl,
+    → IsClipFault rate front row Twice
+twice same rate front clips row clip given e can there = (
   clip,
   e,
   can,
   subst (λ fs. StandsIn fs clip.0) (sym given.rows_are) (stands same clips clip.0 there),
 )
-
--- the row of a clip
-pub row_of_clip : (row : FileRow) (id : ClipId) (time : Timecode) (text : List ℕ)
-    → slice_get row 0 ≡ Some (text_of_id id) → drop 1 row ≡ text ∷ []
-    → text_of_id id ∷ text ∷ [] ≡ row
-row_of_clip row id time text first rest = sym (first_of row (text_of_id id) first ∙ ap (λ r. text_of_id id ∷ r) rest)
 
 -- a row of two fields
 pub last_one : (row : FileRow) (field : List ℕ) → length row ≡ 2 → Some field ≡ slice_get row 1

@@ -138,10 +138,6 @@ events_text-push rate with_parts k (first ∷ items) item =
     (row_text default_writer (decimal (k + suc (length items)) ∷ item_row rate with_parts item)))
 
 -- the fields of an event's row
-pub whole_fields : (rate : Rate) (item : Item) (number id : List ℕ) → id ≡ text_of_id item.id
-    → number ∷ item_row rate false item ≡ number ∷ id ∷ []
-whole_fields rate item number id e = ap (λ i. number ∷ i ∷ []) (sym e)
-
 pub part_fields_of : (rate : Rate) (item : Item) (number id start duration : List ℕ) → id ≡ text_of_id item.id
     → part_fields rate item.part ≡ start ∷ duration ∷ []
     → number ∷ item_row rate true item ≡ number ∷ id ∷ start ∷ duration ∷ []

@@ -9,10 +9,12 @@ use Rattle.vdcp_list.proofs.ItemRows.{time_of}
 use Rattle.vdcp_list.specs.Values.{FieldLaws}
 use Rattle.vdcp_list.specs.Playlists.{CanName, IsItemFault, IsNextFault, IsPlaylist, IsPlaylistFault, NameItems, Names}
 use Rattle.vdcp_list.specs.Playlists.{columns_of, has_parts, is_of_columns, item_row, part_fields, time_text}
-use Rattle.vdcp_list.specs.Reading.{HasTooMany, IsReadFault, RefusesRow}
+use Rattle.vdcp_list.specs.Reading.{HasTooMany, IsOfRow, IsReadFault, RefusesRow}
 use Rattle.vdcp_list.specs.Rows.{FileRow, HasId, most_rows}
-use Rattle.vdcp_list.specs.declared.faults.ListFault.TheVariants.{Columns, Id, Time, Twice, TooMany, Long, Memory, Read}
+use Rattle.vdcp_list.specs.declared.faults.ListFault.TheVariants.{Row}
 use Rattle.vdcp_list.specs.declared.faults.ListFault.{ListFault}
+use Rattle.vdcp_value.specs.declared.faults.RowFault.TheVariants.{Columns, Id, Time, Twice, TooMany, Long}
+use Rattle.vdcp_value.specs.declared.faults.RowFault.{RowFault}
 use Rattle.vdcp_value.specs.Bcd.{is_time}
 use Rattle.vdcp_value.specs.Bytes.{AreBytes}
 use Rattle.vdcp_value.specs.Ids.{text_of_id}
@@ -159,8 +161,8 @@ fits false columns row size e = rw (size, e) refl
 
 not_refused : (rate : Rate) (rows : List FileRow) (n k : ℕ) (items : List Item) (row : FileRow) (fault : ListFault)
     → Names rate (has_parts (columns_of rows)) (take n rows) items → k - 1 < n → slice_get rows (k - 1) ≡ Some row
-    → IsItemFault rate (columns_of rows) row k fault → ⊥
-not_refused rate rows n k items row fault h below e f = by_fault fault f
+    → IsOfRow k (IsItemFault rate (columns_of rows) row) fault → ⊥
+not_refused rate rows n k items row fault h below e (wrong, is, f) = by_fault wrong f
   where
     w : Bool
     w = has_parts (columns_of rows)
@@ -181,15 +183,11 @@ not_refused rate rows n k items row fault h below e f = by_fault fault f
     has_id : HasId row
     has_id = (named.item.id, ap (λ r. slice_get r 0) (sym named.row_is) ∙ first_is (has_parts (columns_of rows)))
 
-    by_fault : (g : ListFault) → IsItemFault rate (columns_of rows) row k g → ⊥
-    by_fault (Columns j) g = true≢false (sym of_columns ∙ g.1)
-    by_fault (Id j) g = g.2 has_id
-    by_fault (Time j) g = g.3 named.item named.can named.row_is
-    by_fault (Twice j) g = g
-    by_fault (TooMany j) g = g
-    by_fault (Long j) g = g
-    by_fault Memory g = g
-    by_fault Read g = g
+    by_fault : (g : RowFault) → IsItemFault rate (columns_of rows) row g → ⊥
+    by_fault Columns g = true≢false (sym of_columns ∙ g)
+    by_fault Id g = g.1 has_id
+    by_fault Time g = g.2 named.item named.can named.row_is
+    by_fault other g = g
 
 -- ---- one fault
 
@@ -212,35 +210,31 @@ abbrev IsRefused : Rate → List FileRow → ℕ → ListFault → Type 0
 IsRefused rate rows k fault = RefusesRow (NameItems rate) (IsNextFault rate) rows k fault
 
 item_fault : (rate : Rate) (rows : List FileRow) (k : ℕ) (fault : ListFault) (h : IsRefused rate rows k fault)
-    → IsItemFault rate (columns_of rows) h.row k fault
+    → IsOfRow k (IsItemFault rate (columns_of rows) h.row) fault
 item_fault rate rows k fault h =
-    subst (λ n. IsItemFault rate n h.row k fault) (columns_at rows (k - 1) h.row h.next) h.refused
+    subst (λ n. IsOfRow k (IsItemFault rate n h.row) fault) (columns_at rows (k - 1) h.row h.next) h.refused
 
 one_row : (a b : FileRow) (o : Option FileRow) → o ≡ Some a → o ≡ Some b → a ≡ b
 one_row a b o e h = let same : ◌≡◌ {A = Option FileRow} (Some a) (Some b) = sym e ∙ h in cc same
 
 -- of one row
-same_fault : (rate : Rate) (columns k : ℕ) (row : FileRow) (a b : ListFault) → IsItemFault rate columns row k a
-    → IsItemFault rate columns row k b → a ≡ b
-same_fault rate columns k row (Columns i) (Columns j) f g = ap Columns (f.0 ∙ sym g.0)
-same_fault rate columns k row (Columns i) (Id j) f g = absurd (true≢false (sym g.1 ∙ f.1))
-same_fault rate columns k row (Columns i) (Time j) f g = absurd (true≢false (sym g.1 ∙ f.1))
-same_fault rate columns k row (Id i) (Columns j) f g = absurd (true≢false (sym f.1 ∙ g.1))
-same_fault rate columns k row (Id i) (Id j) f g = ap Id (f.0 ∙ sym g.0)
-same_fault rate columns k row (Id i) (Time j) f g = absurd (f.2 g.2)
-same_fault rate columns k row (Time i) (Columns j) f g = absurd (true≢false (sym f.1 ∙ g.1))
-same_fault rate columns k row (Time i) (Id j) f g = absurd (g.2 f.2)
-same_fault rate columns k row (Time i) (Time j) f g = ap Time (f.0 ∙ sym g.0)
-same_fault rate columns k row a (Twice j) f g = absurd g
-same_fault rate columns k row a (TooMany j) f g = absurd g
-same_fault rate columns k row a (Long j) f g = absurd g
-same_fault rate columns k row a Memory f g = absurd g
-same_fault rate columns k row a Read f g = absurd g
-same_fault rate columns k row (Twice i) b f g = absurd f
-same_fault rate columns k row (TooMany i) b f g = absurd f
-same_fault rate columns k row (Long j) b f g = absurd f
-same_fault rate columns k row Memory b f g = absurd f
-same_fault rate columns k row Read b f g = absurd f
+same_fault : (rate : Rate) (columns : ℕ) (row : FileRow) (a b : RowFault) → IsItemFault rate columns row a
+    → IsItemFault rate columns row b → a ≡ b
+same_fault rate columns row Columns Columns f g = refl
+same_fault rate columns row Columns Id f g = absurd (true≢false (sym g.0 ∙ f))
+same_fault rate columns row Columns Time f g = absurd (true≢false (sym g.0 ∙ f))
+same_fault rate columns row Id Columns f g = absurd (true≢false (sym f.0 ∙ g))
+same_fault rate columns row Id Id f g = refl
+same_fault rate columns row Id Time f g = absurd (f.1 g.1)
+same_fault rate columns row Time Columns f g = absurd (true≢false (sym f.0 ∙ g))
+same_fault rate columns row Time Id f g = absurd (g.1 f.1)
+same_fault rate columns row Time Time f g = refl
+same_fault rate columns row a Twice f g = absurd g
+same_fault rate columns row a TooMany f g = absurd g
+same_fault rate columns row a Long f g = absurd g
+same_fault rate columns row Twice b f g = absurd f
+same_fault rate columns row TooMany b f g = absurd f
+same_fault rate columns row Long b f g = absurd f
 
 earlier : (rate : Rate) (rows : List FileRow) (j k : ℕ) (a b : ListFault) → IsRefused rate rows j a
     → IsRefused rate rows k b → j < k → ⊥
@@ -257,8 +251,9 @@ at_one_row : (rate : Rate) (rows : List FileRow) (k : ℕ) (a b : ListFault) →
     → IsRefused rate rows k b → a ≡ b
 at_one_row rate rows k a b f g =
     let same = one_row g.row f.row (slice_get rows (k - 1)) g.next f.next in
-    same_fault rate (columns_of rows) k f.row a b (item_fault rate rows k a f)
-    (subst (λ r. IsItemFault rate (columns_of rows) r k b) same (item_fault rate rows k b g))
+    let (x, is, p) = item_fault rate rows k a f in
+    let (y, at, q) = subst (λ r. IsOfRow k (IsItemFault rate (columns_of rows) r) b) same (item_fault rate rows k b g) in
+    is ∙ ap (Row k) (same_fault rate (columns_of rows) f.row x y p q) ∙ sym at
 
 within : (rate : Rate) (rows : List FileRow) (k : ℕ) (a b : ListFault) → IsRefused rate rows k a
     → HasTooMany (NameItems rate) rows b → ⊥

@@ -12,8 +12,10 @@ use Rattle.vdcp_list.specs.Playlists.{CanName, IsItemFault, IsNextFault, IsPlayl
 use Rattle.vdcp_list.specs.Playlists.{columns_of, has_parts, is_of_columns, item_row, part_fields}
 use Rattle.vdcp_list.specs.Reading.{IsReadFault, IsRowsFault}
 use Rattle.vdcp_list.specs.Rows.{FileRow, most_rows}
-use Rattle.vdcp_list.specs.declared.faults.ListFault.TheVariants.{Columns, Id, Time, TooMany}
+use Rattle.vdcp_list.specs.declared.faults.ListFault.TheVariants.{Row}
 use Rattle.vdcp_list.specs.declared.faults.ListFault.{ListFault}
+use Rattle.vdcp_value.specs.declared.faults.RowFault.TheVariants.{Columns, Id, Time, TooMany}
+use Rattle.vdcp_value.specs.declared.faults.RowFault.{RowFault}
 use Rattle.vdcp_value.specs.Ids.{text_of_id}
 use Rattle.vdcp_value.specs.declared.clip_id.ClipId.{ClipId}
 use Rattle.vdcp_value.specs.declared.part.Item.{Item}
@@ -27,8 +29,12 @@ abbrev HasItem : Rate → ℕ → FileRow → Type 0
 HasItem rate columns row = (item : Item) × (item_row rate (has_parts columns) item ≡ row)
     × CanName rate (has_parts columns) item.part
 
+-- a fault that a row itself has: none of the reading
+abbrev pub IsOwnFault : RowFault → Type 0
+IsOwnFault fault = (k : ℕ) → ¬ IsReadFault (Row k fault)
+
 abbrev HasItemFault : Rate → ℕ → FileRow → Type 0
-HasItemFault rate columns row = (k : ℕ) → (fault : ListFault) × IsItemFault rate columns row k fault × ¬ IsReadFault fault
+HasItemFault rate columns row = (fault : RowFault) × IsItemFault rate columns row fault × IsOwnFault fault
 
 abbrev IsRead : Rate → ℕ → FileRow → Type 0
 IsRead rate columns row = HasItem rate columns row ⊎ HasItemFault rate columns row
@@ -46,7 +52,7 @@ read_whole v rate (first ∷ []) size = by (id_or_none v.ids first)
   where
     by : IsIds first → IsRead rate 1 (first ∷ [])
     by (inl (id, e)) = inl (item_with id None, ap (λ (t : List ℕ). t ∷ []) (sym e), tt)
-    by (inr n) = inr (λ k. (Id k, (refl, refl, λ h. n h.0 (one_some first (text_of_id h.0) h.1)), λ h. h))
+    by (inr n) = inr (Id, (refl, λ h. n h.0 (one_some first (text_of_id h.0) h.1)), λ k h. h)
 
 read_part : FieldLaws → (rate : Rate) (row : FileRow) → length row ≡ 3 → IsRead rate 3 row
 read_part v rate [] size = absurd (omega (arith, size))
@@ -59,19 +65,18 @@ read_part v rate (first ∷ start ∷ duration ∷ []) size = by (id_or_none v.i
     by (inl (id, e)) (inl (part, f, can)) =
         inl (item_with id part, ap₂ (λ (t : List ℕ) (r : FileRow). t ∷ r) (sym e) f, can)
     by (inl (id, e)) (inr n) =
-        inr (λ k. (
-          Time k,
+        inr (
+          Time,
           (
-            refl,
             refl,
             (id, ap Some e),
             λ item can f.
                 n item.part can (tails (text_of_id item.id) first (part_fields rate item.part) (start ∷ duration ∷ [])
                 f),
           ),
-          λ h. h,
-        ))
-    by (inr n) p = inr (λ k. (Id k, (refl, refl, λ h. n h.0 (one_some first (text_of_id h.0) h.1)), λ h. h))
+          λ k h. h,
+        )
+    by (inr n) p = inr (Id, (refl, λ h. n h.0 (one_some first (text_of_id h.0) h.1)), λ k h. h)
 
 abbrev IsSized : ℕ → FileRow → ℕ → Type 0
 IsSized columns row n = (length row ≡ columns) × (columns ≡ n)
@@ -96,7 +101,7 @@ read_row v rate columns row = by (sizes columns row)
     by : (IsSized columns row 1 ⊎ IsSized columns row 3) ⊎ (is_of_columns columns row ≡ false) → IsRead rate columns row
     by (inl (inl (size, one))) = subst (λ n. IsRead rate n row) (sym one) (read_whole v rate row (size ∙ one))
     by (inl (inr (size, three))) = subst (λ n. IsRead rate n row) (sym three) (read_part v rate row (size ∙ three))
-    by (inr other) = inr (λ k. (Columns k, (refl, other), λ h. h))
+    by (inr other) = inr (Columns, other, λ k h. h)
 
 -- ---- all rows
 
@@ -117,7 +122,7 @@ IsReadAll IsFine Refuses rows =
 abbrev pub IsReadNext : Fine → Refusal → List FileRow → FileRow → Type 0
 IsReadNext IsFine Refuses front row =
     IsFine (front ++ row ∷ [])
-    ⊎ ((fault : ListFault) × Refuses front row (length front + 1) fault × ¬ IsReadFault fault)
+    ⊎ ((fault : RowFault) × Refuses front row fault × IsOwnFault fault)
 
 read_from : (IsFine : Fine) (Refuses : Refusal)
     → ((front : List FileRow) (row : FileRow) → IsFine front → IsReadNext IsFine Refuses front row)
@@ -137,16 +142,17 @@ read_from IsFine Refuses step rows front (row ∷ left) is few fine =
         → (length (front ++ row ∷ []) ≤ most_rows → IsFine (front ++ row ∷ []) → IsReadAll IsFine Refuses rows)
         → IsReadAll IsFine Refuses rows
     by (inr full) r next =
-        inr (TooMany (most_rows + 1), inr (inl (too_many IsFine front rows row (left, begins) full fine)), λ h. h)
+        inr (Row (most_rows + 1) TooMany, inr (inl (too_many IsFine front rows row (left, begins) full fine)), λ h. h)
     by (inl below) (inl more) next = next (let size = one_more front row in omega (arith, size, below)) more
     by (inl below) (inr (fault, f, other)) next =
         inr (
-          fault,
+          Row (length front + 1) fault,
           inr (inr (
             length front + 1,
-            refused_row IsFine Refuses front rows row fault (left, begins) below fine f,
+            refused_row IsFine Refuses front rows row (Row (length front + 1) fault) (left, begins) below fine
+                (fault, refl, f),
           )),
-          other,
+          other (length front + 1),
         )
 
 -- so rows are fine, or they have a fault
@@ -172,7 +178,7 @@ has_reading v rate rows = by (read_all (NameItems rate) (IsNextFault rate) step 
               names_push rate (has_parts (columns_of (front ++ row ∷ []))) front items row item
                   (named_now rate front row items named) e can,
             )
-        next (inr f) = inr (f (length front + 1))
+        next (inr f) = inr f
 
     by : IsReadAll (NameItems rate) (IsNextFault rate) rows
         → ((items : List Item) × IsPlaylist rate rows items)

@@ -3,10 +3,12 @@ use Rattle.std.proofs.Common.{◌≡◌, ℕ, ◌+◌, ◌-◌, ◌<◌, ◌≤�
 use Rattle.std.proofs.Common.{append-nil, inl, inr}
 use Rattle.std.proofs.lemmas.List.{length-append}
 use Rattle.std.specs.Prelude.{◌⊎◌, Option, None, Some, option_map, slice_get}
-use Rattle.vdcp_list.specs.Reading.{HasTooMany, IsFront, IsReadFault, IsRowsFault, RefusesRow, TakesRow}
+use Rattle.vdcp_list.specs.Reading.{HasTooMany, IsFront, IsOfRow, IsReadFault, IsRowsFault, RefusesRow, TakesRow}
 use Rattle.vdcp_list.specs.Rows.{AreRowsOf, FileRow, HasRows, most_rows, rows_of}
-use Rattle.vdcp_list.specs.declared.faults.ListFault.TheVariants.{TooMany}
+use Rattle.vdcp_list.specs.declared.faults.ListFault.TheVariants.{Row}
 use Rattle.vdcp_list.specs.declared.faults.ListFault.{ListFault}
+use Rattle.vdcp_value.specs.declared.faults.RowFault.TheVariants.{TooMany}
+use Rattle.vdcp_value.specs.declared.faults.RowFault.{RowFault}
 
 -- before the first read no row was read
 pub front_first : (all : Option (List FileRow)) → IsFront all all []
@@ -70,11 +72,11 @@ abbrev pub Fine : Type 1
 Fine = List FileRow → Type 0
 
 abbrev pub Refusal : Type 1
-Refusal = List FileRow → FileRow → ℕ → ListFault → Type 0
+Refusal = List FileRow → FileRow → RowFault → Type 0
 
 pub refused_row : (IsFine : Fine) (Refuses : Refusal) (front rows : List FileRow) (row : FileRow) (fault : ListFault)
     → Begins (front ++ row ∷ []) rows → length front < most_rows → IsFine front
-    → Refuses front row (length front + 1) fault → RefusesRow IsFine Refuses rows (length front + 1) fault
+    → IsOfRow (length front + 1) (Refuses front row) fault → RefusesRow IsFine Refuses rows (length front + 1) fault
 refused_row IsFine Refuses front rows row fault b few fine refused =
     let s = next_of front rows row b in
     let back : length front + 1 - 1 ≡ length front = omega arith in
@@ -85,11 +87,11 @@ refused_row IsFine Refuses front rows row fault b few fine refused =
       fine = subst IsFine (sym before) fine;
       row = row;
       next = ap (slice_get rows) back ∙ s.here;
-      refused = subst (λ fs. Refuses fs row (length front + 1) fault) (sym before) refused;
+      refused = subst (λ fs. IsOfRow (length front + 1) (Refuses fs row) fault) (sym before) refused;
     }
 
 pub too_many : (IsFine : Fine) (front rows : List FileRow) (row : FileRow) → Begins (front ++ row ∷ []) rows
-    → length front ≡ most_rows → IsFine front → HasTooMany IsFine rows (TooMany (most_rows + 1))
+    → length front ≡ most_rows → IsFine front → HasTooMany IsFine rows (Row (most_rows + 1) TooMany)
 too_many IsFine front rows row b full fine =
     let s = next_of front rows row b in
     record {
@@ -139,7 +141,7 @@ pub read_refused : (IsFine : Fine) (Refuses : Refusal) (Holds : Fine) (file : Op
     → ((front : List FileRow) → Holds front → IsFine front) → ReadSoFar Holds file left n
     → TakesRow left left' true row → n < most_rows
     → ((front : List FileRow) → Holds front → n + 1 ≡ length front + 1
-    → IsReadFault fault ⊎ Refuses front row (n + 1) fault)
+    → IsReadFault fault ⊎ IsOfRow (n + 1) (Refuses front row) fault)
     → HasRows file (λ rows. IsRowsFault IsFine Refuses rows fault)
 read_refused IsFine Refuses Holds file left left' n row fault fine h t few refused =
     let (rows, are, b) = front_begins file left' (h.front ++ row ∷ [])
@@ -147,13 +149,13 @@ read_refused IsFine Refuses Holds file left left' n row fault fine h t few refus
     (rows, are, by rows b (refused h.front h.holds (omega (arith, h.size))))
   where
     by : (rows : List FileRow) → Begins (h.front ++ row ∷ []) rows
-        → IsReadFault fault ⊎ Refuses h.front row (n + 1) fault → IsRowsFault IsFine Refuses rows fault
+        → IsReadFault fault ⊎ IsOfRow (n + 1) (Refuses h.front row) fault → IsRowsFault IsFine Refuses rows fault
     by rows b (inl failed) = inl failed
     by rows b (inr f) =
         inr (inr (
           length h.front + 1,
           refused_row IsFine Refuses h.front rows row fault b (subst (λ m. m < most_rows) h.size few)
-              (fine h.front h.holds) (subst (λ m. Refuses h.front row (m + 1) fault) h.size f),
+              (fine h.front h.holds) (subst (λ m. IsOfRow (m + 1) (Refuses h.front row) fault) h.size f),
         ))
 
 -- there is a row too many
@@ -161,7 +163,7 @@ pub read_too_many : (IsFine : Fine) (Refuses : Refusal) (Holds : Fine) (file : O
     → (left left' : Option (List FileRow)) (n : ℕ) (row : FileRow)
     → ((front : List FileRow) → Holds front → IsFine front) → ReadSoFar Holds file left n
     → TakesRow left left' true row → n ≡ most_rows
-    → HasRows file (λ rows. IsRowsFault IsFine Refuses rows (TooMany (most_rows + 1)))
+    → HasRows file (λ rows. IsRowsFault IsFine Refuses rows (Row (most_rows + 1) TooMany))
 read_too_many IsFine Refuses Holds file left left' n row fine h t full =
     let (rows, are, b) = front_begins file left' (h.front ++ row ∷ [])
     (front_next (option_map rows_of file) left left' h.front row h.is_front t) in

@@ -3,8 +3,9 @@ use Rattle.std.specs.List.{IsDistinct}
 use Rattle.std.specs.Prelude.{ℕ, ◌≤◌, ◌≡◌, ◌≢◌, Option, Some, List, [], ◌∷◌, All, Contains, map, length, slice_get}
 use Rattle.vdcp_list.specs.Reading.{IsRowsFault}
 use Rattle.vdcp_list.specs.Rows.{FileRow, HasId, HasRows, most_rows}
-use Rattle.vdcp_list.specs.declared.faults.ListFault.TheVariants.{Columns, Id, Time, Twice, TooMany, Long, Memory, Read}
 use Rattle.vdcp_list.specs.declared.faults.ListFault.{ListFault}
+use Rattle.vdcp_value.specs.declared.faults.RowFault.TheVariants.{Columns, Id, Time, Twice}
+use Rattle.vdcp_value.specs.declared.faults.RowFault.{RowFault}
 use Rattle.vdcp_value.specs.Ids.{is_same_id, text_of_id}
 use Rattle.vdcp_value.specs.Timecodes.{frames_of, rate_of, text_of}
 use Rattle.vdcp_value.specs.declared.clip_id.ClipId.{ClipId}
@@ -41,17 +42,14 @@ IsNoClip rate row = (clip : ClipId × Timecode) → CanLast rate clip.1 → clip
 abbrev pub StandsIn : List FileRow → ClipId → Type 0
 StandsIn rows id = Contains (map (λ row. slice_get row 0) rows) (Some (text_of_id id))
 
--- why row k of a catalogue is refused after those before it: the first that applies
-abbrev pub IsClipFault : Rate → List FileRow → FileRow → ℕ → ListFault → Type 0
-IsClipFault rate before row k (Columns j) = (j ≡ k) × (length row ≢ 2)
-IsClipFault rate before row k (Id j) = (j ≡ k) × (length row ≡ 2) × ¬ HasId row
-IsClipFault rate before row k (Time j) = (j ≡ k) × (length row ≡ 2) × HasId row × IsNoClip rate row
-IsClipFault rate before row k (Twice j) =
-    (j ≡ k) × (clip : ClipId × Timecode) × (clip_row clip ≡ row) × CanLast rate clip.1 × StandsIn before clip.0
-IsClipFault rate before row k (TooMany j) = ⊥
-IsClipFault rate before row k (Long j) = ⊥
-IsClipFault rate before row k Memory = ⊥
-IsClipFault rate before row k Read = ⊥
+-- why a row of a catalogue is refused after those before it: the first that applies
+abbrev pub IsClipFault : Rate → List FileRow → FileRow → RowFault → Type 0
+IsClipFault rate before row Columns = length row ≢ 2
+IsClipFault rate before row Id = (length row ≡ 2) × ¬ HasId row
+IsClipFault rate before row Time = (length row ≡ 2) × HasId row × IsNoClip rate row
+IsClipFault rate before row Twice =
+    (clip : ClipId × Timecode) × (clip_row clip ≡ row) × CanLast rate clip.1 × StandsIn before clip.0
+IsClipFault rate before row fault = ⊥
 
 -- these rows give clips
 abbrev pub GiveClips : Rate → List FileRow → Type 0

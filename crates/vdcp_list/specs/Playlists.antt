@@ -2,8 +2,9 @@
 use Rattle.std.specs.Prelude.{ℕ, ◌≤◌, ◌≡◌, ◌≢◌, ◌==◌, ◌&&◌, ◌||◌, ⊤, Bool, true, false, IsTrue, IsFalse, List, [], ◌∷◌, ◌++◌, All, map, length, Option, None, Some}
 use Rattle.vdcp_list.specs.Reading.{IsRowsFault}
 use Rattle.vdcp_list.specs.Rows.{FileRow, HasId, HasRows, most_rows}
-use Rattle.vdcp_list.specs.declared.faults.ListFault.TheVariants.{Columns, Id, Time, Twice, TooMany, Long, Memory, Read}
 use Rattle.vdcp_list.specs.declared.faults.ListFault.{ListFault}
+use Rattle.vdcp_value.specs.declared.faults.RowFault.TheVariants.{Columns, Id, Time}
+use Rattle.vdcp_value.specs.declared.faults.RowFault.{RowFault}
 use Rattle.vdcp_value.specs.Bcd.{is_time, label_of_bcd, frames_in}
 use Rattle.vdcp_value.specs.Ids.{text_of_id}
 use Rattle.vdcp_value.specs.LabelText.{label_text}
@@ -58,26 +59,22 @@ pub record IsPlaylist (rate : Rate) (rows : List FileRow) (items : List Item) : 
   pub few : length rows ≤ most_rows
   pub named : Names rate (has_parts (columns_of rows)) rows items
 
--- why a row of a playlist is refused: the first that applies, row k being the one at hand
-abbrev pub IsItemFault : Rate → ℕ → FileRow → ℕ → ListFault → Type 0
-IsItemFault rate columns row k (Columns j) = (j ≡ k) × IsFalse (is_of_columns columns row)
-IsItemFault rate columns row k (Id j) = (j ≡ k) × IsTrue (is_of_columns columns row) × ¬ HasId row
-IsItemFault rate columns row k (Time j) =
-    (j ≡ k) × IsTrue (is_of_columns columns row) × HasId row
+-- why a row of a playlist is refused: the first that applies
+abbrev pub IsItemFault : Rate → ℕ → FileRow → RowFault → Type 0
+IsItemFault rate columns row Columns = IsFalse (is_of_columns columns row)
+IsItemFault rate columns row Id = IsTrue (is_of_columns columns row) × ¬ HasId row
+IsItemFault rate columns row Time =
+    IsTrue (is_of_columns columns row) × HasId row
     × ((item : Item) → CanName rate (has_parts columns) item.part → item_row rate (has_parts columns) item ≢ row)
-IsItemFault rate columns row k (Twice j) = ⊥
-IsItemFault rate columns row k (TooMany j) = ⊥
-IsItemFault rate columns row k (Long j) = ⊥
-IsItemFault rate columns row k Memory = ⊥
-IsItemFault rate columns row k Read = ⊥
+IsItemFault rate columns row fault = ⊥
 
 -- these rows name items
 abbrev pub NameItems : Rate → List FileRow → Type 0
 NameItems rate rows = (items : List Item) × Names rate (has_parts (columns_of rows)) rows items
 
--- why row k is refused after those before it
-abbrev pub IsNextFault : Rate → List FileRow → FileRow → ℕ → ListFault → Type 0
-IsNextFault rate before row k fault = IsItemFault rate (columns_of (before ++ row ∷ [])) row k fault
+-- why a row is refused after those before it
+abbrev pub IsNextFault : Rate → List FileRow → FileRow → RowFault → Type 0
+IsNextFault rate before row fault = IsItemFault rate (columns_of (before ++ row ∷ [])) row fault
 
 -- why the rows are no playlist
 abbrev pub IsPlaylistFault : Rate → List FileRow → ListFault → Type 0

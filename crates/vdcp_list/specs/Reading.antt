@@ -6,8 +6,10 @@ use Rattle.csv.specs.declared.reader.Reader.{Reader}
 use Rattle.csv.specs.declared.reader.Trim.TheVariants as trim
 use Rattle.std.specs.Prelude.{ℕ, ◌+◌, ◌-◌, ◌<◌, ◌≤◌, ◌≡◌, ◌⊎◌, ⊤, Bool, true, false, List, [], ◌∷◌, ◌++◌, Option, None, Some, length, option_map, slice_get, take}
 use Rattle.vdcp_list.specs.Rows.{FileRow, most_rows, rows_from}
-use Rattle.vdcp_list.specs.declared.faults.ListFault.TheVariants.{Columns, Id, Time, Twice, TooMany, Long, Memory, Read}
+use Rattle.vdcp_list.specs.declared.faults.ListFault.TheVariants.{Memory, Read, Row}
 use Rattle.vdcp_list.specs.declared.faults.ListFault.{ListFault}
+use Rattle.vdcp_value.specs.declared.faults.RowFault.TheVariants.{Long, TooMany}
+use Rattle.vdcp_value.specs.declared.faults.RowFault.{RowFault}
 use Rattle.vdcp_list.specs.declared.bounded.Bounded.{Bounded}
 
 -- the reader gives rows of any length, as they stand, and none is a header
@@ -34,33 +36,33 @@ IsFront (Some rows) left front = (more : List FileRow) × (left ≡ Some more) �
 
 -- a fault of the reading: a row that is too long, or the reader or memory failed
 abbrev pub IsReadFault : ListFault → Type 0
-IsReadFault (Columns k) = ⊥
-IsReadFault (Id k) = ⊥
-IsReadFault (Time k) = ⊥
-IsReadFault (Twice k) = ⊥
-IsReadFault (TooMany k) = ⊥
-IsReadFault (Long j) = ⊤
+IsReadFault (Row k Long) = ⊤
+IsReadFault (Row k fault) = ⊥
 IsReadFault Memory = ⊤
 IsReadFault Read = ⊤
 
+-- a fault of this row, of which this holds
+abbrev pub IsOfRow : ℕ → (RowFault → Type 0) → ListFault → Type 0
+IsOfRow k Is fault = (wrong : RowFault) × (fault ≡ Row k wrong) × Is wrong
+
 -- row k, counted from 1, is refused, after rows that are fine
-pub record RefusesRow (IsFine : List FileRow → Type 0) (Refuses : List FileRow → FileRow → ℕ → ListFault → Type 0)
+pub record RefusesRow (IsFine : List FileRow → Type 0) (Refuses : List FileRow → FileRow → RowFault → Type 0)
     (rows : List FileRow) (k : ℕ) (fault : ListFault) : Type 0 where
   pub counted : 1 ≤ k
   pub within : k ≤ most_rows
   pub fine : IsFine (take (k - 1) rows)
   pub row : FileRow
   pub next : slice_get rows (k - 1) ≡ Some row
-  pub refused : Refuses (take (k - 1) rows) row k fault
+  pub refused : IsOfRow k (Refuses (take (k - 1) rows) row) fault
 
 -- the first row past the limit is refused, after rows that are fine
 pub record HasTooMany (IsFine : List FileRow → Type 0) (rows : List FileRow) (fault : ListFault) : Type 0 where
-  pub fault_is : fault ≡ TooMany (most_rows + 1)
+  pub fault_is : fault ≡ Row (most_rows + 1) TooMany
   pub many : most_rows < length rows
   pub fine : IsFine (take most_rows rows)
 
 -- why rows aren't fine: they are tested one after another, each after those before it, and the first refusal counts
-abbrev pub IsRowsFault : (List FileRow → Type 0) → (List FileRow → FileRow → ℕ → ListFault → Type 0) → List FileRow
+abbrev pub IsRowsFault : (List FileRow → Type 0) → (List FileRow → FileRow → RowFault → Type 0) → List FileRow
     → ListFault → Type 0
 IsRowsFault IsFine Refuses rows fault =
     IsReadFault fault ⊎ (HasTooMany IsFine rows fault ⊎ ((k : ℕ) × RefusesRow IsFine Refuses rows k fault))

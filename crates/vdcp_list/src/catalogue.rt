@@ -2,6 +2,7 @@
 ghost use Rattle.csv.specs.Records.{fields_of};
 ghost use Rattle.std.specs.Prelude.{◌≡◌, ◌≢◌, [], ◌∷◌, IfErr, IfNone, IfOk, IfSome, List, drop, length};
 ghost use Rattle.vdcp_list.specs.Catalogues.{CanLast, IsCatalogueFaultOf, IsCatalogueOf, IsClipFault, clip_row};
+ghost use Rattle.vdcp_list.specs.Reading.{IsOfRow};
 ghost use Rattle.vdcp_list.specs.Rows.{FileRow};
 ghost use Rattle.vdcp_value.specs.Timecodes.{text_of};
 ghost use Rattle.vdcp_value.specs.declared.timecode.Timecode.{Timecode};
@@ -14,22 +15,22 @@ use csv::ByteRecord;
 use std::alloc::Global;
 use std::io::Read;
 use vdcp_value::laws::{a_time_code_is_one, an_id_is_its_bytes};
-use vdcp_value::{ClipId, Rate, Timecode};
+use vdcp_value::{ClipId, Rate, RowFault, Timecode};
 
 /// The clip of a catalogue's row.
 fn clip_in(row: &ByteRecord, rate: Rate, place: usize) -> Result<(ClipId, Timecode), ListFault>
     ensures row { IfOk result (λ clip. clip_row clip ≡ fields_of row.now) }
     ensures can_last { IfOk result (λ clip. CanLast rate clip.1) }
-    ensures fault { (before : List FileRow) → IfErr result (IsClipFault rate before (fields_of row.now) place) }
+    ensures fault { (before : List FileRow) → IfErr result (IsOfRow place (IsClipFault rate before (fields_of row.now))) }
 {
     if row.len() != 2 {
-        return Err(ListFault::Columns(place));
+        return Err(ListFault::Row(place, RowFault::Columns));
     }
     let Some(id) = first_id(row) else {
-        return Err(ListFault::Id(place));
+        return Err(ListFault::Row(place, RowFault::Id));
     };
     let Some(length) = last_length(row, rate) else {
-        return Err(ListFault::Time(place));
+        return Err(ListFault::Row(place, RowFault::Time));
     };
     Ok((id, length))
 }
@@ -87,7 +88,7 @@ impl MadeOfRows for Table {
         let (id, length) = clip_in(row, rate, place)?;
         match self.add(id, length) {
             Ok(true) => Ok(()),
-            Ok(false) => Err(ListFault::Twice(place)),
+            Ok(false) => Err(ListFault::Row(place, RowFault::Twice)),
             Err(_) => Err(ListFault::Memory),
         }
     }

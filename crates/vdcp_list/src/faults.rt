@@ -1,28 +1,13 @@
 //! Why a list isn't read or written, or a clip not added.
 use thiserror::Error;
+use vdcp_value::RowFault;
 
-/// Why a playlist or a catalogue is refused. Rows are tested one after another and count from 1, and
-/// the first refusal is given; within a row the order is `Long`, `TooMany`, `Columns`, `Id`, `Time`, `Twice`.
+/// Why a playlist or a catalogue is refused. Rows are tested one after another, and the first refusal is given.
 #[derive(Clone, Copy, Debug, PartialEq, Eq, Error)]
 pub enum ListFault {
-    /// The row has another number of fields than it has to have.
-    #[error("row {0} has a wrong number of fields")]
-    Columns(usize),
-    /// The row's first field is no ID's text.
-    #[error("row {0} has no clip id")]
-    Id(usize),
-    /// The row has a bad time code, or one of frame 0 if a length is meant.
-    #[error("row {0} has no time code that it can have")]
-    Time(usize),
-    /// The row's ID stands in an earlier row. Of a catalogue only.
-    #[error("row {0} has the clip id of an earlier row")]
-    Twice(usize),
-    /// The first row past the limit of 10,000.
-    #[error("row {0} is one too many")]
-    TooMany(usize),
-    /// The row has more than 64 KiB, and isn't read to its end.
-    #[error("row {0} is too long")]
-    Long(usize),
+    /// A row, counted from 1, is refused.
+    #[error("row {0} {1}")]
+    Row(usize, RowFault),
     #[error("out of memory")]
     Memory,
     /// The reader failed.

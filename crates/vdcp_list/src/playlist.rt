@@ -3,6 +3,7 @@ ghost use Rattle.csv.specs.Records.{fields_of};
 ghost use Rattle.std.specs.Prelude.{◌≡◌, ◌≢◌, [], ◌∷◌, drop, length, true, IfErr, IfNone, IfOk, IfSome, Option, Some, slice_get};
 ghost use Rattle.vdcp_list.specs.Playlists.{CanName, IsItemFault, IsListFaultOf, IsListOf, has_parts, item_row, part_fields};
 ghost use Rattle.vdcp_list.specs.List.{items_of};
+ghost use Rattle.vdcp_list.specs.Reading.{IsOfRow};
 ghost use Rattle.vdcp_value.specs.Ids.{text_of_id};
 ghost use Rattle.vdcp_value.specs.declared.part.Part.{Part};
 
@@ -13,27 +14,27 @@ use crate::rows::{MadeOfRows, made_of};
 use csv::ByteRecord;
 use std::alloc::Global;
 use std::io::Read;
-use vdcp_value::{Item, Part, Rate};
+use vdcp_value::{Item, Part, Rate, RowFault};
 
 /// The item of a playlist's row.
 fn item_in(row: &ByteRecord, columns: usize, rate: Rate, place: usize) -> Result<Item, ListFault>
     ensures row { IfOk result (λ item. item_row rate (has_parts columns) item ≡ fields_of row.now) }
     ensures can_name { IfOk result (λ item. CanName rate (has_parts columns) item.part) }
     ensures id { IfOk result (λ item. slice_get (fields_of row.now) 0 ≡ Some (text_of_id item.id)) }
-    ensures fault { IfErr result (IsItemFault rate columns (fields_of row.now) place) }
+    ensures fault { IfErr result (IsOfRow place (IsItemFault rate columns (fields_of row.now))) }
 {
     if row.len() != columns || columns != 1 && columns != 3 {
-        return Err(ListFault::Columns(place));
+        return Err(ListFault::Row(place, RowFault::Columns));
     }
     let Some(id) = first_id(row) else {
-        return Err(ListFault::Id(place));
+        return Err(ListFault::Row(place, RowFault::Id));
     };
     if columns == 1 {
         return Ok(Item { id, part: None });
     }
     match last_part(row, rate) {
         Some(part) => Ok(Item { id, part }),
-        None => Err(ListFault::Time(place)),
+        None => Err(ListFault::Row(place, RowFault::Time)),
     }
 }
 

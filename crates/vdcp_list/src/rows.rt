@@ -2,7 +2,7 @@
 ghost use Rattle.csv.specs.Reading.{error_kind};
 ghost use Rattle.csv.specs.Records.{fields_of};
 ghost use Rattle.std.specs.Prelude.{◌≡◌, ◌≤◌, ◌⊎◌, ◌+◌, ◌++◌, ◌∷◌, [], true, IfErr, IfOk, List, OnOk, length, option_map};
-ghost use Rattle.vdcp_list.specs.Reading.{IsReadFault, IsRowsFault, IsSet, TakesRow, fault_of_kind, rows_left};
+ghost use Rattle.vdcp_list.specs.Reading.{IsOfRow, IsReadFault, IsRowsFault, IsSet, TakesRow, fault_of_kind, rows_left};
 ghost use Rattle.vdcp_list.specs.Rows.{FileBytes, FileRow, HasRows, most_rows, rows_of};
 
 use crate::bounded::{Bounded, LONGEST_ROW};
@@ -10,7 +10,7 @@ use crate::faults::ListFault;
 use csv::{ByteRecord, Error, ErrorKind, Position, Reader, ReaderBuilder};
 use std::alloc::Global;
 use std::io::Read;
-use vdcp_value::Rate;
+use vdcp_value::{Rate, RowFault};
 
 /// How many rows a file has at most.
 pub const MAX_ROWS: usize = 10_000;
@@ -31,7 +31,7 @@ pub fn rows_in<R: Read>(alloc: Global, source: R) -> Reader<Bounded<R>>
 /// Takes the next row into `row`, in place of the one that was there, and says whether there was one.
 /// Only `row` takes memory: it grows to the longest row that it held, and no row has more than 64 KiB.
 ///
-/// `Long` is reported, with the row's number, if one has more; `Memory` if such a growth was refused, and `Read` if
+/// A row that has more is reported as `Long`; `Memory` if such a growth was refused, and `Read` if
 /// the source failed. After each of these, and if there was no row, the reader isn't read again.
 pub fn next_row<R: Read>(
     reader: &mut Reader<Bounded<R>>,
@@ -46,18 +46,18 @@ pub fn next_row<R: Read>(
     let before = reader.position();
     reader.get_ref().begin_row();
     match reader.read_byte_record(row) {
-        Ok(_) if is_long(before, reader.position()) => Err(ListFault::Long(number_after(before))),
+        Ok(_) if is_long(before, reader.position()) => Err(long_row(before)),
         Ok(found) => Ok(found),
-        Err(_) if reader.get_ref().is_spent() => Err(ListFault::Long(number_after(before))),
+        Err(_) if reader.get_ref().is_spent() => Err(long_row(before)),
         Err(error) => Err(fault_of(error)),
     }
 }
 
 /// What the rows of a file make, one after another.
 pub(crate) trait MadeOfRows {
-    ghost use Rattle.std.specs.Prelude.{List, ℕ};
+    ghost use Rattle.std.specs.Prelude.{List};
     ghost use Rattle.vdcp_list.specs.Rows.{FileRow};
-    ghost use Rattle.vdcp_list.specs.declared.faults.ListFault.{ListFault};
+    ghost use Rattle.vdcp_value.specs.declared.faults.RowFault.{RowFault};
     ghost use Rattle.vdcp_value.specs.declared.rate.Rate.{Rate};
 
     /// These rows make this, at a rate.
@@ -66,15 +66,15 @@ pub(crate) trait MadeOfRows {
     /// These rows make something.
     ghost make_some: { Rate → List FileRow → Type 0 };
 
-    /// The row of this number is refused after these ones.
-    ghost refuses: { Rate → List FileRow → FileRow → ℕ → ListFault → Type 0 };
+    /// The row is refused after these ones.
+    ghost refuses: { Rate → List FileRow → FileRow → RowFault → Type 0 };
 
     /// Adds what the row of this number, from 1, makes.
     fn add_row(&mut self, row: &ByteRecord, rate: Rate, place: usize) -> Result<(), ListFault>
         ensures made { (before : List FileRow) → makes rate before self.old → place ≡ length before + 1
             → OnOk result (makes rate (before ++ fields_of row.now ∷ []) self.new) }
         ensures refused { (before : List FileRow) → makes rate before self.old → place ≡ length before + 1
-            → IfErr result (λ fault. IsReadFault fault ⊎ refuses rate before (fields_of row.now) place fault) };
+            → IfErr result (λ fault. IsReadFault fault ⊎ IsOfRow place (refuses rate before (fields_of row.now)) fault) };
 
     ghost makes_some: { (rate : Rate) (rows : List FileRow) (made : Self) → makes rate rows made → make_some rate rows };
 }
@@ -122,7 +122,7 @@ fn add_rows<R: Read, M: MadeOfRows>(
         made.add_row(row, rate, read + 1)?;
     }
     if next_row(rows, row)? {
-        return Err(ListFault::TooMany(MAX_ROWS + 1));
+        return Err(ListFault::Row(MAX_ROWS + 1, RowFault::TooMany));
     }
     Ok(())
 }
@@ -132,9 +132,11 @@ fn is_long(start: Position, end: Position) -> bool {
     end.byte().saturating_sub(start.byte()) > LONGEST_ROW as u64
 }
 
-// The number, from 1, of the row that begins there.
-fn number_after(place: Position) -> usize {
-    (place.record() as usize).saturating_add(1)
+// The row that begins there is too long. Rows are counted from 1.
+fn long_row(place: Position) -> ListFault
+    ensures { IsReadFault result }
+{
+    ListFault::Row((place.record() as usize).saturating_add(1), RowFault::Long)
 }
 
 // Maps a `csv` error to a `ListFault`.

@@ -3,6 +3,7 @@ use std::alloc::AllocError;
 use std::fmt;
 use std::process::Abort;
 use vdcp_list::{ListFault, SlotFault, WriteFault};
+use vdcp_value::RowFault;
 
 /// The places of two values that are equal where they shouldn't be, or unequal where they should.
 fn wrong_pair<T: PartialEq>(values: &[T]) -> Option<(usize, usize)> {
@@ -22,16 +23,16 @@ fn are_all_different<T: PartialEq>(rt: &impl Abort, values: &[T]) {
 }
 
 static LIST_FAULTS: [ListFault; 12] = [
-    ListFault::Columns(1),
-    ListFault::Columns(2),
-    ListFault::Id(1),
-    ListFault::Id(2),
-    ListFault::Time(1),
-    ListFault::Time(2),
-    ListFault::Twice(1),
-    ListFault::Twice(2),
-    ListFault::TooMany(1),
-    ListFault::TooMany(2),
+    ListFault::Row(1, RowFault::Columns),
+    ListFault::Row(2, RowFault::Columns),
+    ListFault::Row(1, RowFault::Id),
+    ListFault::Row(2, RowFault::Id),
+    ListFault::Row(1, RowFault::Time),
+    ListFault::Row(2, RowFault::Time),
+    ListFault::Row(1, RowFault::Twice),
+    ListFault::Row(2, RowFault::Twice),
+    ListFault::Row(1, RowFault::TooMany),
+    ListFault::Row(2, RowFault::TooMany),
     ListFault::Memory,
     ListFault::Read,
 ];
@@ -64,17 +65,23 @@ fn are_worded<F: fmt::Display + Copy + Drop>(
 }
 
 static LIST_TEXTS: [(ListFault, &str); 7] = [
-    (ListFault::Columns(2), "row 2 has a wrong number of fields"),
-    (ListFault::Id(3), "row 3 has no clip id"),
     (
-        ListFault::Time(4),
+        ListFault::Row(2, RowFault::Columns),
+        "row 2 has a wrong number of fields",
+    ),
+    (ListFault::Row(3, RowFault::Id), "row 3 has no clip id"),
+    (
+        ListFault::Row(4, RowFault::Time),
         "row 4 has no time code that it can have",
     ),
     (
-        ListFault::Twice(5),
+        ListFault::Row(5, RowFault::Twice),
         "row 5 has the clip id of an earlier row",
     ),
-    (ListFault::TooMany(10_001), "row 10001 is one too many"),
+    (
+        ListFault::Row(10_001, RowFault::TooMany),
+        "row 10001 is one too many",
+    ),
     (ListFault::Memory, "out of memory"),
     (ListFault::Read, "the reader failed"),
 ];

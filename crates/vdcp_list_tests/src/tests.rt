@@ -14,7 +14,9 @@ use vdcp_list::{
     rows_in,
 };
 use vdcp_port::Catalogue;
-use vdcp_value::{ClipId, Item, Part, Rate, Timecode};
+use vdcp_value::{ClipId, Item, Part, Rate, RowFault, Timecode};
+
+static TOO_MANY: ListFault = ListFault::Row(10_001, RowFault::TooMany);
 
 fn clip(name: &[u8; 8]) -> ClipId {
     ClipId::new(*name)
@@ -120,27 +122,28 @@ fn playlists_are_read(rt: HostRuntime) -> Result<(), Fail> {
     Ok(())
 }
 
-static REFUSED_PLAYLISTS: [(&[u8], ListFault); 15] = [
-    (b"CLIP0001\nCLIP0002,,\n", ListFault::Columns(2)),
-    (b"CLIP0002,,\nCLIP0001\n", ListFault::Columns(2)),
-    (b"CLIP0001,\n", ListFault::Columns(1)),
-    (b"CLIP0001,,,\n", ListFault::Columns(1)),
-    (b"CLIP0001\n0x434c495030303031\n", ListFault::Id(2)),
-    (b"CLIP0001\n\nCLIP00001\n", ListFault::Id(2)),
-    (b"\"\"\n", ListFault::Id(1)),
-    (b" A\n", ListFault::Id(1)),
-    (b"A\xFF\n", ListFault::Id(1)),
-    (b" A,x,\n", ListFault::Id(1)),
-    (b"A,00:00:01:00,\n", ListFault::Time(1)),
-    (b"A,,\nA,,00:00:01:00\n", ListFault::Time(2)),
-    (b"A,00:00:01:00,00:00:00:00\n", ListFault::Time(1)),
-    (b"A,00:00:01:25,00:00:01:00\n", ListFault::Time(1)),
-    (b"A,00:00:01:00,\xFF0:00:01:00\n", ListFault::Time(1)),
+static REFUSED_PLAYLISTS: [(&[u8], usize, RowFault); 15] = [
+    (b"CLIP0001\nCLIP0002,,\n", 2, RowFault::Columns),
+    (b"CLIP0002,,\nCLIP0001\n", 2, RowFault::Columns),
+    (b"CLIP0001,\n", 1, RowFault::Columns),
+    (b"CLIP0001,,,\n", 1, RowFault::Columns),
+    (b"CLIP0001\n0x434c495030303031\n", 2, RowFault::Id),
+    (b"CLIP0001\n\nCLIP00001\n", 2, RowFault::Id),
+    (b"\"\"\n", 1, RowFault::Id),
+    (b" A\n", 1, RowFault::Id),
+    (b"A\xFF\n", 1, RowFault::Id),
+    (b" A,x,\n", 1, RowFault::Id),
+    (b"A,00:00:01:00,\n", 1, RowFault::Time),
+    (b"A,,\nA,,00:00:01:00\n", 2, RowFault::Time),
+    (b"A,00:00:01:00,00:00:00:00\n", 1, RowFault::Time),
+    (b"A,00:00:01:25,00:00:01:00\n", 1, RowFault::Time),
+    (b"A,00:00:01:00,\xFF0:00:01:00\n", 1, RowFault::Time),
 ];
 
 #[test]
 fn playlists_are_refused(rt: HostRuntime) -> Result<(), Fail> {
-    for &(text, fault) in &REFUSED_PLAYLISTS {
+    for &(text, row, fault) in &REFUSED_PLAYLISTS {
+        let fault = ListFault::Row(row, fault);
         assert!(rt; refused_list(rt.alloc(), text) == Some(fault), "{text:?}");
     }
     Ok(())
@@ -168,10 +171,8 @@ fn drop_frame_parts_are_read_at_their_rate(rt: HostRuntime) -> Result<(), Fail> 
         list_at(rt.alloc(), dropped, Rate::D30).err(),
         refused_list(rt.alloc(), text),
     );
-    assert_eq!(rt;
-        faults,
-        (Some(ListFault::Time(1)), Some(ListFault::Time(1)))
-    );
+    let bad_time = Some(ListFault::Row(1, RowFault::Time));
+    assert_eq!(rt; faults, (bad_time, bad_time));
     Ok(())
 }
 
@@ -215,7 +216,7 @@ fn ten_thousand_rows_are_a_playlist(rt: HostRuntime) -> Result<(), Fail> {
         (10_000, 55_000, (10_000, Some(11)), true)
     );
     let text = rows_in_turn(rt.alloc(), 10_001)?;
-    assert!(rt; refused_list(rt.alloc(), text.as_bytes()) == Some(ListFault::TooMany(10_001)));
+    assert!(rt; refused_list(rt.alloc(), text.as_bytes()) == Some(TOO_MANY));
     Ok(())
 }
 
@@ -232,7 +233,7 @@ fn count_rows<R: Read + Drop>(alloc: Global, source: R) -> Result<usize, ListFau
         }
     }
     if next_row(&mut rows, &mut row)? {
-        return Err(ListFault::TooMany(MAX_ROWS + 1));
+        return Err(TOO_MANY);
     }
     Ok(MAX_ROWS)
 }
@@ -304,33 +305,36 @@ fn ten_thousand_rows_are_a_catalogue(rt: HostRuntime) -> Result<(), Fail> {
         (10_000, (Some(250), Some(250), Some(250), None))
     );
     let text = clips_in_rows(rt.alloc(), 10_001)?;
-    assert!(rt; refused_table(rt.alloc(), text.as_bytes()) == Some(ListFault::TooMany(10_001)));
+    assert!(rt; refused_table(rt.alloc(), text.as_bytes()) == Some(TOO_MANY));
     Ok(())
 }
 
-static REFUSED_CATALOGUES: [(&[u8], ListFault); 11] = [
-    (b"CLIP0001,00:00:00:00\n", ListFault::Time(1)),
+static REFUSED_CATALOGUES: [(&[u8], usize, RowFault); 11] = [
+    (b"CLIP0001,00:00:00:00\n", 1, RowFault::Time),
     (
         b"CLIP0001,00:00:10:00\nCLIP0001,00:00:10:00\n",
-        ListFault::Twice(2),
+        2,
+        RowFault::Twice,
     ),
     (
         b"B,00:00:10:00\nA,00:00:10:00\n\nB,00:00:00:01\n",
-        ListFault::Twice(3),
+        3,
+        RowFault::Twice,
     ),
-    (b"B,00:00:10:00\nB,00:00:00:00\n", ListFault::Time(2)),
-    (b"CLIP0001,00:00:10:00\nCLIP0002\n", ListFault::Columns(2)),
-    (b"CLIP0001,00:00:10:00,\n", ListFault::Columns(1)),
-    (b"0x434c495030303031,00:00:10:00\n", ListFault::Id(1)),
-    (b"CLIP000\xC3,00:00:10:00\n", ListFault::Id(1)),
-    (b"CLIP0001,00:00:10;00\n", ListFault::Time(1)),
-    (b"CLIP0001,\n", ListFault::Time(1)),
-    (b"CLIP0001,00:00:10:0\xC3\n", ListFault::Time(1)),
+    (b"B,00:00:10:00\nB,00:00:00:00\n", 2, RowFault::Time),
+    (b"CLIP0001,00:00:10:00\nCLIP0002\n", 2, RowFault::Columns),
+    (b"CLIP0001,00:00:10:00,\n", 1, RowFault::Columns),
+    (b"0x434c495030303031,00:00:10:00\n", 1, RowFault::Id),
+    (b"CLIP000\xC3,00:00:10:00\n", 1, RowFault::Id),
+    (b"CLIP0001,00:00:10;00\n", 1, RowFault::Time),
+    (b"CLIP0001,\n", 1, RowFault::Time),
+    (b"CLIP0001,00:00:10:0\xC3\n", 1, RowFault::Time),
 ];
 
 #[test]
 fn catalogues_are_refused(rt: HostRuntime) -> Result<(), Fail> {
-    for &(text, fault) in &REFUSED_CATALOGUES {
+    for &(text, row, fault) in &REFUSED_CATALOGUES {
+        let fault = ListFault::Row(row, fault);
         assert!(rt; refused_table(rt.alloc(), text) == Some(fault), "{text:?}");
     }
     Ok(())

@@ -15,6 +15,7 @@ use Rattle.vdcp_list.specs.Reading.{IsFront, IsReadFault, TakesRow}
 use Rattle.vdcp_list.specs.Rows.{AreRowsOf, FileRow, HasRows, most_rows, rows_of}
 use Rattle.vdcp_list.specs.declared.faults.ListFault.TheVariants as lists
 use Rattle.vdcp_list.specs.declared.faults.ListFault.{ListFault}
+use Rattle.vdcp_value.specs.declared.faults.RowFault.TheVariants.{Long}
 use Rattle.vdcp_text.specs.declared.failure.Failure.{Failure}
 
 pub two_fields : (fields : List (List ℕ)) (first second : List ℕ) → length fields ≡ 2 → Some first ≡ field_at fields 0
@@ -193,11 +194,7 @@ joined_text-push ms m =
 -- a row that couldn't be read
 pub untested : (name : Bor (List ℕ)) (file : Option (List ℕ)) (fault : ListFault) (failure : Failure) → IsReadFault fault
     → failure ≡ file_failure name fault → IsUntested name file failure
-untested name file (lists.Columns row) failure h e = absurd h
-untested name file (lists.Id row) failure h e = absurd h
-untested name file (lists.Time row) failure h e = absurd h
-untested name file (lists.Twice row) failure h e = absurd h
-untested name file (lists.TooMany row) failure h e = absurd h
-untested name file (lists.Long row) failure h e = inr (inr (inl (row, e)))
+untested name file (lists.Row row Long) failure h e = inr (inr (inl (row, e)))
+untested name file (lists.Row row wrong) failure h e = absurd h
 untested name file lists.Memory failure h e = inl e
 untested name file lists.Read failure h e = inr (inl e)

@@ -10,7 +10,7 @@ use Rattle.vdcp_text.specs.Failure.{failure_line}
 use Rattle.vdcp_text.specs.Text.{end_text, line, message_text}
 use Rattle.vdcp_text.specs.declared.failure.Failure.{Failure}
 use Rattle.vdcp_text.specs.declared.failure.Failure.TheVariants.{Memory, Read, Row as RefusedRow}
-use Rattle.vdcp_text.specs.declared.failure.RowFault.TheVariants.{Long, TooMany}
+use Rattle.vdcp_value.specs.declared.faults.RowFault.TheVariants.{Long, TooMany}
 use Rattle.vdcp_offline.specs.declared.vectors.Tally.{Tally}
 use Rattle.vdcp_offline.specs.declared.vectors.Verdict.{Verdict}
 use Rattle.vdcp_offline.specs.declared.vectors.Verdict.TheVariants.{Right, Other, Columns, Hex}

@@ -22,7 +22,8 @@ use vdcp_files::{NamedFile, file_failure};
 use vdcp_frame::{End, Message, Messages};
 use vdcp_list::laws::rows_are_read_in_order;
 use vdcp_list::{Bounded, MAX_ROWS, next_row, rows_in};
-use vdcp_text::{EndText, Failure, MessageText, RowFault};
+use vdcp_text::{EndText, Failure, MessageText};
+use vdcp_value::RowFault;
 
 /// Tests each row of a vector file: a burst in hexadecimal digits, and its reading, the lines of
 /// which are joined by `; `. It is CSV with commas and double quotes, without a header row, and

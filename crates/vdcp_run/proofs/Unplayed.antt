@@ -23,12 +23,7 @@ use Rattle.vdcp_run.specs.declared.settings.RunJournal.TheVariants as journals
 use Rattle.vdcp_run.specs.declared.settings.RunSettings.{RunSettings}
 
 list_status : (name : Bor (List ℕ)) (fault : ListFault) → status_of (file_failure name fault) ≢ 2
-list_status name (lists.Columns row) e = omega (arith, e)
-list_status name (lists.Id row) e = omega (arith, e)
-list_status name (lists.Time row) e = omega (arith, e)
-list_status name (lists.Twice row) e = omega (arith, e)
-list_status name (lists.TooMany row) e = omega (arith, e)
-list_status name (lists.Long row) e = omega (arith, e)
+list_status name (lists.Row row wrong) e = omega (arith, e)
 list_status name lists.Memory e = omega (arith, e)
 list_status name lists.Read e = omega (arith, e)
 

@@ -65,12 +65,7 @@ status_2 failure status (inl e) two = sym e ∙ two
 status_2 failure status (inr three) two = absurd (omega (arith, three, two))
 
 not_of_a_file : (name : Bor (List ℕ)) (fault : ListFault) → status_of (file_failure name fault) ≡ 2 → ⊥
-not_of_a_file name (lists.Columns row) e = omega (arith, e)
-not_of_a_file name (lists.Id row) e = omega (arith, e)
-not_of_a_file name (lists.Time row) e = omega (arith, e)
-not_of_a_file name (lists.Twice row) e = omega (arith, e)
-not_of_a_file name (lists.TooMany row) e = omega (arith, e)
-not_of_a_file name (lists.Long row) e = omega (arith, e)
+not_of_a_file name (lists.Row row wrong) e = omega (arith, e)
 not_of_a_file name lists.Memory e = omega (arith, e)
 not_of_a_file name lists.Read e = omega (arith, e)
 

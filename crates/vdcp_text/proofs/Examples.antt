@@ -9,7 +9,7 @@ use Rattle.vdcp_text.specs.Failure.{failure_line}
 use Rattle.vdcp_text.specs.Make.{Names, NamesNone}
 use Rattle.vdcp_text.specs.Text.{line}
 use Rattle.vdcp_text.specs.declared.failure.Failure.TheVariants as failures
-use Rattle.vdcp_text.specs.declared.failure.RowFault.TheVariants as rows
+use Rattle.vdcp_value.specs.declared.faults.RowFault.TheVariants as rows
 use Rattle.vdcp_frame.specs.Message.{spelling}
 use Rattle.vdcp_words.specs.Commands.{command_message}
 use Rattle.vdcp_words.specs.declared.command.Command.TheVariants.{Open, Close, Select, PlayCue, CueData, Play, Stop, Status, ActiveId, IdRequest, IdSize}

@@ -10,8 +10,8 @@ use Rattle.vdcp_text.specs.declared.failure.JournalFault.{JournalFault}
 use Rattle.vdcp_text.specs.declared.failure.JournalFault.TheVariants as journal
 use Rattle.vdcp_text.specs.declared.failure.ScriptLineFault.{ScriptLineFault}
 use Rattle.vdcp_text.specs.declared.failure.ScriptLineFault.TheVariants as lines
-use Rattle.vdcp_text.specs.declared.failure.RowFault.{RowFault}
-use Rattle.vdcp_text.specs.declared.failure.RowFault.TheVariants as rows
+use Rattle.vdcp_value.specs.declared.faults.RowFault.{RowFault}
+use Rattle.vdcp_value.specs.declared.faults.RowFault.TheVariants as rows
 
 -- the exit status of a failure
 abbrev pub status_of : Failure → ℕ

@@ -1,10 +1,12 @@
 //! The failures of subcommands, each a line and an exit status.
 ghost use Rattle.std.specs.Io.KnownBytes.{Appends, Keeps};
 ghost use Rattle.std.specs.Prelude.{◌≡◌, ◌⊎◌, ◌<◌};
+ghost use Rattle.vdcp_text.specs.Failure.{row_fault_text};
 
 use crate::name::NameText;
 use std::alloc::AllocError;
 use std::{fmt, io};
+use vdcp_value::RowFault;
 
 /// Why a subcommand gives up.
 #[derive(Clone, Copy)]
@@ -122,7 +124,9 @@ impl<'a> Failure<'a> {
             Failure::Text => Words::Plain("text"),
             Failure::Open(name) => Words::File(name, ": cannot open"),
             Failure::Read(name) => Words::File(name, ": read"),
-            Failure::Row(name, row, fault) => Words::Place(name, ": row ", row, fault.text()),
+            Failure::Row(name, row, fault) => {
+                Words::Place(name, ": row ", row, row_fault_text(fault))
+            }
             Failure::ScriptLine(name, line, fault) => {
                 Words::Place(name, ": line ", line, fault.text())
             }
@@ -192,40 +196,6 @@ impl From<AllocError> for Failure<'_> {
 
     fn from(_error: AllocError) -> Self {
         Self::Memory
-    }
-}
-
-/// Why a row of a file is refused.
-#[derive(Clone, Copy)]
-pub enum RowFault {
-    /// It has a wrong number of fields.
-    Columns,
-    /// It has no ID.
-    Id,
-    /// It has no time code that it can have.
-    Time,
-    /// It has the ID of an earlier row.
-    Twice,
-    /// It is the first past the limit.
-    TooMany,
-    /// It has more than 64 KiB.
-    Long,
-}
-
-impl RowFault {
-    ghost use Rattle.vdcp_text.specs.Failure.{row_fault_text};
-
-    fn text(self) -> &'static str
-        ensures { result.now ≡ row_fault_text self }
-    {
-        match self {
-            RowFault::Columns => "columns",
-            RowFault::Id => "id",
-            RowFault::Time => "time",
-            RowFault::Twice => "twice",
-            RowFault::TooMany => "too many",
-            RowFault::Long => "long",
-        }
     }
 }
 
@@ -324,5 +294,19 @@ impl JournalFault {
             JournalFault::Outcome => "outcome",
             JournalFault::Long => "long",
         }
+    }
+}
+
+// Why a row of a file is refused, in a word or two.
+fn row_fault_text(fault: RowFault) -> &'static str
+    ensures { result.now ≡ row_fault_text fault }
+{
+    match fault {
+        RowFault::Columns => "columns",
+        RowFault::Id => "id",
+        RowFault::Time => "time",
+        RowFault::Twice => "twice",
+        RowFault::TooMany => "too many",
+        RowFault::Long => "long",
     }
 }

@@ -21,7 +21,7 @@ mod text;
 
 pub use command::read_command;
 pub use exchange::ExchangeText;
-pub use failure::{Failure, JournalFault, RowFault, ScriptLineFault};
+pub use failure::{Failure, JournalFault, ScriptLineFault};
 pub use item::ItemText;
 pub use make::do_make;
 pub use name::NameText;

@@ -1,7 +1,8 @@
 //! Tests of failures, their lines and their exit statuses.
 use std::alloc::Global;
 use std::process::Abort;
-use vdcp_text::{Failure, JournalFault, RowFault, ScriptLineFault};
+use vdcp_text::{Failure, JournalFault, ScriptLineFault};
+use vdcp_value::RowFault;
 
 // Each failure, with the line that tells it and its status.
 static ROWS: [(Failure<'static>, &str, u8); 44] = [

@@ -1,4 +1,4 @@
-//! The faults of IDs and time codes.
+//! The faults of IDs, of time codes, and of rows that have them.
 use std::fmt;
 use thiserror::Error;
 
@@ -56,4 +56,28 @@ pub enum TcFault {
     /// Not the eleven bytes of `hh:mm:ss:ff`, or at drop frame of `hh:mm:ss;ff`. Of a text only.
     #[error("the time code has not the form of one")]
     Shape,
+}
+
+/// Why a row of a file is refused. If several hold, the first of `Long`, `TooMany`, `Columns`, `Id`, `Time` and `Twice` is
+/// given.
+#[derive(Clone, Copy, Debug, PartialEq, Eq, Error)]
+pub enum RowFault {
+    /// It has another number of fields than it has to have.
+    #[error("has a wrong number of fields")]
+    Columns,
+    /// Its first field is no ID's text.
+    #[error("has no clip id")]
+    Id,
+    /// It has a bad time code, or one of frame 0 if a length is meant.
+    #[error("has no time code that it can have")]
+    Time,
+    /// Its ID stands in an earlier row. Of a catalogue only.
+    #[error("has the clip id of an earlier row")]
+    Twice,
+    /// It is the first past the limit of 10,000.
+    #[error("is one too many")]
+    TooMany,
+    /// It has more than 64 KiB, and isn't read to its end.
+    #[error("is too long")]
+    Long,
 }

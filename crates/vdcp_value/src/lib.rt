@@ -28,7 +28,7 @@ mod rate;
 mod timecode;
 
 pub use clip_id::ClipId;
-pub use faults::{Field, IdFault, TcFault};
+pub use faults::{Field, IdFault, RowFault, TcFault};
 pub use part::{Item, Part};
 pub use rate::Rate;
 pub use timecode::Timecode;

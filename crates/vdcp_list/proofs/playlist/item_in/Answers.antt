@@ -5,6 +5,7 @@ use Rattle.std.specs.Prelude.{IsTrue}
 use Rattle.vdcp_list.specs.Playlists.{is_of_columns}
 use Rattle.vdcp_list.proofs.ItemRows.{no_item, part_row, whole_row}
 use Rattle.vdcp_list.proofs.playlist.item_in.Goals as goal
+use Rattle.vdcp_value.specs.declared.faults.RowFault.TheVariants.{Time}
 
 pub returns-then-columns-eq1-clause-row : goal.returns-then-columns-eq1-clause-row
 returns-then-columns-eq1-clause-row c =
@@ -21,10 +22,6 @@ returns-in-Some-last_part-clause-row c =
 pub returns-in-None-clause-fault : goal.returns-in-None-clause-fault
 returns-in-None-clause-fault c =
     let three : c.args.columns ≡ 3 = grind (arith, common_steps) in
-    let columns : IsTrue (is_of_columns c.args.columns (fields_of c.args.row.now)) = grind (arith, common_steps) in (
-      refl,
-      columns,
-      (c.in-Some.id, c.in-Some.ensures.some),
-      no_item c.args.rate c.args.columns
-          (fields_of c.args.row.now) three c.in-None.ensures.none,
-    )
+    let columns : IsTrue (is_of_columns c.args.columns (fields_of c.args.row.now)) = grind (arith, common_steps) in
+    let none = no_item c.args.rate c.args.columns (fields_of c.args.row.now) three c.in-None.ensures.none in
+    (Time, refl, (columns, (c.in-Some.id, c.in-Some.ensures.some), none))

@@ -1,8 +1,9 @@
 use Rattle.csv.specs.Records.{fields_of}
-use Rattle.std.proofs.Common.{inr}
+use Rattle.std.proofs.Common.{inr, refl}
 use Rattle.std.proofs.lemmas.Result.{err_from_is_err_and}
 use Rattle.vdcp_list.proofs.CatalogueSteps.{gives_push, twice}
 use Rattle.vdcp_list.proofs.catalogue.TableMadeOfRows.add_row.Goals as goal
+use Rattle.vdcp_value.specs.declared.faults.RowFault.TheVariants.{Twice}
 
 pub returns-in_err-id-clause-refused : goal.returns-in_err-id-clause-refused
 returns-in_err-id-clause-refused c before h e =
@@ -17,6 +18,10 @@ returns-in-Ok-true-clause-made c before h e =
 
 pub returns-in-Ok-false-clause-refused : goal.returns-in-Ok-false-clause-refused
 returns-in-Ok-false-clause-refused c before h e =
-    inr (twice c.an_id_is_its_bytes.ensures.same c.args.rate before c.args.self.now (fields_of c.args.row.now)
-    (c.in_ok-id.id, c.in_ok-id.length) c.args.place h c.in_ok-id.ensures.row c.in_ok-id.ensures.can_last
-    (c.in-Ok-false.ensures.there c.in-Ok-false.field-0-test))
+    inr (
+      Twice,
+      refl,
+      twice c.an_id_is_its_bytes.ensures.same c.args.rate before c.args.self.now (fields_of c.args.row.now)
+          (c.in_ok-id.id, c.in_ok-id.length) h c.in_ok-id.ensures.row c.in_ok-id.ensures.can_last
+          (c.in-Ok-false.ensures.there c.in-Ok-false.field-0-test),
+    )
