@@ -27,41 +27,20 @@ false_is_true e = absurd (let no_way : ⊥ = cc in no_way)
 cue_kind : (c : Command) → is_cue_command c ≡ true → (is_play_command c ≡ false) × (is_status_command c ≡ false)
 cue_kind (command.PlayCue id) is = (refl, refl)
 cue_kind (command.CueData id start duration) is = (refl, refl)
-cue_kind command.Play is = false_is_true is
-cue_kind command.Stop is = false_is_true is
-cue_kind (command.Open port lock) is = false_is_true is
-cue_kind (command.Close port) is = false_is_true is
-cue_kind (command.Select port) is = false_is_true is
-cue_kind (command.Status groups) is = false_is_true is
-cue_kind command.ActiveId is = false_is_true is
-cue_kind (command.IdRequest id) is = false_is_true is
-cue_kind (command.IdSize id) is = false_is_true is
+cue_kind other is = false_is_true is
 
 status_kind : (c : Command) → is_status_command c ≡ true → (is_play_command c ≡ false) × (is_cue_command c ≡ false)
-status_kind (command.PlayCue id) is = false_is_true is
-status_kind (command.CueData id start duration) is = false_is_true is
-status_kind command.Play is = false_is_true is
-status_kind command.Stop is = false_is_true is
-status_kind (command.Open port lock) is = false_is_true is
-status_kind (command.Close port) is = false_is_true is
-status_kind (command.Select port) is = false_is_true is
 status_kind (command.Status groups) is = (refl, refl)
 status_kind command.ActiveId is = false_is_true is
 status_kind (command.IdRequest id) is = false_is_true is
 status_kind (command.IdSize id) is = false_is_true is
+status_kind other is = false_is_true is
 
 play_kind : (c : Command) → is_play_command c ≡ true → is_status_command c ≡ false
 play_kind (command.PlayCue id) is = false_is_true is
 play_kind (command.CueData id start duration) is = false_is_true is
 play_kind command.Play is = refl
-play_kind command.Stop is = false_is_true is
-play_kind (command.Open port lock) is = false_is_true is
-play_kind (command.Close port) is = false_is_true is
-play_kind (command.Select port) is = false_is_true is
-play_kind (command.Status groups) is = false_is_true is
-play_kind command.ActiveId is = false_is_true is
-play_kind (command.IdRequest id) is = false_is_true is
-play_kind (command.IdSize id) is = false_is_true is
+play_kind other is = false_is_true is
 
 cues : (id : ClipId) (part : Option Part) → is_cue_command (cue_for id part) ≡ true
 cues id None = refl

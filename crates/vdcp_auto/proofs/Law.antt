@@ -302,26 +302,14 @@ lost_row : (limit row unanswered : ℕ) (stage : Stage) → RowIs limit row unan
 lost_row limit row unanswered (Ready p) is lost = cc
 lost_row limit row unanswered (Awaiting p) is lost = cc
 lost_row limit row unanswered (Ended Lost) is lost = is
-lost_row limit row unanswered (Ended Done) is lost = cc
-lost_row limit row unanswered (Ended Stopped) is lost = cc
-lost_row limit row unanswered (Ended Denied) is lost = cc
-lost_row limit row unanswered (Ended (Missing k)) is lost = cc
-lost_row limit row unanswered (Ended (Refused k)) is lost = cc
-lost_row limit row unanswered (Ended (Foreign k)) is lost = cc
-lost_row limit row unanswered (Ended (Strange k)) is lost = cc
+lost_row limit row unanswered other is lost = cc
 
 row_lost : (limit row unanswered : ℕ) (stage : Stage) → RowIs limit row unanswered stage → (row < limit → ⊥)
     → outcome_of stage ≡ Some Lost
 row_lost limit row unanswered (Ready p) is long = absurd (long is.1)
 row_lost limit row unanswered (Awaiting p) is long = absurd (long is.1)
 row_lost limit row unanswered (Ended Lost) is long = refl
-row_lost limit row unanswered (Ended Done) is long = absurd (long is)
-row_lost limit row unanswered (Ended Stopped) is long = absurd (long is)
-row_lost limit row unanswered (Ended Denied) is long = absurd (long is)
-row_lost limit row unanswered (Ended (Missing k)) is long = absurd (long is)
-row_lost limit row unanswered (Ended (Refused k)) is long = absurd (long is)
-row_lost limit row unanswered (Ended (Foreign k)) is long = absurd (long is)
-row_lost limit row unanswered (Ended (Strange k)) is long = absurd (long is)
+row_lost limit row unanswered other is long = absurd (long is)
 
 at_outcome : (mode : Mode) (list : List Item) (limit : ℕ) (m : Memo) (stop : Bool) (tries : ℕ) (stage : Stage)
     (outcome : Outcome)

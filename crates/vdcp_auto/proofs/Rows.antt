@@ -44,13 +44,7 @@ row_at limit row (Goes p) known below = (refl, below)
 row_at limit row (Settles k) known below = (refl, below)
 row_at limit row (Retries k) known below = (refl, below)
 row_at limit row (Ends Lost) known below = cc
-row_at limit row (Ends Done) known below = below
-row_at limit row (Ends Stopped) known below = below
-row_at limit row (Ends Denied) known below = below
-row_at limit row (Ends (Missing k)) known below = below
-row_at limit row (Ends (Refused k)) known below = below
-row_at limit row (Ends (Foreign k)) known below = below
-row_at limit row (Ends (Strange k)) known below = below
+row_at limit row other known below = below
 
 -- how many in a row, where the exchange counts or not, and is answered or not
 abbrev counted_row : ℕ → Bool → Bool → ℕ

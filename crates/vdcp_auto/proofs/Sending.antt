@@ -99,14 +99,7 @@ sent_some list port phase.Seen within = refl
 sent_some list port (phase.Exists k) within = item_some list k
     (λ o. is_some (option_map (λ item. command.IdRequest item.id) o)) (λ item. refl) within
 sent_some list port (phase.Cue k) within = item_some list k (λ o. is_some (option_map cue_of o)) (λ item. refl) within
-sent_some list port (phase.Wait k) within = refl
-sent_some list port (phase.Play k) within = refl
-sent_some list port (phase.Probe k) within = refl
-sent_some list port (phase.Check k) within = refl
-sent_some list port phase.Drain within = refl
-sent_some list port phase.Close within = refl
-sent_some list port phase.Halt within = refl
-sent_some list port phase.HaltClose within = refl
+sent_some list port other within = refl
 
 in_list : (mode : Mode) (list : List Item) (m : Memo) (awaiting stop : Bool) (tries : ℕ) (p : Phase)
     → InPhase mode list m awaiting stop tries p
@@ -114,16 +107,11 @@ in_list : (mode : Mode) (list : List Item) (m : Memo) (awaiting stop : Bool) (tr
 in_list mode list m awaiting stop tries phase.Open holds = tt
 in_list mode list m awaiting stop tries phase.Select holds = tt
 in_list mode list m awaiting stop tries phase.Seen holds = tt
-in_list mode list m awaiting stop tries (phase.Exists k) holds = holds.2
-in_list mode list m awaiting stop tries (phase.Cue k) holds = holds.2
-in_list mode list m awaiting stop tries (phase.Wait k) holds = holds.2
-in_list mode list m awaiting stop tries (phase.Play k) holds = holds.2
-in_list mode list m awaiting stop tries (phase.Probe k) holds = holds.2
-in_list mode list m awaiting stop tries (phase.Check k) holds = holds.2
 in_list mode list m awaiting stop tries phase.Drain holds = tt
 in_list mode list m awaiting stop tries phase.Close holds = tt
 in_list mode list m awaiting stop tries phase.Halt holds = tt
 in_list mode list m awaiting stop tries phase.HaltClose holds = tt
+in_list mode list m awaiting stop tries other holds = holds.2
 
 pub gives_ready : (plan : Plan) (m : Memo) (stop : Bool) (tries : ℕ) (stage : Stage)
     → AtStage plan.mode plan.list plan.limit m stop tries stage

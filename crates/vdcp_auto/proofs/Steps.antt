@@ -42,14 +42,11 @@ record IsMute (e : Exchange) : Type 0 where
   no_ack : (is_play e && is_acked e) ≡ false
 
 has_state : (r : Reply) → is_state r ≡ false → (is_done r ≡ false) × (is_empty r ≡ false)
-has_state reply.Ack h = (refl, refl)
-has_state (reply.Nak n) h = (refl, refl)
-has_state (reply.Opened b) h = (refl, refl)
-has_state (reply.State g None) h = (refl, refl)
 has_state (reply.State g (Some b)) h = cc
 has_state (reply.Active i) h = (refl, refl)
 has_state (reply.Present b) h = (refl, refl)
 has_state (reply.Size t) h = (refl, refl)
+has_state other h = (refl, refl)
 
 -- what each phase sends
 pub data Sends (list : List Item) (port : ℕ) : Phase → Command → Type 0 where
@@ -77,20 +74,9 @@ silent_plain : (list : List Item) (limit port : ℕ) (m : Memo) (stop : Bool) (t
     → Sends list port p c → IsMute (exchange c h) → is_answered (exchange c h) ≡ false
     → InPhase Plain list m true stop tries p
     → Kept Plain list limit m stop tries (exchange c h) (on_no_answer Plain p)
-silent_plain list limit port m stop tries h sends_open mute unanswered holds = grind arith
-silent_plain list limit port m stop tries h sends_select mute unanswered holds = grind arith
-silent_plain list limit port m stop tries h sends_seen mute unanswered holds = grind arith
-silent_plain list limit port m stop tries h sends_exists mute unanswered holds = grind arith
 silent_plain list limit port m stop tries h (sends_whole cues) mute unanswered holds = grind arith
 silent_plain list limit port m stop tries h (sends_part cues) mute unanswered holds = grind arith
-silent_plain list limit port m stop tries h sends_wait mute unanswered holds = grind arith
-silent_plain list limit port m stop tries h sends_play mute unanswered holds = grind arith
-silent_plain list limit port m stop tries h sends_probe mute unanswered holds = grind arith
-silent_plain list limit port m stop tries h sends_check mute unanswered holds = grind arith
-silent_plain list limit port m stop tries h sends_drain mute unanswered holds = grind arith
-silent_plain list limit port m stop tries h sends_close mute unanswered holds = grind arith
-silent_plain list limit port m stop tries h sends_halt mute unanswered holds = grind arith
-silent_plain list limit port m stop tries h sends_halt_close mute unanswered holds = grind arith
+silent_plain list limit port m stop tries h other mute unanswered holds = grind arith
 
 refused_plain : (list : List Item) (limit port : ℕ) (m : Memo) (stop : Bool) (tries : ℕ) (h : Option Heard) {p : Phase}
     {c : Command}
@@ -98,19 +84,7 @@ refused_plain : (list : List Item) (limit port : ℕ) (m : Memo) (stop : Bool) (
     → InPhase Plain list m true stop tries p
     → Kept Plain list limit m stop tries (exchange c h) (on_refusal (length list) p)
 refused_plain list limit port m stop tries h sends_open mute answered holds = grind arith
-refused_plain list limit port m stop tries h sends_select mute answered holds = grind arith
-refused_plain list limit port m stop tries h sends_seen mute answered holds = grind arith
-refused_plain list limit port m stop tries h sends_exists mute answered holds = grind arith
-refused_plain list limit port m stop tries h (sends_whole cues) mute answered holds = grind arith
-refused_plain list limit port m stop tries h (sends_part cues) mute answered holds = grind arith
-refused_plain list limit port m stop tries h sends_wait mute answered holds = grind arith
-refused_plain list limit port m stop tries h sends_play mute answered holds = grind arith
-refused_plain list limit port m stop tries h sends_probe mute answered holds = grind arith
-refused_plain list limit port m stop tries h sends_check mute answered holds = grind arith
-refused_plain list limit port m stop tries h sends_drain mute answered holds = grind arith
-refused_plain list limit port m stop tries h sends_close mute answered holds = grind arith
-refused_plain list limit port m stop tries h sends_halt mute answered holds = grind arith
-refused_plain list limit port m stop tries h sends_halt_close mute answered holds = grind arith
+refused_plain list limit port m stop tries h other mute answered holds = grind arith
 
 -- in confirm mode
 
@@ -119,20 +93,9 @@ silent_confirming : (list : List Item) (limit port : ℕ) (m : Memo) (stop : Boo
     → Sends list port p c → IsMute (exchange c h) → is_answered (exchange c h) ≡ false
     → InPhase Confirming list m true stop tries p
     → Kept Confirming list limit m stop tries (exchange c h) (on_no_answer Confirming p)
-silent_confirming list limit port m stop tries h sends_open mute unanswered holds = grind arith
-silent_confirming list limit port m stop tries h sends_select mute unanswered holds = grind arith
-silent_confirming list limit port m stop tries h sends_seen mute unanswered holds = grind arith
-silent_confirming list limit port m stop tries h sends_exists mute unanswered holds = grind arith
 silent_confirming list limit port m stop tries h (sends_whole cues) mute unanswered holds = grind arith
 silent_confirming list limit port m stop tries h (sends_part cues) mute unanswered holds = grind arith
-silent_confirming list limit port m stop tries h sends_wait mute unanswered holds = grind arith
-silent_confirming list limit port m stop tries h sends_play mute unanswered holds = grind arith
-silent_confirming list limit port m stop tries h sends_probe mute unanswered holds = grind arith
-silent_confirming list limit port m stop tries h sends_check mute unanswered holds = grind arith
-silent_confirming list limit port m stop tries h sends_drain mute unanswered holds = grind arith
-silent_confirming list limit port m stop tries h sends_close mute unanswered holds = grind arith
-silent_confirming list limit port m stop tries h sends_halt mute unanswered holds = grind arith
-silent_confirming list limit port m stop tries h sends_halt_close mute unanswered holds = grind arith
+silent_confirming list limit port m stop tries h other mute unanswered holds = grind arith
 
 -- a reply that fits, to a request for one of its own
 

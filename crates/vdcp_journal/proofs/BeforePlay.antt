@@ -48,8 +48,7 @@ plays_in plan (Ended outcome) = false
 
 plays_in_given : (plan : Plan) (stage : Stage) → plays (given_in plan false stage) ≡ plays_in plan stage
 plays_in_given plan (Ready p) = refl
-plays_in_given plan (Awaiting p) = refl
-plays_in_given plan (Ended outcome) = refl
+plays_in_given plan other = refl
 
 -- where a transition leads, if a PLAY goes out next
 abbrev Plays : Plan → Transition → ℕ → Type 0
@@ -203,9 +202,7 @@ alike plan (phase.Probe k) false take n m i g b g' b' a h free =
 alike plan (phase.Check k) took take n m i g b g' b' a h free = no refl a
 alike plan phase.Drain true take n m i g b g' b' a h free = no (drain_not plan true n m i g b) h
 alike plan phase.Drain false take n m i g b g' b' a h free = no (drain_not plan take n m i g b) h
-alike plan phase.Close took take n m i g b g' b' a h free = no refl a
-alike plan phase.Halt took take n m i g b g' b' a h free = no refl a
-alike plan phase.HaltClose took take n m i g b g' b' a h free = no refl a
+alike plan other took take n m i g b g' b' a h free = no refl a
 
 -- the same goes out after the other state, and leaves the same
 pub record PlaysAlike (plan : Plan) (first second : State) : Type 0 where

@@ -138,25 +138,19 @@ reply_plain v (Size time) = feed-append (codes "size ") (hex_text time) refl (pa
 -- ---- notes
 
 outcome_plain : (outcome : Outcome) → IsWritableOutcome outcome → ArePlain (outcome_fields outcome)
-outcome_plain Done h = (refl, (refl, tt))
-outcome_plain Stopped h = (refl, (refl, tt))
-outcome_plain Lost h = (refl, (refl, tt))
-outcome_plain Denied h = (refl, (refl, tt))
 outcome_plain (Missing k) h = (refl, (numeral k h, tt))
 outcome_plain (Refused k) h = (refl, (numeral k h, tt))
 outcome_plain (Foreign k) h = (refl, (numeral k h, tt))
 outcome_plain (Strange k) h = (refl, (numeral k h, tt))
+outcome_plain other h = (refl, (refl, tt))
 
 pub note_plain : IdTexts → (unit : ℕ) (n : Note) → IsWritableNote n → ArePlain (note_fields unit n)
 note_plain v unit (note.Sent c) h = (refl, (command_plain v c, (encoded (spelling (command_message unit c)), tt)))
 note_plain v unit (note.Heard (heard.Reply r)) h =
     (refl, (reply_plain v r, (encoded (spelling (reply_message unit r)), tt)))
-note_plain v unit (note.Heard heard.Other) h = (refl, (refl, (refl, tt)))
-note_plain v unit note.Silence h = (refl, (refl, (refl, tt)))
-note_plain v unit note.Take h = (refl, (refl, (refl, tt)))
-note_plain v unit note.Stop h = (refl, (refl, (refl, tt)))
 note_plain v unit (note.End outcome) h = (refl, outcome_plain outcome h)
 note_plain v unit (note.From k) h = (refl, (numeral k h, (refl, tt)))
+note_plain v unit other h = (refl, (refl, (refl, tt)))
 
 -- only what is no reply has no digits
 pub heard_other : (unit : ℕ) (h : Heard) (text digits : List ℕ)

@@ -49,8 +49,7 @@ differ a b r set is same = true≢false (sym set ∙ is ∙ ap not ((bytes_decid
 pub spelt_some : (m : Content) → length (encode_lower (spelling m)) ≡ 0 → ⊥
 unfolding encode_with
 spelt_some ack e = absurd (omega (arith, e))
-spelt_some (nak byte) e = absurd (omega (arith, e))
-spelt_some (framed kind unit code rest) e = absurd (omega (arith, e))
+spelt_some other e = absurd (omega (arith, e))
 
 was_true : (b : Bool) → not b ≡ false → b ≡ true
 was_true true e = refl

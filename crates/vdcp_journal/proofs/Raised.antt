@@ -67,13 +67,7 @@ replied mode list take tries a b (phase.Wait k) r few =
     if_either _ (Goes (phase.Play k)) _ _
     (if_or (is_empty r) (on_lost_cue mode a tries k) (on_lost_cue mode b tries k) (Goes (phase.Wait k))
     (cue_lost mode tries k a b few))
-replied mode list take tries a b (phase.Play k) r few = inr refl
-replied mode list take tries a b (phase.Probe k) r few = inr refl
-replied mode list take tries a b (phase.Check k) r few = inr refl
-replied mode list take tries a b phase.Drain r few = inr refl
-replied mode list take tries a b phase.Close r few = inr refl
-replied mode list take tries a b phase.Halt r few = inr refl
-replied mode list take tries a b phase.HaltClose r few = inr refl
+replied mode list take tries a b other r few = inr refl
 
 spent : (first second : Bool) (t : Transition) → (first ≡ false → second ≡ false)
     → EndsOr (if first then Ends Lost else t) (if second then Ends Lost else t)
@@ -122,9 +116,7 @@ pub called : (plan : Plan) (limit : ℕ) (call : Option Call) (s : State) → pl
 called plan limit None s few = inr refl
 called plan limit (Some Tick) s few = inr refl
 called plan limit (Some (Receive came)) s few = came_if plan limit (ended_by plan came s) s few
-called plan limit (Some Take) s few = inr refl
-called plan limit (Some Stop) s few = inr refl
-called plan limit (Some Forget) s few = inr refl
+called plan limit other s few = inr refl
 
 -- a controller that has ended stays so, and only its end is told
 
@@ -133,9 +125,7 @@ still_ended : (plan : Plan) (call : Option Call) (s : State) (outcome : Outcome)
 still_ended plan None s outcome is = is
 still_ended plan (Some Tick) s outcome is = cc
 still_ended plan (Some (Receive came)) s outcome is = cc
-still_ended plan (Some Take) s outcome is = is
-still_ended plan (Some Stop) s outcome is = is
-still_ended plan (Some Forget) s outcome is = is
+still_ended plan other s outcome is = is
 
 ends_so : (plan : Plan) (rows : List Row) (s : State) (outcome : Outcome) → s.stage ≡ Ended outcome
     → (after_rows plan s rows).stage ≡ Ended outcome
@@ -146,13 +136,6 @@ ends_so plan (row ∷ rows) s outcome is =
 
 -- what is told of one that was lost
 only_lost : (plan plan' : Plan) (n : Note) (s t : State) → s.stage ≡ Ended Lost → Tells plan s n → Tells plan' t n
-only_lost plan plan' (note.Sent c) s t is tells = cc
-only_lost plan plan' (note.Heard h) s t is tells = cc
-only_lost plan plan' note.Silence s t is tells = cc
-only_lost plan plan' note.Take s t is tells = cc
-only_lost plan plan' note.Stop s t is tells = cc
-only_lost plan plan' (note.End Done) s t is tells = cc
-only_lost plan plan' (note.End Stopped) s t is tells = cc
 only_lost plan plan' (note.End Lost) s t is tells = tt
 only_lost plan plan' (note.End Denied) s t is tells = cc
 only_lost plan plan' (note.End (Missing k)) s t is tells = cc
@@ -160,6 +143,7 @@ only_lost plan plan' (note.End (Refused k)) s t is tells = cc
 only_lost plan plan' (note.End (Foreign k)) s t is tells = cc
 only_lost plan plan' (note.End (Strange k)) s t is tells = cc
 only_lost plan plan' (note.From k) s t is tells = absurd tells
+only_lost plan plan' other s t is tells = cc
 
 all_lost : (plan plan' : Plan) (rows : List Row) (s t : State) → s.stage ≡ Ended Lost → AreTold plan s rows
     → AreTold plan' t rows
@@ -176,13 +160,6 @@ lost_if o outcome is (inr lost) = cc
 
 -- no row tells of the limit
 told_alike : (plan : Plan) (limit : ℕ) (n : Note) (s : State) → Tells plan s n → Tells (raised limit plan) s n
-told_alike plan limit (note.Sent c) s tells = tells
-told_alike plan limit (note.Heard h) s tells = tells
-told_alike plan limit note.Silence s tells = tells
-told_alike plan limit note.Take s tells = tells
-told_alike plan limit note.Stop s tells = tells
-told_alike plan limit (note.End Done) s tells = tells
-told_alike plan limit (note.End Stopped) s tells = tells
 told_alike plan limit (note.End Lost) s tells = tt
 told_alike plan limit (note.End Denied) s tells = tells
 told_alike plan limit (note.End (Missing k)) s tells = tells
@@ -190,6 +167,7 @@ told_alike plan limit (note.End (Refused k)) s tells = tells
 told_alike plan limit (note.End (Foreign k)) s tells = tells
 told_alike plan limit (note.End (Strange k)) s tells = tells
 told_alike plan limit (note.From k) s tells = absurd tells
+told_alike plan limit other s tells = tells
 
 after_one : (plan : Plan) (limit : ℕ) (rows : List Row) (s t : State) → AreTold plan s rows
     → MayGoOn (outcome_of (after_rows plan s rows).stage) → EndedOr s t → AreTold (raised limit plan) s rows

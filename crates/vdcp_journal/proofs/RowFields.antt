@@ -11,15 +11,10 @@ pub row_fault : (unit : ℕ) (time word text detail : List ℕ) (fault : Journal
     → HasNoNote unit (time ∷ word ∷ text ∷ detail ∷ []) → IsRowFault unit (time ∷ word ∷ text ∷ detail ∷ []) fault
 row_fault unit time word text detail Many h n = absurd h
 row_fault unit time word text detail Time h n = absurd h
-row_fault unit time word text detail Word h n = record { none = n; word = word; second = refl; of_word = h }
-row_fault unit time word text detail Command h n = record { none = n; word = word; second = refl; of_word = h }
-row_fault unit time word text detail Reply h n = record { none = n; word = word; second = refl; of_word = h }
-row_fault unit time word text detail Outcome h n = record { none = n; word = word; second = refl; of_word = h }
-row_fault unit time word text detail Event h n = record { none = n; word = word; second = refl; of_word = h }
-row_fault unit time word text detail Detail h n = record { none = n; word = word; second = refl; of_word = h }
 row_fault unit time word text detail Digest h n = absurd h
 row_fault unit time word text detail Mode h n = absurd h
 row_fault unit time word text detail Number h n = absurd h
+row_fault unit time word text detail other h n = record { none = n; word = word; second = refl; of_word = h }
 
 -- a list of this length is the fields at its places
 

@@ -69,13 +69,6 @@ one_loss_more rows row is = losses_more rows row ∙ ap (λ (b : Bool). losses r
 
 -- only a note that says so is a loss
 is_lost : (n : Note) → is_loss n ≡ true → n ≡ note.End Lost
-is_lost (note.Sent c) is = cc is
-is_lost (note.Heard h) is = cc is
-is_lost note.Silence is = cc is
-is_lost note.Take is = cc is
-is_lost note.Stop is = cc is
-is_lost (note.End Done) is = cc is
-is_lost (note.End Stopped) is = cc is
 is_lost (note.End Lost) is = refl
 is_lost (note.End Denied) is = cc is
 is_lost (note.End (Missing k)) is = cc is
@@ -83,6 +76,7 @@ is_lost (note.End (Refused k)) is = cc is
 is_lost (note.End (Foreign k)) is = cc is
 is_lost (note.End (Strange k)) is = cc is
 is_lost (note.From k) is = cc is
+is_lost other is = cc is
 
 -- a run that was lost so often has the same limits as one that was lost 1,000 times at the most
 
@@ -124,13 +118,8 @@ awaits_none plan came s outcome is ends = cc
 
 tells_going_by : (plan : Plan) (n : Note) (call : Call) (s : State) (outcome : Outcome) → call_of n ≡ Some call
     → Tells plan s n → s.stage ≡ Ended outcome → ⊥
-tells_going_by plan (note.Sent c) call s outcome is tells ended = cc
-tells_going_by plan (note.Heard h) call s outcome is tells ended = cc
-tells_going_by plan note.Silence call s outcome is tells ended = cc
-tells_going_by plan note.Take call s outcome is tells ended = cc
-tells_going_by plan note.Stop call s outcome is tells ended = cc
-tells_going_by plan (note.End o) call s outcome is tells ended = cc
 tells_going_by plan (note.From k) call s outcome is tells ended = tells
+tells_going_by plan other call s outcome is tells ended = cc
 
 same_of : (s t : State) → ((outcome : Outcome) → s.stage ≡ Ended outcome → ⊥) → EndedOr s t → t ≡ s
 same_of s t goes (inl (outcome, is)) = absurd (goes outcome is)

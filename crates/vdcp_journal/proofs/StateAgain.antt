@@ -138,8 +138,7 @@ ended plan p take n m i g b =
 
 asks_in_given : (plan : Plan) (stage : Stage) → asks (given_in plan false stage) ≡ asks_in plan stage
 asks_in_given plan (Ready p) = refl
-asks_in_given plan (Awaiting p) = refl
-asks_in_given plan (Ended outcome) = refl
+asks_in_given plan other = refl
 
 -- a transition that stays in a phase, from a controller that heard a state
 left : (plan : Plan) (t : Transition) (q p : Phase) (take : Bool) (n m i : ℕ) (s : State)
@@ -177,24 +176,11 @@ leaves plan (phase.Check k) take n m i g b a h = no refl a
 leaves plan phase.Drain take n m i g b a h =
     left plan _ phase.Drain phase.Drain take n m i _ (ended plan phase.Drain take n m i g b)
     (from_drain plan (length plan.list) (is_cueing (state g b) || is_done (state g b)) (is_playing (state g b))) refl h
-leaves plan phase.Close take n m i g b a h = no refl a
-leaves plan phase.Halt take n m i g b a h = no refl a
-leaves plan phase.HaltClose take n m i g b a h = no refl a
+leaves plan other take n m i g b a h = no refl a
 
 put_again : (p : Phase) → put (put p) ≡ put p
 put_again phase.Open = refl
-put_again phase.Select = refl
-put_again phase.Seen = refl
-put_again (phase.Exists k) = refl
-put_again (phase.Cue k) = refl
-put_again (phase.Wait k) = refl
-put_again (phase.Play k) = refl
-put_again (phase.Probe k) = refl
-put_again (phase.Check k) = refl
-put_again phase.Drain = refl
-put_again phase.Close = refl
-put_again phase.Halt = refl
-put_again phase.HaltClose = refl
+put_again other = refl
 
 -- twice is once, where the state is asked thrice
 abbrev Again : Plan → Heard → State → Type 0

@@ -389,22 +389,7 @@ notes_alike opens counts airs mode before after (note.Sent (command.Status group
 notes_alike opens counts airs mode before after (note.Sent (command.Status groups)) note.Stop is h = cc h
 notes_alike opens counts airs mode before after (note.Sent (command.Status groups)) (note.End outcome) is h = cc h
 notes_alike opens counts airs mode before after (note.Sent (command.Status groups)) (note.From k) is h = cc h
-notes_alike opens counts airs mode before after (note.Sent (command.Open port lock)) hears is h = cc is
-notes_alike opens counts airs mode before after (note.Sent (command.Close port)) hears is h = cc is
-notes_alike opens counts airs mode before after (note.Sent (command.Select port)) hears is h = cc is
-notes_alike opens counts airs mode before after (note.Sent (command.PlayCue id)) hears is h = cc is
-notes_alike opens counts airs mode before after (note.Sent (command.CueData id start duration)) hears is h = cc is
-notes_alike opens counts airs mode before after (note.Sent command.Play) hears is h = cc is
-notes_alike opens counts airs mode before after (note.Sent command.Stop) hears is h = cc is
-notes_alike opens counts airs mode before after (note.Sent command.ActiveId) hears is h = cc is
-notes_alike opens counts airs mode before after (note.Sent (command.IdRequest id)) hears is h = cc is
-notes_alike opens counts airs mode before after (note.Sent (command.IdSize id)) hears is h = cc is
-notes_alike opens counts airs mode before after (note.Heard x) hears is h = cc is
-notes_alike opens counts airs mode before after note.Silence hears is h = cc is
-notes_alike opens counts airs mode before after note.Take hears is h = cc is
-notes_alike opens counts airs mode before after note.Stop hears is h = cc is
-notes_alike opens counts airs mode before after (note.End outcome) hears is h = cc is
-notes_alike opens counts airs mode before after (note.From k) hears is h = cc is
+notes_alike opens counts airs mode before after other hears is h = cc is
 
 -- so do those with another state before a PLAY
 

@@ -33,9 +33,7 @@ given_awaited plan (Ended outcome) s c is g = cc g
 -- after the end of an exchange nothing is awaited
 none_awaited : (plan : Plan) (t : Transition) → awaited_in plan (stage_after t) ≡ None
 none_awaited plan (Goes p) = refl
-none_awaited plan (Settles k) = refl
-none_awaited plan (Retries k) = refl
-none_awaited plan (Ends outcome) = refl
+none_awaited plan other = refl
 
 ended_awaits : (plan : Plan) (stage : Stage) (s : State) (e : Exchange) (c : Command) → awaited_in plan stage ≡ Some c
     → awaited plan (ended_in plan stage e s) ≡ None

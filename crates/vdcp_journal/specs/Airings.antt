@@ -22,12 +22,7 @@ use Rattle.vdcp_words.specs.declared.command.Command.{Command}
 -- a PLAY goes out
 abbrev pub sends_play : Note → Bool
 sends_play (note.Sent c) = is_play_command c
-sends_play (note.Heard h) = false
-sends_play note.Silence = false
-sends_play note.Take = false
-sends_play note.Stop = false
-sends_play (note.End outcome) = false
-sends_play (note.From k) = false
+sends_play n = false
 
 abbrev pub is_play_row : Row → Bool
 is_play_row row = sends_play row.note
@@ -40,11 +35,7 @@ settled_in mode rows = settled mode (log_of rows)
 abbrev pub shows_end : Note → Bool
 shows_end (note.Sent c) = is_play_command c || is_stop_command c
 shows_end (note.Heard h) = hears (has_off 4) (Some h)
-shows_end note.Silence = false
-shows_end note.Take = false
-shows_end note.Stop = false
-shows_end (note.End outcome) = false
-shows_end (note.From k) = false
+shows_end n = false
 
 -- the time of the first row that shows that
 abbrev pub end_in : List Row → Option Moment
@@ -77,11 +68,7 @@ ended_by row airing = record airing { ended = option_or airing.ended (end_in (ro
 abbrev pub announces_after : Bool → Note → Bool
 announces_after before (note.Sent c) = is_status_command c && before
 announces_after before (note.Heard h) = hears is_done (Some h) && (hears is_playing (Some h) || before)
-announces_after before note.Silence = false
-announces_after before note.Take = false
-announces_after before note.Stop = false
-announces_after before (note.End outcome) = false
-announces_after before (note.From k) = false
+announces_after before n = false
 
 abbrev pub announces_from : Bool → List Row → Bool
 announces_from before [] = before

@@ -37,25 +37,19 @@ lines_left remaining lines =
 
 -- the event's number is one of the machine's
 abbrev pub IsWritableOutcome : Outcome → Type 0
-IsWritableOutcome Done = ⊤
-IsWritableOutcome Stopped = ⊤
-IsWritableOutcome Lost = ⊤
-IsWritableOutcome Denied = ⊤
 IsWritableOutcome (Missing k) = k < 2 ^ 64
 IsWritableOutcome (Refused k) = k < 2 ^ 64
 IsWritableOutcome (Foreign k) = k < 2 ^ 64
 IsWritableOutcome (Strange k) = k < 2 ^ 64
+IsWritableOutcome outcome = ⊤
 
 -- the numbers are bytes, and a state has a state byte exactly if its bitmap asks for one, as in each that is heard
 abbrev pub IsWritableNote : Note → Type 0
 IsWritableNote (note.Sent c) = IsWritableCommand c
 IsWritableNote (note.Heard (heard.Reply r)) = IsWritableReply r
-IsWritableNote (note.Heard heard.Other) = ⊤
-IsWritableNote note.Silence = ⊤
-IsWritableNote note.Take = ⊤
-IsWritableNote note.Stop = ⊤
 IsWritableNote (note.End outcome) = IsWritableOutcome outcome
 IsWritableNote (note.From k) = k < 2 ^ 64
+IsWritableNote n = ⊤
 
 abbrev pub AreWritable : List Row → Type 0
 AreWritable [] = ⊤

@@ -94,12 +94,8 @@ timed_out plan state = came_to plan None state
 -- the fault of a note that doesn't stand
 abbrev pub fault_of : Note → ResumeFault
 fault_of (note.Sent c) = Command
-fault_of (note.Heard h) = Unawaited
-fault_of note.Silence = Unawaited
-fault_of note.Take = Unawaited
-fault_of note.Stop = Unawaited
 fault_of (note.End outcome) = Outcome
-fault_of (note.From event) = Unawaited
+fault_of n = Unawaited
 
 -- row k is the first that doesn't stand
 pub record IsResumeFault (plan : Plan) (rows : List Row) (k : ℕ) (fault : ResumeFault) : Type 0 where
@@ -121,20 +117,13 @@ abbrev pub open_after : Option Asked → Note → Option Asked
 open_after asked (note.Sent c) = Some c
 open_after asked (note.Heard h) = None
 open_after asked note.Silence = None
-open_after asked note.Take = asked
-open_after asked note.Stop = asked
-open_after asked (note.End outcome) = asked
-open_after asked (note.From k) = asked
+open_after asked n = asked
 
 -- the exchange that a note ends, if it ends one, before those that come after it
 abbrev pub ended_at : Option Asked → Note → List Exchange → List Exchange
-ended_at asked (note.Sent c) log = log
 ended_at asked (note.Heard h) log = exchange_with (Some h) asked log
 ended_at asked note.Silence log = exchange_with None asked log
-ended_at asked note.Take log = log
-ended_at asked note.Stop log = log
-ended_at asked (note.End outcome) log = log
-ended_at asked (note.From k) log = log
+ended_at asked n log = log
 
 abbrev pub log_from : Option Asked → List Row → List Exchange
 log_from asked [] = exchange_with None asked []

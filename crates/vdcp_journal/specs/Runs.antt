@@ -13,13 +13,8 @@ pub record Run : Type 0 where
 
 -- the event with which a run begins after this note, if one does
 abbrev pub begins_at : Note → Option ℕ
-begins_at (note.Sent c) = None
-begins_at (note.Heard h) = None
-begins_at note.Silence = None
-begins_at note.Take = None
-begins_at note.Stop = None
-begins_at (note.End outcome) = None
 begins_at (note.From k) = Some k
+begins_at n = None
 
 -- the run that ends before a row, if one does
 abbrev pub ended_runs : Option ℕ → Run → List Run

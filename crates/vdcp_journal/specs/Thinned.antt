@@ -12,22 +12,12 @@ use Rattle.vdcp_words.specs.declared.reply.Reply.{Reply}
 -- the state is asked for
 abbrev pub asks_state : Note → Bool
 asks_state (note.Sent c) = is_status_command c
-asks_state (note.Heard h) = false
-asks_state note.Silence = false
-asks_state note.Take = false
-asks_state note.Stop = false
-asks_state (note.End outcome) = false
-asks_state (note.From k) = false
+asks_state n = false
 
 -- a reply of this kind is heard
 abbrev pub hears_so : (Reply → Bool) → Note → Bool
-hears_so kind (note.Sent c) = false
 hears_so kind (note.Heard h) = hears kind (Some h)
-hears_so kind note.Silence = false
-hears_so kind note.Take = false
-hears_so kind note.Stop = false
-hears_so kind (note.End outcome) = false
-hears_so kind (note.From k) = false
+hears_so kind n = false
 
 -- a state is heard
 abbrev pub hears_state : Note → Bool

@@ -70,10 +70,8 @@ twice same rate front clips row clip given e can there = (
 -- a row of two fields
 pub last_one : (row : FileRow) (field : List ℕ) → length row ≡ 2 → Some field ≡ slice_get row 1
     → drop 1 row ≡ field ∷ []
-last_one [] field size e = absurd (omega (arith, size))
-last_one (first ∷ []) field size e = absurd (omega (arith, size))
 last_one (first ∷ second ∷ []) field size e = let same : second ≡ field = cc e in ap (λ f. f ∷ []) same
-last_one (first ∷ second ∷ third ∷ row) field size e = absurd (omega (arith, size))
+last_one other field size e = absurd (omega (arith, size))
 
 pub one_field : (a b : List ℕ) → ◌≡◌ {A = FileRow} (a ∷ []) (b ∷ []) → a ≡ b
 one_field a b e = cc

@@ -148,9 +148,6 @@ one_some a b e = cc
 pub last_two : (row : FileRow) (start duration : List ℕ) → length row ≡ 3 → Some start ≡ slice_get row 1
     → Some duration ≡ slice_get row 2
     → drop 1 row ≡ start ∷ duration ∷ []
-last_two [] start duration size e h = absurd (omega (arith, size))
-last_two (first ∷ []) start duration size e h = absurd (omega (arith, size))
-last_two (first ∷ second ∷ []) start duration size e h = absurd (omega (arith, size))
 last_two (first ∷ second ∷ third ∷ []) start duration size e h =
     ap₂ (λ s d. s ∷ d ∷ []) (one_some second start (sym e)) (one_some third duration (sym h))
-last_two (first ∷ second ∷ third ∷ fourth ∷ row) start duration size e h = absurd (omega (arith, size))
+last_two other start duration size e h = absurd (omega (arith, size))

@@ -46,8 +46,4 @@ takes_row {R} remaining old new found fields config h =
 -- a failure of csv is one of the reader or of memory
 pub is_read_fault : (kind : ErrorKind) → IsReadFault (fault_of_kind kind)
 is_read_fault kinds.OutOfMemory = tt
-is_read_fault (kinds.Io error) = tt
-is_read_fault (kinds.Utf8 place error) = tt
-is_read_fault (kinds.UnequalLengths place expected found) = tt
-is_read_fault (kinds.Serialize text) = tt
-is_read_fault (kinds.Deserialize place error) = tt
+is_read_fault other = tt

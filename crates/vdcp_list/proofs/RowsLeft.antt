@@ -11,24 +11,13 @@ use Rattle.vdcp_list.specs.Rows.{rows_from}
 abbrev pub is_between : State → Bool
 is_between st.StartRecord = true
 is_between st.AfterCr = true
-is_between st.StartField = false
-is_between st.InField = false
-is_between st.InQuoted = false
-is_between st.AfterQuote = false
-is_between st.InEscape = false
-is_between st.InComment = false
+is_between other = false
 
 -- the byte that ends a record leaves the reader between two
 between_at_end : (s : State) (c : ℕ) → is_end (step default_config s c).1 ≡ true
     → is_between (step default_config s c).0 ≡ true
 between_at_end st.StartRecord c e = grind arith
-between_at_end st.AfterCr c e = grind arith
-between_at_end st.StartField c e = grind arith
-between_at_end st.InField c e = grind arith
-between_at_end st.InQuoted c e = grind arith
-between_at_end st.AfterQuote c e = grind arith
-between_at_end st.InEscape c e = grind arith
-between_at_end st.InComment c e = grind arith
+between_at_end other c e = grind arith
 
 -- what a record leaves: a state between two, and fewer bytes
 record Left (p : Read) (size : ℕ) : Type 0 where
@@ -48,12 +37,7 @@ left_end : (s : State) (fields : List (List ℕ)) (field : List ℕ) (p : Read)
 unfolding next_record
 left_end st.StartRecord fields field p e = cc
 left_end st.AfterCr fields field p e = cc
-left_end st.StartField fields field p e = ended fields field p e
-left_end st.InField fields field p e = ended fields field p e
-left_end st.InQuoted fields field p e = ended fields field p e
-left_end st.AfterQuote fields field p e = ended fields field p e
-left_end st.InEscape fields field p e = ended fields field p e
-left_end st.InComment fields field p e = ended fields field p e
+left_end other fields field p e = ended fields field p e
 
 left_here : (b : Bool) (s s' : State) (c : ℕ) (fields : List (List ℕ)) (rest : List ℕ) (p : Read) (more : Option Read)
     → is_end (step default_config s c).1 ≡ b → s' ≡ (step default_config s c).0
@@ -80,12 +64,7 @@ none_between : (s : State) → is_between s ≡ true → ◌≡◌ {A = Option R
 unfolding next_record
 none_between st.StartRecord e = refl
 none_between st.AfterCr e = refl
-none_between st.StartField e = cc
-none_between st.InField e = cc
-none_between st.InQuoted e = cc
-none_between st.AfterQuote e = cc
-none_between st.InEscape e = cc
-none_between st.InComment e = cc
+none_between other e = cc
 
 enough_next : (n m : ℕ) (next : Option Read) → ((r : Read) → next ≡ Some r
     → records_from default_config n r.1 r.2 ≡ records_from default_config m r.1 r.2)

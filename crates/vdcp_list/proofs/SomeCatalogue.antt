@@ -36,9 +36,6 @@ seconds : (a b c d : List ℕ) → ◌≡◌ {A = FileRow} (a ∷ b ∷ []) (c �
 seconds a b c d e = cc
 
 read_clip : FieldLaws → (rate : Rate) (row : FileRow) → IsRead rate row
-read_clip v rate [] = inr (λ before. (Columns, λ e. omega (arith, e), λ k h. h))
-read_clip v rate (first ∷ []) = inr (λ before. (Columns, λ e. omega (arith, e), λ k h. h))
-read_clip v rate (first ∷ second ∷ third ∷ row) = inr (λ before. (Columns, λ e. omega (arith, e), λ k h. h))
 read_clip v rate (first ∷ second ∷ []) = by (id_or_none v.ids first) (time_or_none v.times rate second)
   where
     lasting : (id : ClipId) → first ≡ text_of_id id → (time : Timecode) → rate_of time ≡ rate → second ≡ text_of time
@@ -71,6 +68,7 @@ read_clip v rate (first ∷ second ∷ []) = by (id_or_none v.ids first) (time_o
           λ k h. h,
         ))
     by (inr n) t = inr (λ before. (Id, (refl, λ h. n h.0 (one_some first (text_of_id h.0) h.1)), λ k h. h))
+read_clip v rate other = inr (λ before. (Columns, λ e. omega (arith, e), λ k h. h))
 
 -- ---- all rows
 

@@ -55,10 +55,6 @@ read_whole v rate (first ∷ []) size = by (id_or_none v.ids first)
     by (inr n) = inr (Id, (refl, λ h. n h.0 (one_some first (text_of_id h.0) h.1)), λ k h. h)
 
 read_part : FieldLaws → (rate : Rate) (row : FileRow) → length row ≡ 3 → IsRead rate 3 row
-read_part v rate [] size = absurd (omega (arith, size))
-read_part v rate (first ∷ []) size = absurd (omega (arith, size))
-read_part v rate (first ∷ second ∷ []) size = absurd (omega (arith, size))
-read_part v rate (first ∷ second ∷ third ∷ fourth ∷ row) size = absurd (omega (arith, size))
 read_part v rate (first ∷ start ∷ duration ∷ []) size = by (id_or_none v.ids first) (part_or_none v rate start duration)
   where
     by : IsIds first → IsParts rate start duration → IsRead rate 3 (first ∷ start ∷ duration ∷ [])
@@ -77,6 +73,7 @@ read_part v rate (first ∷ start ∷ duration ∷ []) size = by (id_or_none v.i
           λ k h. h,
         )
     by (inr n) p = inr (Id, (refl, λ h. n h.0 (one_some first (text_of_id h.0) h.1)), λ k h. h)
+read_part v rate other size = absurd (omega (arith, size))
 
 abbrev IsSized : ℕ → FileRow → ℕ → Type 0
 IsSized columns row n = (length row ≡ columns) × (columns ≡ n)

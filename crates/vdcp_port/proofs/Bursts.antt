@@ -16,18 +16,14 @@ stays_undone keeps p e = e
 stays_undone opens p e = e
 stays_undone closes p e = refl
 stays_undone selects p e = e
-stays_undone (cues item) p e = refl
-stays_undone (airs item) p e = refl
-stays_undone stops p e = refl
+stays_undone other p e = refl
 
 was_done : (change : Change) (p : PortState) (item : Item) → (changed change p).cued ≡ done item → p.cued ≡ done item
 was_done keeps p item e = e
 was_done opens p item e = e
 was_done closes p item e = cc
 was_done selects p item e = e
-was_done (cues other) p item e = cc
-was_done (airs other) p item e = cc
-was_done stops p item e = cc
+was_done change p item e = cc
 
 undone_airs_nothing : (p : ClockedPort) (m : Content) (aired : Option Item) → aired_by p m ≡ aired
     → is_done p.state.cued ≡ false → aired_by p m ≡ None

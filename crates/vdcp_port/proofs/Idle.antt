@@ -30,8 +30,7 @@ tells_if p false r s x y = y
 
 tells_play : (p : PortState) (cued : Cued) → Tells p (play_row cued).answer
 tells_play p empty groups e = cc
-tells_play p (cueing item) groups e = cc
-tells_play p (done item) groups e = cc
+tells_play p other groups e = cc
 
 tells_size : (p : PortState) (length : Option Timecode) → Tells p (size_row length).answer
 tells_size p None groups e = cc

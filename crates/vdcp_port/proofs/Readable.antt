@@ -46,8 +46,7 @@ readable_size four (Some length) = four length
 
 readable_play : (cued : Cued) → IsReadable (play_row cued)
 readable_play empty = tt
-readable_play (cueing item) = tt
-readable_play (done item) = tt
+readable_play other = tt
 
 pub readable_row : FourBytes → (clips : List (ClipId × Timecode)) (p : PortState) (command : Command)
     → IsReadable (command_row clips p command)
@@ -74,8 +73,7 @@ has_if false r s p q = q
 
 has_play : (cued : Cued) → is_some (play_row cued).answer ≡ true
 has_play empty = refl
-has_play (cueing item) = refl
-has_play (done item) = refl
+has_play other = refl
 
 has_size : (length : Option Timecode) → is_some (size_row length).answer ≡ true
 has_size None = refl
@@ -90,11 +88,9 @@ has_answer clips p (PlayCue id) = has_if (is_selected p && is_playable clips (wh
 has_answer clips p (CueData id start duration) =
     has_if (is_selected p && is_playable clips (part_of id start duration)) _ _ refl refl
 has_answer clips p Play = has_if (is_selected p) _ _ (has_play p.cued) refl
-has_answer clips p Stop = has_if (is_selected p) _ _ refl refl
-has_answer clips p (Status bitmap) = has_if (is_selected p) _ _ refl refl
-has_answer clips p ActiveId = has_if (is_selected p) _ _ refl refl
 has_answer clips p (IdRequest id) = refl
 has_answer clips p (IdSize id) = has_size (length_of clips id)
+has_answer clips p other = has_if (is_selected p) _ _ refl refl
 
 readable_one : (answer : Option Reply) → is_some answer ≡ true → IfSome answer IsWritableReply
     → (reply : Reply) × (answer ≡ Some reply) × IsWritableReply reply

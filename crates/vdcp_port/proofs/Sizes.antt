@@ -30,12 +30,6 @@ frame_size rest check = length-append rest (check ∷ [])
 
 -- no answer is longer than one with an ID
 short_reply : ValueBytes → (unit : ℕ) (reply : Reply) → IsWritableReply reply → length (reply_bytes unit reply) ≤ 14
-short_reply law unit Ack w = lit≤ tt
-short_reply law unit (Nak byte) w = lit≤ tt
-short_reply law unit (Opened granted) w = lit≤ tt
-short_reply law unit (State bitmap None) w = lit≤ tt
-short_reply law unit (State bitmap (Some state)) w = lit≤ tt
-short_reply law unit (Active None) w = lit≤ tt
 short_reply law unit (Active (Some id)) w =
     omega (
       arith,
@@ -44,6 +38,8 @@ short_reply law unit (Active (Some id)) w =
     )
 short_reply law unit (Size time) w = omega (arith, law.counted 4 time w, frame_size)
 short_reply law unit (Present there) w = lit≤ tt
+short_reply law unit (State bitmap None) w = lit≤ tt
+short_reply law unit other w = lit≤ tt
 
 -- the answer, and the item, of a row
 abbrev IsShort : ℕ → Row → Type 0
@@ -72,12 +68,7 @@ short_for_message law p (framed kind unit code rest) bytes h =
 
 one_item : (change : Change) → length (option_to_list (on_air change)) ≤ 1
 one_item keeps = lit≤ tt
-one_item opens = lit≤ tt
-one_item closes = lit≤ tt
-one_item selects = lit≤ tt
-one_item (cues item) = lit≤ tt
-one_item (airs item) = lit≤ tt
-one_item stops = lit≤ tt
+one_item other = lit≤ tt
 
 -- at most one item airs for five bytes of a message
 pub one_item_for_five : (p : ClockedPort) (m : Content) (bytes : List ℕ) → Spells m bytes
@@ -126,8 +117,7 @@ items_for_five p (m ∷ ms) bytes (first, others, spells, spelt, parts) =
 
 short_end : (unit : ℕ) (end : End) → length (answer_bytes unit (end_answers end)) ≤ 2
 short_end unit clean = lit≤ tt
-short_end unit (cut count) = lit≤ tt
-short_end unit (fault which place) = lit≤ tt
+short_end unit other = lit≤ tt
 
 size_of_front : (limit : ℕ) (burst whole others : List ℕ) → take limit burst ≡ whole ++ others
     → length whole ≤ min (length burst) limit

@@ -26,61 +26,25 @@ again clips p command = command_row clips (changed (command_row clips p command)
 same_answer : (clips : List (ClipId × Timecode)) (p : PortState) (command : Command)
     → (again clips p command).answer ≡ (command_row clips p command).answer
 same_answer clips p (Open number lock) = grind (arith, common_steps)
-same_answer clips p (Close number) = grind (arith, common_steps)
-same_answer clips p (Select number) = grind (arith, common_steps)
-same_answer clips p (PlayCue id) = grind (arith, common_steps)
-same_answer clips p (CueData id start duration) = grind (arith, common_steps)
-same_answer clips p Play = grind (arith, common_steps)
-same_answer clips p Stop = grind (arith, common_steps)
-same_answer clips p (Status bitmap) = grind (arith, common_steps)
-same_answer clips p ActiveId = grind (arith, common_steps)
-same_answer clips p (IdRequest id) = grind (arith, common_steps)
-same_answer clips p (IdSize id) = grind (arith, common_steps)
+same_answer clips p other = grind (arith, common_steps)
 
 same_state : (clips : List (ClipId × Timecode)) (p : PortState) (command : Command)
     → changed (again clips p command).change (changed (command_row clips p command).change p)
     ≡ changed (command_row clips p command).change p
 same_state clips p (Open number lock) = grind (arith, common_steps)
-same_state clips p (Close number) = grind (arith, common_steps)
-same_state clips p (Select number) = grind (arith, common_steps)
-same_state clips p (PlayCue id) = grind (arith, common_steps)
-same_state clips p (CueData id start duration) = grind (arith, common_steps)
-same_state clips p Play = grind (arith, common_steps)
-same_state clips p Stop = grind (arith, common_steps)
-same_state clips p (Status bitmap) = grind (arith, common_steps)
-same_state clips p ActiveId = grind (arith, common_steps)
-same_state clips p (IdRequest id) = grind (arith, common_steps)
-same_state clips p (IdSize id) = grind (arith, common_steps)
+same_state clips p other = grind (arith, common_steps)
 
 same_counts : (clips : List (ClipId × Timecode)) (frames : ℕ) (c : Counts) (p : PortState) (command : Command)
     → counts_after clips frames (again clips p command).change
     (counts_after clips frames (command_row clips p command).change c)
     ≡ counts_after clips frames (command_row clips p command).change c
 same_counts clips frames c p (Open number lock) = grind (arith, common_steps)
-same_counts clips frames c p (Close number) = grind (arith, common_steps)
-same_counts clips frames c p (Select number) = grind (arith, common_steps)
-same_counts clips frames c p (PlayCue id) = grind (arith, common_steps)
-same_counts clips frames c p (CueData id start duration) = grind (arith, common_steps)
-same_counts clips frames c p Play = grind (arith, common_steps)
-same_counts clips frames c p Stop = grind (arith, common_steps)
-same_counts clips frames c p (Status bitmap) = grind (arith, common_steps)
-same_counts clips frames c p ActiveId = grind (arith, common_steps)
-same_counts clips frames c p (IdRequest id) = grind (arith, common_steps)
-same_counts clips frames c p (IdSize id) = grind (arith, common_steps)
+same_counts clips frames c p other = grind (arith, common_steps)
 
 nothing_airs : (clips : List (ClipId × Timecode)) (p : PortState) (command : Command)
     → on_air (again clips p command).change ≡ None
 nothing_airs clips p (Open number lock) = grind (arith, common_steps)
-nothing_airs clips p (Close number) = grind (arith, common_steps)
-nothing_airs clips p (Select number) = grind (arith, common_steps)
-nothing_airs clips p (PlayCue id) = grind (arith, common_steps)
-nothing_airs clips p (CueData id start duration) = grind (arith, common_steps)
-nothing_airs clips p Play = grind (arith, common_steps)
-nothing_airs clips p Stop = grind (arith, common_steps)
-nothing_airs clips p (Status bitmap) = grind (arith, common_steps)
-nothing_airs clips p ActiveId = grind (arith, common_steps)
-nothing_airs clips p (IdRequest id) = grind (arith, common_steps)
-nothing_airs clips p (IdSize id) = grind (arith, common_steps)
+nothing_airs clips p other = grind (arith, common_steps)
 
 -- the same of what a message asks
 
@@ -176,8 +140,7 @@ open_airs_nothing false item e = cc
 
 play_airs : (cued : Cued) (item : Item) → on_air (play_row cued).change ≡ Some item → cued ≡ done item
 play_airs empty item e = cc
-play_airs (cueing other) item e = cc
-play_airs (done other) item e = cc
+play_airs slot item e = cc
 
 command_airs : (clips : List (ClipId × Timecode)) (p : PortState) (command : Command) (item : Item)
     → on_air (command_row clips p command).change ≡ Some item → IsPlayOf p (asked.Command command) item
@@ -216,13 +179,9 @@ message_airs p m item e = asked_airs p.clips p.state (asked_of p.state.unit m) i
 -- the change that airs an item leaves it playing, and nothing cued
 airing : (change : Change) (p : PortState) (item : Item) → on_air change ≡ Some item
     → ((changed change p).playing ≡ Some item) × ((changed change p).cued ≡ empty)
-airing keeps p item e = cc
-airing opens p item e = cc
-airing closes p item e = cc
-airing selects p item e = cc
-airing (cues other) p item e = cc
 airing (airs other) p item e = (e, refl)
 airing stops p item e = cc
+airing change p item e = cc
 
 pub message_airing : (p : ClockedPort) (m : Content) (item : Item) → aired_by p m ≡ Some item
     → ((after_message p m).state.playing ≡ Some item) × ((after_message p m).state.cued ≡ empty)

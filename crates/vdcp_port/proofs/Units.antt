@@ -9,12 +9,7 @@ use Rattle.vdcp_port.specs.Row.{Change, keeps, opens, closes, selects, cues, air
 
 pub unit_of_changed : (change : Change) (p : PortState) → (changed change p).unit ≡ p.unit
 unit_of_changed keeps p = refl
-unit_of_changed opens p = refl
-unit_of_changed closes p = refl
-unit_of_changed selects p = refl
-unit_of_changed (cues item) p = refl
-unit_of_changed (airs item) p = refl
-unit_of_changed stops p = refl
+unit_of_changed other p = refl
 
 pub unit_of_next : (p : ClockedPort) (m : Content) → (after_message p m).state.unit ≡ p.state.unit
 unit_of_next p m = unit_of_changed (row_at p m).change p.state

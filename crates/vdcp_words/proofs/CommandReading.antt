@@ -49,11 +49,7 @@ no_type kind unit code rest a b d (Close port) h = b (sym h.0)
 no_type kind unit code rest a b d (Select port) h = b (sym h.0)
 no_type kind unit code rest a b d (PlayCue id) h = b (sym h.0)
 no_type kind unit code rest a b d (CueData id s t) h = b (sym h.0)
-no_type kind unit code rest a b d (Open port lock) h = d (sym h.0)
-no_type kind unit code rest a b d (Status bitmap) h = d (sym h.0)
-no_type kind unit code rest a b d ActiveId h = d (sym h.0)
-no_type kind unit code rest a b d (IdSize id) h = d (sym h.0)
-no_type kind unit code rest a b d (IdRequest id) h = d (sym h.0)
+no_type kind unit code rest a b d other h = d (sym h.0)
 
 -- ---- data
 

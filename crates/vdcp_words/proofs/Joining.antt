@@ -2,26 +2,16 @@
 use Rattle.std.proofs.Common.{◌≡◌, ◌∙◌, ℕ, List, [], ◌∷◌, ◌++◌, length, get_or, refl, ap, arith}
 
 four : (xs : List ℕ) → length xs ≡ 4 → get_or xs 0 0 ∷ get_or xs 1 0 ∷ get_or xs 2 0 ∷ get_or xs 3 0 ∷ [] ≡ xs
-four [] size = absurd (omega (arith, size))
-four (a ∷ []) size = absurd (omega (arith, size))
-four (a ∷ b ∷ []) size = absurd (omega (arith, size))
-four (a ∷ b ∷ c ∷ []) size = absurd (omega (arith, size))
 four (a ∷ b ∷ c ∷ d ∷ []) size = refl
 four (a ∷ b ∷ c ∷ d ∷ more ∷ rest) size = absurd (omega (arith, size))
+four other size = absurd (omega (arith, size))
 
 eight : (xs : List ℕ) → length xs ≡ 8 →
     get_or xs 0 0 ∷ get_or xs 1 0 ∷ get_or xs 2 0 ∷ get_or xs 3 0 ∷ get_or xs 4 0 ∷ get_or xs 5 0 ∷ get_or xs 6
     0 ∷ get_or xs 7 0 ∷ [] ≡ xs
-eight [] size = absurd (omega (arith, size))
-eight (a ∷ []) size = absurd (omega (arith, size))
-eight (a ∷ b ∷ []) size = absurd (omega (arith, size))
-eight (a ∷ b ∷ c ∷ []) size = absurd (omega (arith, size))
-eight (a ∷ b ∷ c ∷ d ∷ []) size = absurd (omega (arith, size))
-eight (a ∷ b ∷ c ∷ d ∷ e ∷ []) size = absurd (omega (arith, size))
-eight (a ∷ b ∷ c ∷ d ∷ e ∷ f ∷ []) size = absurd (omega (arith, size))
-eight (a ∷ b ∷ c ∷ d ∷ e ∷ f ∷ g ∷ []) size = absurd (omega (arith, size))
 eight (a ∷ b ∷ c ∷ d ∷ e ∷ f ∷ g ∷ h ∷ []) size = refl
 eight (a ∷ b ∷ c ∷ d ∷ e ∷ f ∷ g ∷ h ∷ more ∷ rest) size = absurd (omega (arith, size))
+eight other size = absurd (omega (arith, size))
 
 -- the numbers of eight and of twice four, one after another
 pub joined_parts : (xs ys zs : List ℕ) → length xs ≡ 8 → length ys ≡ 4 → length zs ≡ 4 →

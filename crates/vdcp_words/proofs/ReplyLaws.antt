@@ -49,13 +49,9 @@ same_code_of : (kind unit code : ℕ) (rest : List ℕ) (reply : Reply) →
     SameCode (framed kind unit code rest) (reply_message 0 reply) → code_of reply ≡ code
 same_code_of kind unit code rest Ack h = absurd h
 same_code_of kind unit code rest (Nak byte) h = absurd h
-same_code_of kind unit code rest (Opened granted) h = h.1
 same_code_of kind unit code rest (State bitmap None) h = h.1
-same_code_of kind unit code rest (State bitmap (Some state)) h = h.1
 same_code_of kind unit code rest (Active None) h = h.1
-same_code_of kind unit code rest (Active (Some id)) h = h.1
-same_code_of kind unit code rest (Size time) h = h.1
-same_code_of kind unit code rest (Present there) h = h.1
+same_code_of kind unit code rest other h = h.1
 
 same_id_read : ValueLaws → (i j : ClipId) (more : List ℕ) → id_bytes i ≡ take 8 more → id_bytes j ≡ take 8 more →
     Active (Some i) ≡ Active (Some j)
@@ -167,10 +163,6 @@ pub unit_of-reply : (unit : ℕ) (reply : Reply) → IsFramed (reply_message uni
     unit_of (reply_message unit reply) ≡ unit
 unit_of-reply unit Ack h = absurd h
 unit_of-reply unit (Nak byte) h = absurd h
-unit_of-reply unit (Opened granted) h = refl
 unit_of-reply unit (State bitmap None) h = refl
-unit_of-reply unit (State bitmap (Some state)) h = refl
 unit_of-reply unit (Active None) h = refl
-unit_of-reply unit (Active (Some id)) h = refl
-unit_of-reply unit (Size time) h = refl
-unit_of-reply unit (Present there) h = refl
+unit_of-reply unit other h = refl

@@ -87,13 +87,9 @@ no_type : (kind unit code : ℕ) (rest : List ℕ) → kind ≢ 3 → (r : Reply
     SameCode (framed kind unit code rest) (reply_message 0 r) → ⊥
 no_type kind unit code rest other Ack h = h
 no_type kind unit code rest other (Nak byte) h = h
-no_type kind unit code rest other (Opened granted) h = other (sym h.0)
 no_type kind unit code rest other (State bitmap None) h = other (sym h.0)
-no_type kind unit code rest other (State bitmap (Some byte)) h = other (sym h.0)
 no_type kind unit code rest other (Active None) h = other (sym h.0)
-no_type kind unit code rest other (Active (Some id)) h = other (sym h.0)
-no_type kind unit code rest other (Size time) h = other (sym h.0)
-no_type kind unit code rest other (Present there) h = other (sym h.0)
+no_type kind unit code rest other reply h = other (sym h.0)
 
 sense_reply_reads : ValueLaws → (unit code : ℕ) (rest : List ℕ) → All (λ b. b < 256) rest →
     ReadsReply (framed 3 unit code rest) (sense_reply_of code rest)

@@ -132,15 +132,9 @@ command_of-written v unit command writable =
 
 rest_of-reply : (unit : ℕ) (reply : Reply) →
     rest_of (reply_message 0 reply) ≡ rest_of (reply_message unit reply)
-rest_of-reply unit replies.Ack = refl
-rest_of-reply unit (replies.Nak byte) = refl
-rest_of-reply unit (replies.Opened granted) = refl
 rest_of-reply unit (replies.State bitmap None) = refl
-rest_of-reply unit (replies.State bitmap (Some state)) = refl
 rest_of-reply unit (replies.Active None) = refl
-rest_of-reply unit (replies.Active (Some id)) = refl
-rest_of-reply unit (replies.Size time) = refl
-rest_of-reply unit (replies.Present there) = refl
+rest_of-reply unit other = refl
 
 pub reply_of-written : ValueLaws → (unit : ℕ) (reply : Reply) → IsWritableReply reply →
     reply_of (reply_message unit reply) ≡ Ok reply
