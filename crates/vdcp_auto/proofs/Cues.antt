@@ -31,9 +31,6 @@ cue_kind other is = false_is_true is
 
 status_kind : (c : Command) → is_status_command c ≡ true → (is_play_command c ≡ false) × (is_cue_command c ≡ false)
 status_kind (command.Status groups) is = (refl, refl)
-status_kind command.ActiveId is = false_is_true is
-status_kind (command.IdRequest id) is = false_is_true is
-status_kind (command.IdSize id) is = false_is_true is
 status_kind other is = false_is_true is
 
 play_kind : (c : Command) → is_play_command c ≡ true → is_status_command c ≡ false

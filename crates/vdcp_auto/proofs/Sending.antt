@@ -93,9 +93,6 @@ item_some (x ∷ xs) (suc k) P is within = item_some xs k P is (omega arith)
 
 sent_some : (list : List Item) (port : ℕ) (p : Phase) → IsPhaseOf (length list) p
     → is_some (command_in list port p) ≡ true
-sent_some list port phase.Open within = refl
-sent_some list port phase.Select within = refl
-sent_some list port phase.Seen within = refl
 sent_some list port (phase.Exists k) within = item_some list k
     (λ o. is_some (option_map (λ item. command.IdRequest item.id) o)) (λ item. refl) within
 sent_some list port (phase.Cue k) within = item_some list k (λ o. is_some (option_map cue_of o)) (λ item. refl) within

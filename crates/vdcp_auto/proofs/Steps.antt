@@ -43,9 +43,6 @@ record IsMute (e : Exchange) : Type 0 where
 
 has_state : (r : Reply) → is_state r ≡ false → (is_done r ≡ false) × (is_empty r ≡ false)
 has_state (reply.State g (Some b)) h = cc
-has_state (reply.Active i) h = (refl, refl)
-has_state (reply.Present b) h = (refl, refl)
-has_state (reply.Size t) h = (refl, refl)
 has_state other h = (refl, refl)
 
 -- what each phase sends

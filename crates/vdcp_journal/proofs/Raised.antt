@@ -58,11 +58,6 @@ if_or false x y z h = inr refl
 
 replied : (mode : Mode) (list : List Item) (take : Bool) (tries a b : ℕ) (p : Phase) (r : Reply) → a ≤ b
     → EndsOr (on_reply mode list a take tries p r) (on_reply mode list b take tries p r)
-replied mode list take tries a b phase.Open r few = inr refl
-replied mode list take tries a b phase.Select r few = inr refl
-replied mode list take tries a b phase.Seen r few = inr refl
-replied mode list take tries a b (phase.Exists k) r few = inr refl
-replied mode list take tries a b (phase.Cue k) r few = inr refl
 replied mode list take tries a b (phase.Wait k) r few =
     if_either _ (Goes (phase.Play k)) _ _
     (if_or (is_empty r) (on_lost_cue mode a tries k) (on_lost_cue mode b tries k) (Goes (phase.Wait k))
@@ -113,8 +108,6 @@ came_if plan limit (Some e) s few = exchanged plan limit s.stage e s few
 
 pub called : (plan : Plan) (limit : ℕ) (call : Option Call) (s : State) → plan.limit ≤ limit
     → EndedOr (after_call_if plan call s) (after_call_if (raised limit plan) call s)
-called plan limit None s few = inr refl
-called plan limit (Some Tick) s few = inr refl
 called plan limit (Some (Receive came)) s few = came_if plan limit (ended_by plan came s) s few
 called plan limit other s few = inr refl
 
@@ -122,7 +115,6 @@ called plan limit other s few = inr refl
 
 still_ended : (plan : Plan) (call : Option Call) (s : State) (outcome : Outcome) → s.stage ≡ Ended outcome
     → (after_call_if plan call s).stage ≡ Ended outcome
-still_ended plan None s outcome is = is
 still_ended plan (Some Tick) s outcome is = cc
 still_ended plan (Some (Receive came)) s outcome is = cc
 still_ended plan other s outcome is = is
@@ -137,11 +129,6 @@ ends_so plan (row ∷ rows) s outcome is =
 -- what is told of one that was lost
 only_lost : (plan plan' : Plan) (n : Note) (s t : State) → s.stage ≡ Ended Lost → Tells plan s n → Tells plan' t n
 only_lost plan plan' (note.End Lost) s t is tells = tt
-only_lost plan plan' (note.End Denied) s t is tells = cc
-only_lost plan plan' (note.End (Missing k)) s t is tells = cc
-only_lost plan plan' (note.End (Refused k)) s t is tells = cc
-only_lost plan plan' (note.End (Foreign k)) s t is tells = cc
-only_lost plan plan' (note.End (Strange k)) s t is tells = cc
 only_lost plan plan' (note.From k) s t is tells = absurd tells
 only_lost plan plan' other s t is tells = cc
 
@@ -161,11 +148,6 @@ lost_if o outcome is (inr lost) = cc
 -- no row tells of the limit
 told_alike : (plan : Plan) (limit : ℕ) (n : Note) (s : State) → Tells plan s n → Tells (raised limit plan) s n
 told_alike plan limit (note.End Lost) s tells = tt
-told_alike plan limit (note.End Denied) s tells = tells
-told_alike plan limit (note.End (Missing k)) s tells = tells
-told_alike plan limit (note.End (Refused k)) s tells = tells
-told_alike plan limit (note.End (Foreign k)) s tells = tells
-told_alike plan limit (note.End (Strange k)) s tells = tells
 told_alike plan limit (note.From k) s tells = absurd tells
 told_alike plan limit other s tells = tells
 

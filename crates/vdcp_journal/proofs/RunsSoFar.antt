@@ -70,12 +70,6 @@ one_loss_more rows row is = losses_more rows row ∙ ap (λ (b : Bool). losses r
 -- only a note that says so is a loss
 is_lost : (n : Note) → is_loss n ≡ true → n ≡ note.End Lost
 is_lost (note.End Lost) is = refl
-is_lost (note.End Denied) is = cc is
-is_lost (note.End (Missing k)) is = cc is
-is_lost (note.End (Refused k)) is = cc is
-is_lost (note.End (Foreign k)) is = cc is
-is_lost (note.End (Strange k)) is = cc is
-is_lost (note.From k) is = cc is
 is_lost other is = cc is
 
 -- a run that was lost so often has the same limits as one that was lost 1,000 times at the most

@@ -89,26 +89,8 @@ at_notes plan s (note.Sent c) (note.Heard (heard.Reply (reply.State g (Some b)))
       after = ap (λ (x : State). after_notes plan x (note.Sent c ∷ after)) (sym same);
       told = (told.0, (told.1.0, subst (λ (x : State). AllTold plan x (note.Sent c ∷ after)) same third));
     }
-at_notes plan s (note.Sent c) (note.Heard (heard.Reply (reply.State g None))) after is h told = cc h
-at_notes plan s (note.Sent c) (note.Heard (heard.Reply reply.Ack)) after is h told = cc h
-at_notes plan s (note.Sent c) (note.Heard (heard.Reply (reply.Nak e))) after is h told = cc h
-at_notes plan s (note.Sent c) (note.Heard (heard.Reply (reply.Opened granted))) after is h told = cc h
-at_notes plan s (note.Sent c) (note.Heard (heard.Reply (reply.Active id))) after is h told = cc h
-at_notes plan s (note.Sent c) (note.Heard (heard.Reply (reply.Present present))) after is h told = cc h
-at_notes plan s (note.Sent c) (note.Heard (heard.Reply (reply.Size size))) after is h told = cc h
-at_notes plan s (note.Sent c) (note.Heard heard.Other) after is h told = cc h
-at_notes plan s (note.Sent c) (note.Sent d) after is h told = cc h
-at_notes plan s (note.Sent c) note.Silence after is h told = cc h
-at_notes plan s (note.Sent c) note.Take after is h told = cc h
-at_notes plan s (note.Sent c) note.Stop after is h told = cc h
-at_notes plan s (note.Sent c) (note.End outcome) after is h told = cc h
-at_notes plan s (note.Sent c) (note.From k) after is h told = cc h
-at_notes plan s (note.Heard x) hears after is h told = cc is
-at_notes plan s note.Silence hears after is h told = cc is
-at_notes plan s note.Take hears after is h told = cc is
-at_notes plan s note.Stop hears after is h told = cc is
-at_notes plan s (note.End outcome) hears after is h told = cc is
-at_notes plan s (note.From k) hears after is h told = cc is
+at_notes plan s (note.Sent c) hears after is h told = cc h
+at_notes plan s asks hears after is h told = cc is
 
 -- what a note asks or hears
 record Asks (n : Note) : Type 0 where
@@ -375,20 +357,7 @@ notes_alike opens counts airs mode before after (note.Sent (command.Status group
     (alike_more opens counts airs mode ((front ++ e ∷ []) ++ e ∷ []) (front ++ e ∷ []) more
     (twice opens counts airs mode front groups g b))
     (alike_same mode _ _ (sym short)))
-notes_alike opens counts airs mode before after (note.Sent (command.Status groups)) (note.Heard (heard.Reply (reply.State g None))) is h = cc h
-notes_alike opens counts airs mode before after (note.Sent (command.Status groups)) (note.Heard (heard.Reply reply.Ack)) is h = cc h
-notes_alike opens counts airs mode before after (note.Sent (command.Status groups)) (note.Heard (heard.Reply (reply.Nak e))) is h = cc h
-notes_alike opens counts airs mode before after (note.Sent (command.Status groups)) (note.Heard (heard.Reply (reply.Opened granted))) is h = cc h
-notes_alike opens counts airs mode before after (note.Sent (command.Status groups)) (note.Heard (heard.Reply (reply.Active id))) is h = cc h
-notes_alike opens counts airs mode before after (note.Sent (command.Status groups)) (note.Heard (heard.Reply (reply.Present present))) is h = cc h
-notes_alike opens counts airs mode before after (note.Sent (command.Status groups)) (note.Heard (heard.Reply (reply.Size size))) is h = cc h
-notes_alike opens counts airs mode before after (note.Sent (command.Status groups)) (note.Heard heard.Other) is h = cc h
-notes_alike opens counts airs mode before after (note.Sent (command.Status groups)) (note.Sent d) is h = cc h
-notes_alike opens counts airs mode before after (note.Sent (command.Status groups)) note.Silence is h = cc h
-notes_alike opens counts airs mode before after (note.Sent (command.Status groups)) note.Take is h = cc h
-notes_alike opens counts airs mode before after (note.Sent (command.Status groups)) note.Stop is h = cc h
-notes_alike opens counts airs mode before after (note.Sent (command.Status groups)) (note.End outcome) is h = cc h
-notes_alike opens counts airs mode before after (note.Sent (command.Status groups)) (note.From k) is h = cc h
+notes_alike opens counts airs mode before after (note.Sent (command.Status groups)) hears is h = cc h
 notes_alike opens counts airs mode before after other hears is h = cc is
 
 -- so do those with another state before a PLAY

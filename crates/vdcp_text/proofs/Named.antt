@@ -39,12 +39,9 @@ HasId x (Close port) = Unit {0}
 HasId x (Select port) = Unit {0}
 HasId x (PlayCue id) = x ≡ id
 HasId x (CueData id start duration) = x ≡ id
-HasId x Play = Unit {0}
-HasId x Stop = Unit {0}
-HasId x (Status bitmap) = Unit {0}
-HasId x ActiveId = Unit {0}
 HasId x (IdRequest id) = x ≡ id
 HasId x (IdSize id) = x ≡ id
+HasId x other = Unit {0}
 
 has_id : SaysIds → (words : List (List ℕ)) (c : Command) → Names words c → HasId (second_id words) c
 has_id says words (Open port lock) names = tt
@@ -67,14 +64,11 @@ one_name says words (PlayCue id) b n m = let first = has_id says words (PlayCue 
     let second = has_id says words b m in grind (arith)
 one_name says words (CueData id x y) b n m = let first = has_id says words (CueData id x y) n in
     let second = has_id says words b m in grind (arith)
-one_name says words Play b n m = grind (arith)
-one_name says words Stop b n m = grind (arith)
-one_name says words (Status bitmap) b n m = grind (arith)
-one_name says words ActiveId b n m = grind (arith)
 one_name says words (IdRequest id) b n m = let first = has_id says words (IdRequest id) n in
     let second = has_id says words b m in grind (arith)
 one_name says words (IdSize id) b n m = let first = has_id says words (IdSize id) n in
     let second = has_id says words b m in grind (arith)
+one_name says words other b n m = grind (arith)
 
 -- what is read of words that name a command
 pub named : SaysIds → (words : List (List ℕ)) (c : Command) (r : Option Command) → Names words c → IfSome r (Names words)
@@ -133,11 +127,7 @@ pair_is_byte byte low = pairs_are_read 0 (byte ∷ []) (grind (arith))
 -- eight digits are a time code's
 pub digits_are_time : (time : List ℕ) → AreBytes 4 time → IsTimeText (hex_text time) time
 digits_are_time (a ∷ b ∷ c ∷ d ∷ []) are = (refl, pairs_are_read 0 (a ∷ b ∷ c ∷ d ∷ []) (grind (arith)))
-digits_are_time [] are = absurd (grind (arith))
-digits_are_time (a ∷ []) are = absurd (grind (arith))
-digits_are_time (a ∷ b ∷ []) are = absurd (grind (arith))
-digits_are_time (a ∷ b ∷ c ∷ []) are = absurd (grind (arith))
-digits_are_time (a ∷ b ∷ c ∷ d ∷ e ∷ more) are = absurd (grind (arith))
+digits_are_time other are = absurd (grind (arith))
 
 -- ---- the words of a command's text
 
@@ -261,11 +251,7 @@ names_one have (IdSize id) text word rest low e cut no_open no_part =
 
 eight : (time : List ℕ) → AreBytes 4 time → length (hex_text time) ≡ 8
 eight (a ∷ b ∷ c ∷ d ∷ []) are = refl
-eight [] are = absurd (grind (arith))
-eight (a ∷ []) are = absurd (grind (arith))
-eight (a ∷ b ∷ []) are = absurd (grind (arith))
-eight (a ∷ b ∷ c ∷ []) are = absurd (grind (arith))
-eight (a ∷ b ∷ c ∷ d ∷ e ∷ more) are = absurd (grind (arith))
+eight other are = absurd (grind (arith))
 
 -- a text that begins with `cue-data`: an ID and two time codes
 pub record IsPartText (c : Command) (rest : List ℕ) : Type 0 where
