@@ -14,7 +14,7 @@ use Rattle.vdcp_laws.specs.LossyEvents.{CanGoUp, answering, events_down, events_
 use Rattle.vdcp_lossy.specs.declared.doing.Doing.{Doing}
 use Rattle.vdcp_lossy.specs.declared.doing.Doing.TheVariants as doing
 use Rattle.vdcp_lossy.specs.declared.doing.Receipt.TheVariants as receipt
-use Rattle.vdcp_lossy.specs.declared.doing.Way.TheVariants as way
+use Rattle.vdcp_auto.specs.declared.burst.Way.TheVariants as way
 use Rattle.vdcp_world.specs.Channel.{Channel, after_event, after_events, altered, can_become, can_become_up}
 use Rattle.vdcp_world.specs.declared.event.Event.TheVariants.{Down, Up}
 

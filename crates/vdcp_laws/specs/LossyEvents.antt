@@ -6,7 +6,7 @@ use Rattle.vdcp_frame.specs.Message.{spelling}
 use Rattle.vdcp_lossy.specs.Doings.{CanBe, joined, receipt_message}
 use Rattle.vdcp_lossy.specs.declared.doing.Doing.{Doing}
 use Rattle.vdcp_lossy.specs.declared.doing.Doing.TheVariants as doing
-use Rattle.vdcp_lossy.specs.declared.doing.Way.TheVariants as way
+use Rattle.vdcp_auto.specs.declared.burst.Way.TheVariants as way
 use Rattle.vdcp_port.specs.Answers.{aired_for, after_burst}
 use Rattle.vdcp_world.specs.Channel.{Channel, answered, log_hearing, state_hearing}
 use Rattle.vdcp_world.specs.declared.event.Event.{Event}

@@ -6,7 +6,7 @@ ghost use Rattle.vdcp_frame.specs.Message.{AreOctets};
 ghost use Rattle.vdcp_lossy.specs.Doings.{CanBe, goes_on};
 ghost use Rattle.vdcp_laws.specs.LossyEvents.{CanGoUp, answering, events_down, events_up, hearing_joined};
 ghost use Rattle.vdcp_lossy.specs.declared.doing.Doing.{Doing};
-ghost use Rattle.vdcp_lossy.specs.declared.doing.Way.TheVariants as way;
+ghost use Rattle.vdcp_auto.specs.declared.burst.Way.TheVariants as way;
 ghost use Rattle.vdcp_world.specs.Channel.{Channel, after_events};
 
 /// Everything `lossy` does is a sequence of channel events, those of which the headline speaks. On the way down

@@ -7,7 +7,7 @@ use Rattle.vdcp_lossy.specs.Doings.{IsForged}
 use Rattle.vdcp_lossy.specs.Printed.{Fate, of_command, of_answer, of_nothing, PrintsFate, IsPrinted, PrintsFates, counts_text, end_line, fate_line, fate_lines, no_counts, with_answer, with_command, with_fate, with_fates}
 use Rattle.vdcp_lossy.specs.declared.doing.Doing.{Doing}
 use Rattle.vdcp_lossy.specs.declared.doing.Doing.TheVariants as doing
-use Rattle.vdcp_lossy.specs.declared.doing.Way.TheVariants as way
+use Rattle.vdcp_auto.specs.declared.burst.Way.TheVariants as way
 use Rattle.vdcp_lossy.specs.declared.session.CarryEnd.{CarryEnd}
 use Rattle.vdcp_lossy.specs.declared.tally.Tally.{Tally}
 use Rattle.vdcp_wire.specs.Listening.{PrintsListening, listening_line}
@@ -73,13 +73,8 @@ tells_answer d came t u v a b counted told =
 
 pub tells_nothing : (d : Doing) (t v : Tally) (a b : Option (List ℕ)) → IsForged d → PrintsFate way.Up d [] t v a b
     → PrintsFates t v a b
-tells_nothing doing.Through t v a b forged told = absurd forged
-tells_nothing doing.Lost t v a b forged told = absurd forged
-tells_nothing doing.Late t v a b forged told = absurd forged
-tells_nothing doing.Copied t v a b forged told = absurd forged
-tells_nothing (doing.Cut count) t v a b forged told = absurd forged
-tells_nothing (doing.Damaged bytes) t v a b forged told = absurd forged
 tells_nothing (doing.Forged r) t v a b forged told = tells_one (of_nothing r) t v a b told.counted told.gained
+tells_nothing other t v a b forged told = absurd forged
 
 -- the whole
 pub printed : (t u v : Tally) (end : CarryEnd) (a b c d : Option (List ℕ)) → t ≡ no_counts → PrintsListening a b

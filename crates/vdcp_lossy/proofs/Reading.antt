@@ -11,7 +11,7 @@ use Rattle.vdcp_frame.specs.Message.{Content}
 use Rattle.vdcp_frame.specs.Reading.{End, clean, cut, fault}
 use Rattle.vdcp_lossy.specs.Texts.{burst_line, doing_text, joined_parts, last_text, parts_of, reading_line, way_text}
 use Rattle.vdcp_lossy.specs.declared.doing.Doing.{Doing}
-use Rattle.vdcp_lossy.specs.declared.doing.Way.{Way}
+use Rattle.vdcp_auto.specs.declared.burst.Way.{Way}
 use Rattle.vdcp_text.specs.Text.{end_text, shown_text}
 
 -- parts joined

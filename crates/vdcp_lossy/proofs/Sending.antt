@@ -9,7 +9,7 @@ use Rattle.vdcp_lossy.specs.Doings.{MayBeDone, adds_part, goes_on, joined, part_
 use Rattle.vdcp_lossy.specs.declared.doing.Chances.{Chances}
 use Rattle.vdcp_lossy.specs.declared.doing.Doing.{Doing}
 use Rattle.vdcp_lossy.specs.declared.doing.Doing.TheVariants as doing
-use Rattle.vdcp_lossy.specs.declared.doing.Way.{Way}
+use Rattle.vdcp_auto.specs.declared.burst.Way.{Way}
 
 -- what is sent in place of a burst: a copy's first one is the burst itself
 abbrev pub once : Doing → Doing
@@ -45,9 +45,7 @@ part came doing.Through told = adds came told
 part came doing.Lost told = adds_none told
 part came doing.Late told = adds_none told
 part came doing.Copied told = adds came told
-part came (doing.Cut count) told = adds _ told
-part came (doing.Damaged bytes) told = adds _ told
-part came (doing.Forged r) told = adds _ told
+part came other told = adds _ told
 
 drops : (told : Option Told) → sent_by (adds_drop told) ≡ sent_by told
 drops None = refl

@@ -7,8 +7,8 @@ use Rattle.vdcp_lossy.specs.declared.session.Brought.{Brought}
 use Rattle.vdcp_lossy.specs.declared.session.Brought.TheVariants as brought
 use Rattle.vdcp_lossy.specs.declared.doing.Chances.{Chances}
 use Rattle.vdcp_lossy.specs.declared.doing.Doing.{Doing}
-use Rattle.vdcp_lossy.specs.declared.doing.Way.{Way}
-use Rattle.vdcp_lossy.specs.declared.doing.Way.TheVariants as way
+use Rattle.vdcp_auto.specs.declared.burst.Way.{Way}
+use Rattle.vdcp_auto.specs.declared.burst.Way.TheVariants as way
 
 -- the bytes that went out, if a wire tells them
 abbrev pub sent_by : Option Told → Option (List ℕ)

@@ -11,8 +11,8 @@ use Rattle.vdcp_lossy.specs.declared.doing.Throw.{Throw}
 use Rattle.vdcp_lossy.specs.declared.doing.Throw.TheVariants as throw
 use Rattle.vdcp_lossy.specs.declared.doing.Receipt.{Receipt}
 use Rattle.vdcp_lossy.specs.declared.doing.Receipt.TheVariants as receipt
-use Rattle.vdcp_lossy.specs.declared.doing.Way.{Way}
-use Rattle.vdcp_lossy.specs.declared.doing.Way.TheVariants as way
+use Rattle.vdcp_auto.specs.declared.burst.Way.{Way}
+use Rattle.vdcp_auto.specs.declared.burst.Way.TheVariants as way
 use Rattle.vdcp_world.specs.Channel.{can_become}
 
 -- a receipt as a message
@@ -59,13 +59,11 @@ CanBeForged way.Up (receipt.Nak byte) = byte < 256
 
 -- what can be done with a burst that came this way: what is cut or damaged is damage that a channel allows
 abbrev pub CanBe : Way → List ℕ → Doing → Type 0
-CanBe w came doing.Through = Unit {0}
-CanBe w came doing.Lost = Unit {0}
-CanBe w came doing.Late = Unit {0}
 CanBe w came doing.Copied = CanBeCopied w came
 CanBe w came (doing.Cut count) = (0 < count) × (count < length came) × (can_become came (take count came) ≡ true)
 CanBe w came (doing.Damaged bytes) = can_become came bytes.items ≡ true
 CanBe w came (doing.Forged r) = CanBeForged w r
+CanBe w came d = Unit {0}
 
 -- what dice with these chances can throw: nothing that has no chance, and nothing else if the chance is 100
 abbrev pub CanBeThrown : Chances → Throw → Type 0
@@ -92,13 +90,8 @@ HasChance chances (doing.Forged r) = (0 < chances.forge) × (chances.lose < 100)
 
 -- a receipt is forged
 abbrev pub IsForged : Doing → Type 0
-IsForged doing.Through = ⊥
-IsForged doing.Lost = ⊥
-IsForged doing.Late = ⊥
-IsForged doing.Copied = ⊥
-IsForged (doing.Cut count) = ⊥
-IsForged (doing.Damaged bytes) = ⊥
 IsForged (doing.Forged r) = CanBeForged way.Up r
+IsForged d = ⊥
 
 -- what may be done with a burst that came this way: what dice with these chances throw, or it is late
 abbrev pub MayBeDone : Chances → Way → List ℕ → Doing → Type 0

@@ -6,8 +6,8 @@ use Rattle.vdcp_lossy.specs.Texts.{burst_line}
 use Rattle.vdcp_lossy.specs.declared.doing.Doing.{Doing}
 use Rattle.vdcp_lossy.specs.declared.doing.Doing.TheVariants as doing
 use Rattle.vdcp_lossy.specs.declared.doing.Receipt.{Receipt}
-use Rattle.vdcp_lossy.specs.declared.doing.Way.{Way}
-use Rattle.vdcp_lossy.specs.declared.doing.Way.TheVariants as way
+use Rattle.vdcp_auto.specs.declared.burst.Way.{Way}
+use Rattle.vdcp_auto.specs.declared.burst.Way.TheVariants as way
 use Rattle.vdcp_lossy.specs.declared.session.CarryEnd.{CarryEnd}
 use Rattle.vdcp_lossy.specs.declared.session.CarryEnd.TheVariants as ends
 use Rattle.vdcp_lossy.specs.declared.tally.Tally.{Tally}

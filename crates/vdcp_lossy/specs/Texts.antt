@@ -7,8 +7,8 @@ use Rattle.vdcp_frame.specs.Reading.{End, clean, cut, fault}
 use Rattle.vdcp_lossy.specs.Doings.{receipt_message}
 use Rattle.vdcp_lossy.specs.declared.doing.Doing.{Doing}
 use Rattle.vdcp_lossy.specs.declared.doing.Doing.TheVariants as doing
-use Rattle.vdcp_lossy.specs.declared.doing.Way.{Way}
-use Rattle.vdcp_lossy.specs.declared.doing.Way.TheVariants as way
+use Rattle.vdcp_auto.specs.declared.burst.Way.{Way}
+use Rattle.vdcp_auto.specs.declared.burst.Way.TheVariants as way
 use Rattle.vdcp_text.specs.Text.{end_text, line, message_text, shown_text}
 
 abbrev pub way_text : Way → List ℕ

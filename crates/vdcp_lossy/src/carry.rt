@@ -9,12 +9,13 @@ ghost use Rattle.vdcp_lossy.specs.Doings.{adds_part, goes_on, joined, part_on, r
 ghost use Rattle.vdcp_lossy.specs.Printed.{PrintsFate, PrintsFates};
 ghost use Rattle.vdcp_lossy.specs.declared.doing.Doing.{Doing};
 
-use crate::doing::{Doing, HeldBurst, Receipt, Way};
+use crate::doing::{Doing, HeldBurst, Receipt};
 use crate::session::{Brought, CarryEnd, CarryFault, Session};
 use arrayvec::ArrayVec;
 use std::io;
 use std::rt::Clock;
 use std::time::Instant;
+use vdcp_auto::Way;
 use vdcp_frame::write;
 use vdcp_wire::{Wire, WireFault};
 

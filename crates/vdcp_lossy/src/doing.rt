@@ -1,13 +1,14 @@
 //! What can be done with a burst, and how that is thrown.
 ghost use Rattle.std.specs.Prelude.{◌≡◌, ◌≢◌, ◌⊎◌, ◌<◌, ◌≤◌, ◌∷◌, List, length, true, IfSome};
+ghost use Rattle.vdcp_auto.specs.declared.burst.Way.{Way};
 ghost use Rattle.vdcp_frame.specs.Burst.{messages_of};
 ghost use Rattle.vdcp_frame.specs.Message.{Content, content_of};
 ghost use Rattle.vdcp_lossy.specs.Doings.{CanBe, CanBeForged, CanBeThrown, HasChance, IsForged, receipt_message};
 ghost use Rattle.vdcp_lossy.specs.declared.doing.Chances.{Chances};
-ghost use Rattle.vdcp_lossy.specs.declared.doing.Way.{Way};
 
 use crate::dice::Dice;
 use arrayvec::ArrayVec;
+use vdcp_auto::Way;
 use vdcp_frame::{Message, Messages};
 use vdcp_world::can_become;
 
@@ -16,15 +17,6 @@ pub const MOST_BYTES: usize = 1024;
 
 /// A burst that is held.
 pub type HeldBurst = ArrayVec<u8, 1024>;
-
-/// The way that a burst goes.
-#[derive(Clone, Copy, Debug, PartialEq, Eq)]
-pub enum Way {
-    /// From the automation to the server.
-    Down,
-    /// From the server to the automation.
-    Up,
-}
 
 /// Chances of 100, each 0 to 100; each is of the bursts that those before it spare. `forge` is of answers alone, and
 /// of exchanges without one.

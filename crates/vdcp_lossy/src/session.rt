@@ -8,13 +8,14 @@ ghost use Rattle.vdcp_lossy.specs.Doings.{HasChance, IsForged, MayBeDone};
 ghost use Rattle.vdcp_lossy.specs.Printed.{PrintsFate, no_counts, with_answer, with_command};
 
 use crate::dice::Dice;
-use crate::doing::{Doing, HeldBurst, Way};
+use crate::doing::{Doing, HeldBurst};
 use crate::lossy::LossySettings;
 use crate::tally::Tally;
 use crate::text::write_burst_line;
 use std::io;
 use std::rt::Clock;
 use std::time::Instant;
+use vdcp_auto::Way;
 use vdcp_wire::{Came, PIECE, Wire, WireFault};
 
 /// Why nothing more is carried.

@@ -3,7 +3,7 @@ ghost use Rattle.std.specs.Prelude.{◌≡◌, false, IfOk};
 
 use crate::carry::carry;
 use crate::dice::Dice;
-use crate::doing::{Chances, Doing, Way};
+use crate::doing::{Chances, Doing};
 use crate::lossy::LossySettings;
 use crate::session::{CarryEnd, CarryFault, Session};
 use crate::tally::Tally;
@@ -15,6 +15,7 @@ use std::process::Abort;
 use std::rt::Clock;
 use std::test::Fail;
 use std::time::Duration;
+use vdcp_auto::Way;
 use vdcp_testing::{FailingWriter, Fails};
 use vdcp_wire::{Entry, ScriptWire};
 

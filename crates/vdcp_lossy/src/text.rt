@@ -1,11 +1,12 @@
 //! The line that is printed of a burst.
 ghost use Rattle.std.specs.Io.KnownBytes.{Appends};
-ghost use Rattle.std.specs.Prelude.{OnOk};
+ghost use Rattle.std.specs.Prelude.{◌≡◌, OnOk};
 ghost use Rattle.vdcp_frame.specs.Walk.{end_seen};
-ghost use Rattle.vdcp_lossy.specs.Texts.{burst_line, last_text, reading_line};
+ghost use Rattle.vdcp_lossy.specs.Texts.{burst_line, last_text, reading_line, way_text};
 
-use crate::doing::{Doing, Way};
+use crate::doing::Doing;
 use std::{fmt, io};
+use vdcp_auto::Way;
 use vdcp_frame::{End, Messages};
 use vdcp_text::{EndText, MeaningText, MessageText};
 
@@ -20,6 +21,7 @@ pub fn write_burst_line<W: io::Write>(
     ensures { OnOk result (Appends (W.contents out.old) (W.contents out.new)
         (burst_line number way doing.now came.now)) }
 {
+    let way = way_text(way);
     write!(out, "{number} {way} {doing} ")?;
     write_reading(came, out)?;
     writeln!(out)?;
@@ -56,17 +58,13 @@ fn write_end<W: io::Write>(end: End, between: &str, out: &mut W) -> io::Result<(
     }
 }
 
-impl fmt::Display for Way {
-    ghost use Rattle.std.specs.Prelude.{Some};
-    ghost use Rattle.vdcp_lossy.specs.Texts.{way_text};
-
-    ghost output = { λ way. Some (way_text way) };
-
-    fn fmt<W: fmt::Write>(&self, f: &mut fmt::Formatter<W>) -> fmt::Result {
-        match self {
-            Way::Down => write!(f, "down"),
-            Way::Up => write!(f, "up"),
-        }
+// The way as a word.
+fn way_text(way: Way) -> &'static str
+    ensures { result.now ≡ way_text way }
+{
+    match way {
+        Way::Down => "down",
+        Way::Up => "up",
     }
 }
 

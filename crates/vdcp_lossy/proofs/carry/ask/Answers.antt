@@ -1,6 +1,6 @@
 use Rattle.vdcp_lossy.proofs.Sending.{asked_twice}
 use Rattle.vdcp_lossy.proofs.carry.ask.Goals as goal
-use Rattle.vdcp_lossy.specs.declared.doing.Way.TheVariants.{Down}
+use Rattle.vdcp_auto.specs.declared.burst.Way.TheVariants.{Down}
 
 pub returns-in-Copied-clause-sent : goal.returns-in-Copied-clause-sent
 returns-in-Copied-clause-sent g c =

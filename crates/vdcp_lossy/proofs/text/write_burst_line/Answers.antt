@@ -7,6 +7,7 @@ returns g c =
     (g.W.Write.contents c.args.out.now)
     (g.W.Write.contents c.write.new.self) (g.W.Write.contents c.write_reading.new.out)
     (g.W.Write.contents c.writeln.new.self)
-    (g.W.Write.contents c.flush.new.self) c.in_ok-write.ensures.bytes c.in_ok-write_reading.ensures
+    (g.W.Write.contents c.flush.new.self) (rw c.way_text-way.ensures at c.in_ok-write.ensures.bytes)
+    c.in_ok-write_reading.ensures
     c.in_ok-writeln.ensures.bytes
     c.flush.ensures.bytes
