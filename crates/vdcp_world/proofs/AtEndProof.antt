@@ -17,8 +17,7 @@ use Rattle.vdcp_auto.specs.declared.phase.Mode.{Mode}
 use Rattle.vdcp_auto.specs.declared.phase.Mode.TheVariants.{Plain, Confirming}
 use Rattle.vdcp_auto.specs.declared.phase.Phase.{Phase}
 use Rattle.vdcp_auto.specs.declared.phase.Phase.TheVariants as phase
-use Rattle.vdcp_auto.specs.State.{Stage}
-use Rattle.vdcp_auto.specs.State.{Ready, Awaiting, Ended}
+use Rattle.vdcp_auto.specs.State.{Stage, Ready, Awaiting, Ended}
 use Rattle.vdcp_world.specs.AtEnd.{AreSlotsEmpty, IsAtRest, LeavesPort}
 use Rattle.vdcp_world.specs.Channel.{Channel, Make, IsReached, after_events, new_channel}
 use Rattle.vdcp_world.specs.declared.event.Event.{Event}
@@ -225,6 +224,5 @@ leaves below c r = by c.state.stage (reached_rests below c r)
   where
     by : (stage : Stage) → Rests c.plan.mode c.port.state stage → IfSome (outcome_of stage)
         (LeavesPort c.plan.mode c.port.state)
-    by (Ready q) h = tt
-    by (Awaiting q) h = tt
     by (Ended o) h = h
+    by _ h = tt

@@ -1,6 +1,6 @@
 -- Bytes that begin with the messages of others.
-use Rattle.std.proofs.Common.{ℕ, ◌≡◌, Bool, true, false, nat_eq, ◌&&◌, List, [], ◌∷◌, ◌++◌, length, take, drop}
-use Rattle.std.proofs.Common.{refl, arith, sym, ap, ap₂, subst, ◌∙◌, append_assoc}
+use Rattle.std.proofs.Common.{ℕ, ◌≡◌, Bool, true, false, nat_eq, List, [], ◌∷◌, ◌++◌, length, take, drop, refl, arith, sym, ap, ap₂, subst, ◌∙◌, append_assoc}
+use Rattle.std.proofs.lemmas.Bool.{and_parts}
 use Rattle.std.proofs.lemmas.List.{take-append-drop}
 use Rattle.std.specs.Cmp.Lexicographic.{pointwise}
 use Rattle.vdcp_frame.specs.Message.{Content, ack, nak, framed, Fits, Spells, spelling}
@@ -37,18 +37,15 @@ own_beginning : (ms others : List Content) → is_beginning ms (ms ++ others) �
 own_beginning [] others = refl
 own_beginning (m ∷ ms) others = grind (arith, own_message m, own_beginning ms others)
 
-left_of : (a b : Bool) → (a && b) ≡ true → a ≡ true
-left_of a b e = grind arith
-
-right_of : (a b : Bool) → (a && b) ≡ true → b ≡ true
-right_of a b e = grind arith
-
 pub is_beginning_of : (ms ns : List Content) → is_beginning ms ns ≡ true → (others : List Content) × (ns ≡ ms ++ others)
 is_beginning_of [] ns e = (ns, refl)
 is_beginning_of (m ∷ ms) [] e = cc
 is_beginning_of (m ∷ ms) (n ∷ ns) e =
-    let (others, more) = is_beginning_of ms ns (right_of (is_same_message m n) (is_beginning ms ns) e) in
-    (others, ap₂ (λ x xs. x ∷ xs) (sym (same_message m n (left_of (is_same_message m n) (is_beginning ms ns) e))) more)
+    let (others, more) = is_beginning_of ms ns (and_parts (is_same_message m n) (is_beginning ms ns) e).1 in (
+      others,
+      ap₂ (λ x xs. x ∷ xs) (sym (same_message m n (and_parts (is_same_message m n) (is_beginning ms ns) e).0))
+          more,
+    )
 
 beginning_of : (ms others : List Content) (whole : List ℕ) → SpellsAll (ms ++ others) whole
     → (a b : List ℕ) × SpellsAll ms a × (whole ≡ a ++ b)

@@ -28,9 +28,7 @@ use Rattle.vdcp_auto.specs.declared.phase.Mode.{Mode}
 use Rattle.vdcp_auto.specs.declared.phase.Mode.TheVariants.{Plain, Confirming}
 use Rattle.vdcp_auto.specs.declared.phase.Phase.{Phase}
 use Rattle.vdcp_auto.specs.declared.phase.Phase.TheVariants as phase
-use Rattle.vdcp_auto.specs.State.{Stage}
-use Rattle.vdcp_auto.specs.State.{Ready, Awaiting, Ended}
-use Rattle.vdcp_auto.specs.State.{State}
+use Rattle.vdcp_auto.specs.State.{Stage, Ready, Awaiting, Ended, State}
 use Rattle.vdcp_auto.specs.declared.phase.Transition.{Transition}
 use Rattle.vdcp_auto.specs.declared.phase.Transition.TheVariants as transition
 use Rattle.vdcp_world.specs.BoundedEnd.{IsDone, IsAllPlayable, CanGoOn, CanBegin, rounds_to_go_on, rounds_from_new, BoundedEnd}
@@ -232,13 +230,11 @@ plain_goes c can lawful (Ready q) e ready = by (is_halting q) refl
         impossible : true ≡ false → ⊥
         impossible e = cc
     by false halts = halts
-plain_goes c can lawful (Awaiting q) e ready = cc
-plain_goes c can lawful (Ended o) e ready = cc
+plain_goes c can lawful _ e ready = cc
 
 few_left : (r : ℕ) (stage : Stage) → left_at r stage ≤ 5 * r + 4
 few_left r (Ready q) = left_most r q
-few_left r (Awaiting q) = omega arith
-few_left r (Ended o) = omega arith
+few_left r _ = omega arith
 
 plain_end : Below → (c : Channel) → IsReached c → IsLawful c.plan c.state c.log → CanGoOn c → (n : ℕ)
     → rounds_to_go_on c ≤ n
@@ -463,22 +459,14 @@ confirmed_awaiting : Below → (c : Channel) (q : Phase) → IsKept c → c.plan
     → c.state.stop ≡ false
     → c.down ≡ [] → c.up ≡ [] → c.state.stage ≡ Awaiting q → HasExecuted c.port.state q
     → Ahead (left_behind (length c.plan.list - c.state.settled) q) (after_events c good_round)
-confirmed_awaiting below c phase.Open k confirms all none down up e comes = absurd comes
 confirmed_awaiting below c phase.Select k confirms all none down up e comes =
     confirmed_lapse below c phase.Select phase.Seen k confirms all none down up e refl refl comes
-confirmed_awaiting below c phase.Seen k confirms all none down up e comes = absurd comes
-confirmed_awaiting below c (phase.Exists i) k confirms all none down up e comes = absurd comes
 confirmed_awaiting below c (phase.Cue i) k confirms all none down up e comes =
     confirmed_lapse below c (phase.Cue i) (phase.Wait i) k confirms all none down up e refl refl comes
-confirmed_awaiting below c (phase.Wait i) k confirms all none down up e comes = absurd comes
 confirmed_awaiting below c (phase.Play i) k confirms all none down up e comes =
     confirmed_lapse below c (phase.Play i) (phase.Probe i) k confirms all none down up e refl refl comes
-confirmed_awaiting below c (phase.Probe i) k confirms all none down up e comes = absurd comes
-confirmed_awaiting below c (phase.Check i) k confirms all none down up e comes = absurd comes
-confirmed_awaiting below c phase.Drain k confirms all none down up e comes = absurd comes
 confirmed_awaiting below c phase.Close k confirms all none down up e comes = confirmed_close c confirms none down up e
-confirmed_awaiting below c phase.Halt k confirms all none down up e comes = absurd comes
-confirmed_awaiting below c phase.HaltClose k confirms all none down up e comes = absurd comes
+confirmed_awaiting below c _ k confirms all none down up e comes = absurd comes
 
 pub confirmed_ready : Below → (c : Channel) (q : Phase) → IsKept c → c.plan.mode ≡ Confirming → IsAllPlayable c
     → c.state.stop ≡ false

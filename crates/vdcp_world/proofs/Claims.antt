@@ -1,6 +1,7 @@
 -- What may be claimed of a channel beside the phase table, how a claim has to be closed, and that every event keeps one
 -- that is.
 use Rattle.std.proofs.Common.{◌≡◌, ◌≢◌, ℕ, ◌⊎◌, inl, inr, Bool, true, false, ◌||◌, ◌&&◌, List, [], ◌∷◌, ◌++◌, length, Option, Some, None, refl, sym, subst, ◌∙◌, arith, append-nil, if◌then◌else◌}
+use Rattle.std.proofs.lemmas.Bool.{or_left, or_right, and_parts}
 use Rattle.std.specs.List.{list_any}
 use Rattle.std.specs.Option.{option_to_list, option_map_or}
 use Rattle.std.specs.Prelude.{IfSome}
@@ -31,10 +32,8 @@ use Rattle.vdcp_auto.specs.declared.phase.Mode.{Mode}
 use Rattle.vdcp_auto.specs.declared.phase.Mode.TheVariants.{Plain, Confirming}
 use Rattle.vdcp_auto.specs.declared.phase.Phase.{Phase}
 use Rattle.vdcp_auto.specs.declared.phase.Transition.{Transition}
-use Rattle.vdcp_auto.specs.declared.phase.Transition.TheVariants.{Goes, Settles, Retries, Ends}
-use Rattle.vdcp_auto.specs.State.{Stage}
-use Rattle.vdcp_auto.specs.State.{Ready, Awaiting, Ended}
-use Rattle.vdcp_auto.specs.State.{State}
+use Rattle.vdcp_auto.specs.declared.phase.Transition.TheVariants.{Goes}
+use Rattle.vdcp_auto.specs.State.{Stage, Ready, Awaiting, Ended, State}
 use Rattle.vdcp_world.specs.Beginnings.{is_beginning}
 use Rattle.vdcp_world.specs.Channel.{Channel, Make, make_of, after_event, after_events, up_behind, answered, state_hearing, state_waiting, is_short, can_become, can_become_up, altered}
 use Rattle.vdcp_world.specs.NoCut.{is_take}
@@ -48,7 +47,7 @@ use Rattle.vdcp_world.proofs.OnTheWay.{ReadsNothing, ReadsCommand, IsQuiet, Way}
 use Rattle.vdcp_world.proofs.PhaseTable.{Place, PlaceAt, is_asked, port_after, aired_after, answer_after}
 use Rattle.vdcp_world.proofs.Reached.{make_stays}
 use Rattle.vdcp_world.proofs.TableKept.{gives_some, turn_same}
-use Rattle.vdcp_world.proofs.WayKept.{left_of, quiet_receipt, stray_same}
+use Rattle.vdcp_world.proofs.WayKept.{quiet_receipt, stray_same}
 use Rattle.vdcp_world.proofs.WayLemmas.{reads_nothing, reads_command}
 
 -- of the wish to take, the port, what went to air, and where the controller is
@@ -117,12 +116,11 @@ pub record Holds (S : Claim) (T : Telling) (c : Channel) : Type 0 where
 -- ---- what tells nothing
 
 pub told_none : (mode : Mode) (T : Telling) (p : PortState) (stage : Stage) → ToldOf mode T p stage None
-told_none mode T p (Ready q) = tt
 told_none mode T p (Awaiting q) = λ r e. absurd (impossible r e)
   where
     impossible : (r : Reply) → None ≡ Some (heard.Reply r) → ⊥
     impossible r e = cc
-told_none mode T p (Ended outcome) = tt
+told_none mode T p _ = tt
 
 same_reply : (a b : Reply) → Some (heard.Reply a) ≡ Some (heard.Reply b) → a ≡ b
 same_reply a b e = cc
@@ -137,9 +135,8 @@ quiet_tells Confirming T p q r quiet = λ no_receipt. absurd (impossible (sym qu
 
 told_quiet : (mode : Mode) (T : Telling) (p : PortState) (stage : Stage) (h : Option Heard) → IsQuiet mode h
     → ToldOf mode T p stage h
-told_quiet mode T p (Ready q) h quiet = tt
 told_quiet mode T p (Awaiting q) h quiet = λ r e. quiet_tells mode T p q r (subst (IsQuiet mode) e quiet)
-told_quiet mode T p (Ended outcome) h quiet = tt
+told_quiet mode T p _ h quiet = tt
 
 told_here : (mode : Mode) (T : Telling) (p : PortState) (q : Phase) (r : Reply) → T p q r → ToldOf mode T p (Awaiting q)
     (Some (heard.Reply r))
@@ -151,9 +148,8 @@ told_here mode T p q r t = λ s is. subst (λ x. TellsOf mode T p q x) (same_rep
 
 told_nak : (mode : Mode) (T : Telling) (p : PortState) (stage : Stage) (byte : ℕ)
     → ((q : Phase) → T p q (reply.Nak byte)) → ToldOf mode T p stage (Some (heard.Reply (reply.Nak byte)))
-told_nak mode T p (Ready q) byte t = tt
 told_nak mode T p (Awaiting q) byte t = told_here mode T p q (reply.Nak byte) (t q)
-told_nak mode T p (Ended outcome) byte t = tt
+told_nak mode T p _ byte t = tt
 
 -- ---- something comes, or nothing in time
 
@@ -165,11 +161,6 @@ turn_claim : (mode : Mode) (list : List Item) (port limit : ℕ) (clips : List (
     (c : Command) (came : Option Heard) → command_in list port q ≡ Some c → is_end mode c came ≡ true
     → S take p aired (Awaiting q) → ToldOf mode T p (Awaiting q) came
     → S take p aired (stage_after (turn_by mode list limit take tries unanswered counts q (answer_to c came)))
-turn_claim mode list port limit clips S T closed take p aired tries unanswered counts q c None e ends h told =
-    closed.silent take p aired unanswered counts q h
-turn_claim mode list port limit clips S T closed take p aired tries unanswered counts q c (Some heard.Other) e ends h
-    told =
-    closed.silent take p aired unanswered counts q h
 turn_claim mode list port limit clips S T closed take p aired tries unanswered counts q c (Some (heard.Reply r)) e ends
     h told =
     by (is_refusal r || fits c r) refl
@@ -205,6 +196,8 @@ turn_claim mode list port limit clips S T closed take p aired tries unanswered c
         (stage_after (turn_by mode list limit take tries unanswered counts q (if b then Some r else None)))
     by true f = answers (either (is_refusal r) (fits c r) f)
     by false f = closed.silent take p aired unanswered counts q h
+turn_claim mode list port limit clips S T closed take p aired tries unanswered counts q c _ e ends h told =
+    closed.silent take p aired unanswered counts q h
 
 came_claim : (m : Make) (S : Claim) (T : Telling) → ClosedFor m S T → (p : PortState) (aired : List Item)
     (state : State) (came : Option Heard)
@@ -238,9 +231,8 @@ came_claim m S T closed p aired state came h told = by state.stage h told
     by : (stage : Stage) → S state.take p aired stage → ToldOf m.plan.mode T p stage came
         → After (option_map_or (λ e. ended_in m.plan stage e state)
         (exchange_of m.plan.mode came (awaited_in m.plan stage)) state)
-    by (Ready q) g t = h
     by (Awaiting q) g t = awaits q g t (command_in m.plan.list m.plan.port q) refl
-    by (Ended outcome) g t = h
+    by _ g t = h
 
 came_told : (plan : Plan) (T : Telling) (p : PortState) (state : State) (came h : Option Heard)
     → ToldOf plan.mode T p state.stage h → ToldOf plan.mode T p (came_to plan came state).stage h
@@ -251,9 +243,7 @@ came_told plan T p state came h told = by state.stage
 
     turns : (transition : Transition) (n : ℕ) → After (state_after transition n state)
     turns (Goes q) n = tt
-    turns (Settles k) n = tt
-    turns (Retries k) n = tt
-    turns (Ends outcome) n = tt
+    turns _ n = tt
 
     ends : (q : Phase) (c : Command) (b : Bool)
         → After (option_map_or (λ e. ended_in plan (Awaiting q) e state)
@@ -271,9 +261,8 @@ came_told plan T p state came h told = by state.stage
     by : (stage : Stage)
         → After (option_map_or (λ e. ended_in plan stage e state) (exchange_of plan.mode came (awaited_in plan stage))
         state)
-    by (Ready q) = told
     by (Awaiting q) = awaits q (command_in plan.list plan.port q)
-    by (Ended outcome) = told
+    by _ = told
 
 -- ---- a tick
 
@@ -284,8 +273,7 @@ tick_claim m S T closed p aired state h = by state.stage h
   where
     by : (stage : Stage) → S state.take p aired stage → S (tick_in stage state).take p aired (tick_in stage state).stage
     by (Ready q) g = closed.sends state.take state.stop p aired q g
-    by (Awaiting q) g = h
-    by (Ended outcome) g = h
+    by _ g = h
 
 -- nothing is heard after a command that is given; and nothing changes where none is
 ticks_told : (c : Channel) (T : Telling) (g : Option Command) → given c.plan c.state ≡ g → IsKept c
@@ -301,8 +289,7 @@ ticks_told c T None e k told = by c.state.stage k.stands.place e
         absurd (gives_some c.plan.list c.plan.port c.port.state.cued c.aired c.state.settled
         (phase_to_send c.state.stop q)
         (tick_place c.plan.list c.port.state.cued c.aired c.state.settled c.state.stop q place) e)
-    by (Awaiting q) place e = told
-    by (Ended outcome) place e = told
+    by _ place e = told
 
 -- ---- the port reads what is on the way down
 
@@ -415,13 +402,12 @@ record PortHolds (S : Claim) (T : Telling) (mode : Mode) (take : Bool) (aired : 
 changed_told : (mode : Mode) (T : Telling) (p now : PortState) (stage : Stage) (h : Option Heard)
     → ((q : Phase) (r : Reply) → T p q r → T now q r)
     → ToldOf mode T p stage h → ToldOf mode T now stage h
-changed_told mode T p now (Ready q) h on told = tt
 changed_told mode T p now (Awaiting q) h on told = λ r e. of r mode (told r e)
   where
     of : (r : Reply) (mode : Mode) → TellsOf mode T p q r → TellsOf mode T now q r
     of r Plain t = on q r t
     of r Confirming t = λ none. on q r (t none)
-changed_told mode T p now (Ended outcome) h on told = tt
+changed_told mode T p now _ h on told = tt
 
 frame_claim : (m : Make) (S : Claim) (T : Telling) → ClosedFor m S T → (take : Bool) (aired : List Item) (stage : Stage)
     (h : Option Heard)
@@ -474,7 +460,7 @@ alters_told mode T c bytes true e told = by mode e told
         → Out mode (heard_in c.port.state.unit bytes)
     front mode can told =
         let (others, is) = is_beginning_of (messages_of bytes) (messages_of c.up)
-        (left_of (is_short bytes) (is_beginning (messages_of bytes) (messages_of c.up)) can) in
+        (and_parts (is_short bytes) (is_beginning (messages_of bytes) (messages_of c.up)) can).1 in
         fewer mode (messages_of bytes) others
         (subst (λ (ms : List Content). Out mode (heard_first c.port.state.unit ms)) is told)
 
@@ -486,7 +472,7 @@ alters_told mode T c bytes true e told = by mode e told
     which (inr (not_that, receipt)) told =
         told_quiet Confirming T c.port.state c.state.stage (heard_in c.port.state.unit bytes)
         (quiet_receipt (heard_in c.port.state.unit bytes)
-        (left_of (is_short bytes) (hears_receipt (heard_in c.port.state.unit bytes)) receipt))
+        (and_parts (is_short bytes) (hears_receipt (heard_in c.port.state.unit bytes)) receipt).1)
 
     by : (mode : Mode) → can_become_up mode c.port.state.unit c.up bytes ≡ true
         → Out mode (heard_in c.port.state.unit c.up)
@@ -577,12 +563,10 @@ claim_event below S T c event.UpCopy closed k takes h =
     let x = hears_claim S T c (heard_in c.port.state.unit c.up) (heard_in c.port.state.unit c.up) closed h h.told h.told
     in
     record { stands = x.stands; told = x.told }
-claim_event below S T c event.LoseDown closed k takes h = record { stands = h.stands; told = h.told }
 claim_event below S T c event.LoseUp closed k takes h = record {
   stands = h.stands;
   told = told_none c.plan.mode T c.port.state c.state.stage;
 }
-claim_event below S T c (event.AlterDown bytes) closed k takes h = record { stands = h.stands; told = h.told }
 claim_event below S T c (event.AlterUp bytes) closed k takes h = record {
   stands = h.stands;
   told = alters_told c.plan.mode T c bytes (can_become_up c.plan.mode c.port.state.unit c.up bytes) refl h.told;
@@ -615,11 +599,11 @@ claim_event below S T c event.Take closed k takes h = record {
   stands = takes refl c.state.take c.port.state c.aired c.state.stage h.stands;
   told = h.told;
 }
-claim_event below S T c event.Stop closed k takes h = record { stands = h.stands; told = h.told }
 claim_event below S T c event.StrayAck closed k takes h =
     same_claim S T c _ _ (stray_same below c.plan.mode c.plan c.state reply.Ack refl refl) h
 claim_event below S T c (event.StrayNak byte) closed k takes h =
     same_claim S T c _ _ (stray_same below c.plan.mode c.plan c.state (reply.Nak byte) refl refl) h
+claim_event below S T c _ closed k takes h = record { stands = h.stands; told = h.told }
 
 -- events, of which the operator takes in none, or the claim is kept where he does
 pub claim_events : Below → (S : Claim) (T : Telling) (c : Channel) (es : List Event) → ClosedFor (make_of c) S T
@@ -629,11 +613,5 @@ claim_events below S T c [] closed k takes h = h
 claim_events below S T c (e ∷ es) closed k takes h =
     claim_events below S T (after_event c e) es (subst (λ (m : Make). ClosedFor m S T) (sym (make_stays c e)) closed)
     (kept_event below c e k)
-    (λ some. takes (later (is_take e) (list_any is_take es) some))
-    (claim_event below S T c e closed k (λ some. takes (now (is_take e) (list_any is_take es) some)) h)
-  where
-    now : (a b : Bool) → a ≡ true → (a || b) ≡ true
-    now a b e = grind arith
-
-    later : (a b : Bool) → b ≡ true → (a || b) ≡ true
-    later a b e = grind arith
+    (λ some. takes (or_right (is_take e) (list_any is_take es) some))
+    (claim_event below S T c e closed k (λ some. takes (or_left (is_take e) (list_any is_take es) some)) h)

@@ -19,8 +19,7 @@ use Rattle.vdcp_auto.specs.Turn.{stage_after, settled_after}
 use Rattle.vdcp_auto.specs.declared.phase.Mode.TheVariants.{Confirming}
 use Rattle.vdcp_auto.specs.declared.phase.Phase.{Phase}
 use Rattle.vdcp_auto.specs.declared.phase.Phase.TheVariants as phase
-use Rattle.vdcp_auto.specs.State.{Stage}
-use Rattle.vdcp_auto.specs.State.{Ready, Awaiting, Ended}
+use Rattle.vdcp_auto.specs.State.{Stage, Ready, Awaiting, Ended}
 use Rattle.vdcp_auto.specs.declared.phase.Transition.{Transition}
 use Rattle.vdcp_world.specs.InStep.{IsReadyFor, HasExecuted, IsInStep}
 use Rattle.vdcp_world.proofs.Exchanges.{turn_by}
@@ -74,9 +73,6 @@ senses phase.HaltClose = false
 
 pub sense_of : (list : List Item) (port : ℕ) (q : Phase) (c : Command) → command_in list port q ≡ Some c
     → is_sense c ≡ senses q
-sense_of list port phase.Open c e = cc
-sense_of list port phase.Select c e = cc
-sense_of list port phase.Seen c e = cc
 sense_of list port (phase.Exists k) c e = of_request (slice_get list k) e
   where
     of_request : (o : Option Item) → option_map (λ item. command.IdRequest item.id) o ≡ Some c → is_sense c ≡ true
@@ -94,14 +90,7 @@ sense_of list port (phase.Cue k) c e = of_cue (slice_get list k) e
     of_cue : (o : Option Item) → option_map cue_of o ≡ Some c → is_sense c ≡ false
     of_cue None e = cc
     of_cue (Some item) e = of_part item.id item.part (same (cue_of item) c e)
-sense_of list port (phase.Wait k) c e = cc
-sense_of list port (phase.Play k) c e = cc
-sense_of list port (phase.Probe k) c e = cc
-sense_of list port (phase.Check k) c e = cc
-sense_of list port phase.Drain c e = cc
-sense_of list port phase.Close c e = cc
-sense_of list port phase.Halt c e = cc
-sense_of list port phase.HaltClose c e = cc
+sense_of list port _ c e = cc
 
 -- a cue gets done, and the clip ends, before the command is sent
 
@@ -162,24 +151,19 @@ pub sense_steps : (list : List Item) (clips : List (ClipId × Timecode)) (p : Po
     (turn_by Confirming list limit take tries unanswered counts q (answer_at (command_in list port q) r))
 sense_steps list clips p aired settled port limit tries unanswered take counts phase.Open r n i j f h w on a =
     grind arith
-sense_steps list clips p aired settled port limit tries unanswered take counts phase.Select r n i j f h w on a = cc
 sense_steps list clips p aired settled port limit tries unanswered take counts phase.Seen r n i j f h w on a =
     grind (arith, comes_next)
 sense_steps list clips p aired settled port limit tries unanswered take counts (phase.Exists k) r n i j f h w on a =
     exists_steps list clips p settled port limit tries unanswered take counts k (slice_get list k) r w (f k) a
-sense_steps list clips p aired settled port limit tries unanswered take counts (phase.Cue k) r n i j f h w on a = cc
 sense_steps list clips p aired settled port limit tries unanswered take counts (phase.Wait k) r n i j f h w on a =
     grind arith
-sense_steps list clips p aired settled port limit tries unanswered take counts (phase.Play k) r n i j f h w on a = cc
 sense_steps list clips p aired settled port limit tries unanswered take counts (phase.Probe k) r n i j f h w on a =
     grind arith
 sense_steps list clips p aired settled port limit tries unanswered take counts (phase.Check k) r n i j f h w on a =
     grind (arith, comes_next)
 sense_steps list clips p aired settled port limit tries unanswered take counts phase.Drain r n i j f h w on a =
     grind arith
-sense_steps list clips p aired settled port limit tries unanswered take counts phase.Close r n i j f h w on a = cc
-sense_steps list clips p aired settled port limit tries unanswered take counts phase.Halt r n i j f h w on a = cc
-sense_steps list clips p aired settled port limit tries unanswered take counts phase.HaltClose r n i j f h w on a = cc
+sense_steps list clips p aired settled port limit tries unanswered take counts _ r n i j f h w on a = cc
 
 -- ---- a command that only a receipt answers
 
@@ -207,17 +191,11 @@ pub receipt_stays : (list : List Item) (clips : List (ClipId × Timecode)) (p : 
     → PlaceReady list p.cued aired settled q → IsReadyFor p q → senses q ≡ false
     → answer_after clips p (command_in list port q) ≡ Some r
     → Stays (length list - settled) (port_after clips p (command_in list port q)) q r
-receipt_stays list clips p aired settled port phase.Open r n f h w on a = cc
 receipt_stays list clips p aired settled port phase.Select r n f h w on a = grind arith
-receipt_stays list clips p aired settled port phase.Seen r n f h w on a = cc
-receipt_stays list clips p aired settled port (phase.Exists k) r n f h w on a = cc
 receipt_stays list clips p aired settled port (phase.Cue k) r n f h w on a =
     cue_stays_at (length list - settled) clips p k (slice_get list k) r w (f k) a
-receipt_stays list clips p aired settled port (phase.Wait k) r n f h w on a = cc
 receipt_stays list clips p aired settled port (phase.Play k) r n f h w on a = grind arith
-receipt_stays list clips p aired settled port (phase.Probe k) r n f h w on a = cc
-receipt_stays list clips p aired settled port (phase.Check k) r n f h w on a = cc
-receipt_stays list clips p aired settled port phase.Drain r n f h w on a = cc
 receipt_stays list clips p aired settled port phase.Close r n f h w on a = grind arith
 receipt_stays list clips p aired settled port phase.Halt r n f h w on a = absurd w
 receipt_stays list clips p aired settled port phase.HaltClose r n f h w on a = absurd w
+receipt_stays list clips p aired settled port _ r n f h w on a = cc

@@ -21,8 +21,7 @@ use Rattle.vdcp_auto.specs.declared.phase.Mode.TheVariants.{Plain, Confirming}
 use Rattle.vdcp_world.specs.Channel.{Channel, new_channel, after_event, after_events}
 use Rattle.vdcp_world.specs.Rounds.{round, good_round, times}
 use Rattle.vdcp_world.specs.declared.event.Event.{Event}
-use Rattle.vdcp_world.specs.declared.event.Event.TheVariants.{Tick, Down, Up, DownCopy, UpCopy, LoseDown, LoseUp, AlterDown, AlterUp}
-use Rattle.vdcp_world.specs.declared.event.Event.TheVariants.{Timeout, Ready, End, Frame, Take, Stop, StrayAck, StrayNak}
+use Rattle.vdcp_world.specs.declared.event.Event.TheVariants.{Tick, Down, Up, DownCopy, UpCopy, LoseDown, LoseUp, AlterDown, AlterUp, Timeout, Ready, End, Frame, Take, Stop, StrayAck, StrayNak}
 
 -- CLIP0001 and CLIP0002, ten seconds each at 25 frames a second, and CLIP0009, which isn't there
 

@@ -1,5 +1,5 @@
 -- A tick and the end of an exchange, in the phase table.
-use Rattle.std.proofs.Common.{◌≡◌, ℕ, ◌≤◌, ◌⊎◌, inl, inr, Bool, true, false, ◌||◌, ◌&&◌, not, List, length, take, Option, Some, None, refl, ap, sym, subst, arith, ◌∙◌, length-take}
+use Rattle.std.proofs.Common.{◌≡◌, ℕ, ◌+◌, ◌≤◌, ◌⊎◌, inl, inr, Bool, true, false, ◌||◌, ◌&&◌, not, List, length, take, Option, Some, None, refl, ap, sym, subst, arith, ◌∙◌, length-take}
 use Rattle.std.specs.Option.{option_map}
 use Rattle.std.specs.Prelude.{slice_get, if◌then◌else◌}
 use Rattle.vdcp_value.specs.declared.clip_id.ClipId.{ClipId}
@@ -27,6 +27,18 @@ use Rattle.vdcp_world.proofs.PhaseTable.{Near, Place, PlaceReady, PlaceAt, Tells
 
 pub taken : (list : List Item) (k : ℕ) → k ≤ length list → length (take k list) ≡ k
 taken list k l = simp length-take (omega arith)
+
+-- the first k events were aired, and all of them are settled but one at most
+pub near_of : (list aired : List Item) (settled k : ℕ) → aired ≡ take k list → k ≤ length list → settled ≤ k
+    → k ≤ settled + 1 → Near list aired settled
+near_of list aired settled k is within low high =
+    let size : length aired ≡ k = ap length is ∙ taken list k within in
+    record {
+      aired_is = is ∙ sym (ap (λ (n : ℕ). take n list) size);
+      within = omega (arith, size, within);
+      low = omega (arith, size, low);
+      high = omega (arith, size, high);
+    }
 
 -- each phase keeps what is said of aired and settled
 pub near : (list : List Item) (cued : Cued) (aired : List Item) (settled : ℕ) (q : Phase)
@@ -116,9 +128,6 @@ tick_firm list clips p false q h = h
 -- the reply is of the kind that the phase's command asks for
 pub fits_asked : (list : List Item) (port : ℕ) (q : Phase) (c : Command) (r : Reply) → command_in list port q ≡ Some c
     → fits c r ≡ true → is_asked q r ≡ true
-fits_asked list port phase.Open c r e f = cc
-fits_asked list port phase.Select c r e f = cc
-fits_asked list port phase.Seen c r e f = cc
 fits_asked list port (phase.Exists k) c r e f = of_request (slice_get list k) e
   where
     of_request : (o : Option Item) → option_map (λ item. command.IdRequest item.id) o ≡ Some c → is_presence r ≡ true
@@ -136,14 +145,7 @@ fits_asked list port (phase.Cue k) c r e f = of_cue (slice_get list k) e
     of_cue : (o : Option Item) → option_map cue_of o ≡ Some c → is_ack r ≡ true
     of_cue None e = cc
     of_cue (Some item) e = of_part item.id item.part (same (cue_of item) c e)
-fits_asked list port (phase.Wait k) c r e f = cc
-fits_asked list port (phase.Play k) c r e f = cc
-fits_asked list port (phase.Probe k) c r e f = cc
-fits_asked list port (phase.Check k) c r e f = cc
-fits_asked list port phase.Drain c r e f = cc
-fits_asked list port phase.Close c r e f = cc
-fits_asked list port phase.Halt c r e f = cc
-fits_asked list port phase.HaltClose c r e f = cc
+fits_asked list port _ c r e f = cc
 
 -- where a reply leads, or none
 abbrev pub turn_by : Mode → List Item → ℕ → Bool → ℕ → ℕ → Bool → Phase → Option Reply → Transition
@@ -239,11 +241,6 @@ pub turn_place : (mode : Mode) (list : List Item) (clips : List (ClipId × Timec
     (q : Phase) (c : Command) (came : Option Heard) → command_in list port q ≡ Some c → is_end mode c came ≡ true
     → Place list p.cued aired settled q → FirmIn mode list clips p (Awaiting q) → Told mode list clips p aired q came
     → Behind mode list clips p aired settled (turn_by mode list limit take tries unanswered counts q (answer_to c came))
-turn_place mode list clips p aired settled port limit tries unanswered take counts q c None e ends h firm told =
-    unanswered_place mode list clips p aired settled limit unanswered counts q h firm
-turn_place mode list clips p aired settled port limit tries unanswered take counts q c (Some heard.Other) e ends h firm
-    told =
-    unanswered_place mode list clips p aired settled limit unanswered counts q h firm
 turn_place mode list clips p aired settled port limit tries unanswered take counts q c (Some (heard.Reply r)) e ends h
     firm told =
     by (is_refusal r || fits c r) refl
@@ -273,3 +270,5 @@ turn_place mode list clips p aired settled port limit tries unanswered take coun
         (if b then Some r else None))
     by true f = answered mode ends firm (told r refl) (asked_of (either (is_refusal r) (fits c r) f))
     by false f = unanswered_place mode list clips p aired settled limit unanswered counts q h firm
+turn_place mode list clips p aired settled port limit tries unanswered take counts q c _ e ends h firm told =
+    unanswered_place mode list clips p aired settled limit unanswered counts q h firm

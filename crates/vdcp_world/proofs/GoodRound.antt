@@ -23,9 +23,7 @@ use Rattle.vdcp_auto.specs.declared.outcome.Outcome.TheVariants.{Lost}
 use Rattle.vdcp_auto.specs.declared.phase.Mode.{Mode}
 use Rattle.vdcp_auto.specs.declared.phase.Mode.TheVariants.{Confirming}
 use Rattle.vdcp_auto.specs.declared.phase.Phase.{Phase}
-use Rattle.vdcp_auto.specs.State.{Stage}
-use Rattle.vdcp_auto.specs.State.{Ready, Awaiting}
-use Rattle.vdcp_auto.specs.State.{State}
+use Rattle.vdcp_auto.specs.State.{Stage, Ready, Awaiting, State}
 use Rattle.vdcp_auto.specs.declared.phase.Transition.{Transition}
 use Rattle.vdcp_auto.specs.declared.phase.Transition.TheVariants.{Ends}
 use Rattle.vdcp_world.specs.Channel.{Channel, after_events, down_behind, up_behind, answered, state_hearing, state_waiting}

@@ -24,9 +24,7 @@ use Rattle.vdcp_auto.specs.declared.outcome.Outcome.TheVariants as outcome
 use Rattle.vdcp_auto.specs.declared.phase.Mode.{Mode}
 use Rattle.vdcp_auto.specs.declared.phase.Mode.TheVariants.{Plain, Confirming}
 use Rattle.vdcp_auto.specs.declared.phase.Phase.TheVariants.{Open}
-use Rattle.vdcp_auto.specs.State.{Stage}
-use Rattle.vdcp_auto.specs.State.{Ready, Awaiting, Ended}
-use Rattle.vdcp_auto.specs.State.{State}
+use Rattle.vdcp_auto.specs.State.{Stage, Ready, Awaiting, Ended, State}
 use Rattle.vdcp_words.specs.declared.reply.Reply.{Reply}
 use Rattle.vdcp_words.specs.declared.reply.Reply.TheVariants as reply
 use Rattle.vdcp_world.specs.Channel.{Channel, new_channel, after_event, after_events, IsReached, state_hearing, log_hearing, state_waiting, log_waiting, state_straying, log_straying}
@@ -35,16 +33,13 @@ use Rattle.vdcp_world.specs.Headline.{IsUnknownAt, IsOutside, IsRefusedIn, AreRe
 use Rattle.vdcp_world.specs.declared.event.Event.{Event}
 use Rattle.vdcp_world.specs.declared.event.Event.TheVariants as event
 use Rattle.vdcp_world.specs.Below.{Below}
-use Rattle.vdcp_world.proofs.Exchanges.{near, taken, sent_place}
+use Rattle.vdcp_world.proofs.Exchanges.{near, taken, sent_place, near_of}
 use Rattle.vdcp_world.proofs.Kept.{IsKept, kept_event}
 use Rattle.vdcp_world.proofs.PhaseTable.{Aired, Near, PlaceAt, PlaceEnded, FirmIn, knows, refuses}
 use Rattle.vdcp_world.proofs.TableKept.{Stands, no_item}
+use Rattle.vdcp_world.proofs.LateLine.Exactness.{none_taken}
 
 -- ---- channels that events have led to
-
-none_taken : (list : List Item) → [] ≡ take 0 list
-none_taken [] = refl
-none_taken (item ∷ list) = refl
 
 firm_new : (mode : Mode) (list : List Item) (clips : List (ClipId × Timecode)) (p : PortState)
     → FirmIn mode list clips p (Ready Open)
@@ -78,7 +73,7 @@ reached_kept below c r = subst IsKept (sym r.led) (kept_events below _ r.events
 
 -- ---- their controllers
 
-hears_reached : (plan : Plan) (state : State) (log : List Exchange) (h : Option Heard) → Reached plan state log
+pub hears_reached : (plan : Plan) (state : State) (log : List Exchange) (h : Option Heard) → Reached plan state log
     → Reached plan (state_hearing plan h state) (log_hearing plan h state log)
 hears_reached plan state log None r = r
 hears_reached plan state log (Some h) r = called r (Receive (Some h))
@@ -89,7 +84,8 @@ waits_reached plan state log [] [] r = called r (Receive None)
 waits_reached plan state log [] (b ∷ up) r = r
 waits_reached plan state log (b ∷ down) up r = r
 
-strays_reached : (mode : Mode) (plan : Plan) (state : State) (log : List Exchange) (h : Reply) → Reached plan state log
+pub strays_reached : (mode : Mode) (plan : Plan) (state : State) (log : List Exchange) (h : Reply)
+    → Reached plan state log
     → Reached plan (state_straying mode plan h state) (log_straying mode plan h state log)
 strays_reached Plain plan state log h r = r
 strays_reached Confirming plan state log h r = called r (Receive (Some (heard.Reply h)))
@@ -97,22 +93,14 @@ strays_reached Confirming plan state log h r = called r (Receive (Some (heard.Re
 controller_event : (c : Channel) (e : Event) → Reached c.plan c.state c.log
     → Reached (after_event c e).plan (after_event c e).state (after_event c e).log
 controller_event c event.Tick r = called r call.Tick
-controller_event c event.Down r = r
 controller_event c event.Up r = hears_reached c.plan c.state c.log (heard_in c.port.state.unit c.up) r
-controller_event c event.DownCopy r = r
 controller_event c event.UpCopy r = hears_reached c.plan c.state c.log (heard_in c.port.state.unit c.up) r
-controller_event c event.LoseDown r = r
-controller_event c event.LoseUp r = r
-controller_event c (event.AlterDown bytes) r = r
-controller_event c (event.AlterUp bytes) r = r
 controller_event c event.Timeout r = waits_reached c.plan c.state c.log c.down c.up r
-controller_event c event.Ready r = r
-controller_event c event.End r = r
-controller_event c event.Frame r = r
 controller_event c event.Take r = called r call.Take
 controller_event c event.Stop r = called r call.Stop
 controller_event c event.StrayAck r = strays_reached c.plan.mode c.plan c.state c.log reply.Ack r
 controller_event c (event.StrayNak byte) r = strays_reached c.plan.mode c.plan c.state c.log (reply.Nak byte) r
+controller_event c _ r = r
 
 controller_events : (c : Channel) (es : List Event) → Reached c.plan c.state c.log
     → Reached (after_events c es).plan (after_events c es).state (after_events c es).log
@@ -128,13 +116,7 @@ controller_reached c r =
 
 near_aired : (list aired : List Item) (settled k : ℕ) → Aired list aired k → settled ≡ k → Near list aired settled
 near_aired list aired settled k a e =
-    let size : length aired ≡ k = ap length a.aired_is ∙ taken list k a.within in
-    record {
-      aired_is = a.aired_is ∙ sym (ap (λ (n : ℕ). take n list) size);
-      within = omega (arith, size, a.within);
-      low = omega (arith, size, e);
-      high = omega (arith, size, e);
-    }
+    near_of list aired settled k a.aired_is a.within (omega (arith, e)) (omega (arith, e))
 
 near_at : (list : List Item) (clips : List (ClipId × Timecode)) (cued : Cued) (aired : List Item) (settled : ℕ)
     (stage : Stage)
@@ -145,13 +127,12 @@ near_at list clips cued aired settled (Awaiting q) h = near list cued aired sett
 near_at list clips cued aired settled (Ended outcome.Done) h = near_aired list aired settled (length list) h.0 h.1
 near_at list clips cued aired settled (Ended outcome.Stopped) h = h
 near_at list clips cued aired settled (Ended outcome.Lost) h = h
-near_at list clips cued aired settled (Ended outcome.Denied) h = absurd h
 near_at list clips cued aired settled (Ended (outcome.Missing k)) h = near_aired list aired settled k h.0 h.1
 near_at list clips cued aired settled (Ended (outcome.Refused k)) h = near_aired list aired settled k h.0 h.1
-near_at list clips cued aired settled (Ended (outcome.Foreign k)) h = absurd h
-near_at list clips cued aired settled (Ended (outcome.Strange k)) h = absurd h
+near_at list clips cued aired settled _ h = absurd h
 
-begins : (list aired : List Item) (settled : ℕ) → Near list aired settled → (more : List Item) × (list ≡ aired ++ more)
+pub begins : (list aired : List Item) (settled : ℕ) → Near list aired settled
+    → (more : List Item) × (list ≡ aired ++ more)
 begins list aired settled n = (
   drop (length aired) list,
   sym (take-append-drop (length aired) list)
@@ -164,7 +145,7 @@ take_within (suc s) zero xs l = absurd (omega arith)
 take_within (suc s) (suc a) [] l = refl
 take_within (suc s) (suc a) (x ∷ xs) l = ap (λ ys. x ∷ ys) (take_within s a xs (omega arith))
 
-reports : (list aired : List Item) (settled : ℕ) → Near list aired settled
+pub reports : (list aired : List Item) (settled : ℕ) → Near list aired settled
     → (last : List Item) × (aired ≡ take settled list ++ last) × (length last ≤ 1)
 reports list aired settled n =
     let front : take settled aired ≡ take settled list =
@@ -199,9 +180,7 @@ complete c h = by (outcome_of c.state.stage) h.ended
     by (Some (outcome.Refused k)) m = λ _. all k m.1
     by (Some outcome.Lost) m = λ e. cc
     by (Some outcome.Stopped) m = λ e. cc
-    by (Some outcome.Denied) m = absurd m
-    by (Some (outcome.Foreign k)) m = absurd m
-    by (Some (outcome.Strange k)) m = absurd m
+    by _ m = absurd m
 
 pub fewer : (c : Channel) → Headline c → c.state.settled ≤ length c.aired
 fewer c h = omega (arith, ap length h.reported.1, length-append (reported_of c) h.reported.0, h.count)
@@ -218,7 +197,7 @@ never c o h e = subst (λ (x : Option Outcome). IfSome x (Means c.port.clips c.p
 
 -- ---- what the outcome means
 
-unknown_at : (clips : List (ClipId × Timecode)) (list : List Item) (k : ℕ) (o : Option Item) → slice_get list k ≡ o
+pub unknown_at : (clips : List (ClipId × Timecode)) (list : List Item) (k : ℕ) (o : Option Item) → slice_get list k ≡ o
     → k < length list
     → knows clips o ≡ false → IsUnknownAt clips list k
 unknown_at clips list k None is below e = absurd (no_item list k below is)
@@ -276,7 +255,6 @@ means c outcome.Done h firm l e = (
 )
 means c outcome.Stopped h firm l e = tt
 means c outcome.Lost h firm l e = l.is_lost.0 e
-means c outcome.Denied h firm l e = h
 means c (outcome.Missing k) h firm l e = (
   unknown_at c.port.clips c.plan.list k (slice_get c.plan.list k) refl h.2 h.3,
   exactly c.plan c.aired c.log
@@ -286,16 +264,14 @@ means c (outcome.Refused k) h firm l e = (
   refused_in c.plan.mode c.port.clips c.plan c.log c.port.state k firm (λ confirms. l.is_refused confirms k e),
   exactly c.plan c.aired c.log c.state.settled k h.0 h.1 l.is_settled,
 )
-means c (outcome.Foreign k) h firm l e = h
-means c (outcome.Strange k) h firm l e = h
+means c _ h firm l e = h
 
 means_at : (c : Channel) (stage : Stage) → c.state.stage ≡ stage
     → Stands c.plan c.port.clips c.port.state c.aired c.state.settled stage
     → IsLawful c.plan c.state c.log
     → IfSome (outcome_of stage) (Means c.port.clips c.plan c.aired c.log)
-means_at c (Ready q) e s l = tt
-means_at c (Awaiting q) e s l = tt
 means_at c (Ended o) e s l = means c o s.place s.firm l (ap outcome_of e)
+means_at c _ e s l = tt
 
 pub headline : (c : Channel) → IsKept c → IsLawful c.plan c.state c.log → Headline c
 headline c k l =

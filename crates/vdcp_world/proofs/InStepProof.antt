@@ -22,9 +22,7 @@ use Rattle.vdcp_auto.specs.declared.outcome.Outcome.TheVariants as outcome
 use Rattle.vdcp_auto.specs.declared.phase.Mode.TheVariants.{Confirming}
 use Rattle.vdcp_auto.specs.declared.phase.Phase.{Phase}
 use Rattle.vdcp_auto.specs.declared.phase.Phase.TheVariants as phase
-use Rattle.vdcp_auto.specs.State.{Stage}
-use Rattle.vdcp_auto.specs.State.{Ready, Awaiting, Ended}
-use Rattle.vdcp_auto.specs.State.{State}
+use Rattle.vdcp_auto.specs.State.{Stage, Ready, Awaiting, Ended, State}
 use Rattle.vdcp_world.specs.BoundedEnd.{IsDone, IsAllPlayable}
 use Rattle.vdcp_world.specs.Channel.{Channel, IsReached, after_events}
 use Rattle.vdcp_world.specs.InStep.{IsReadyFor, GoesInStep, CanCatchUp, rounds_in_step, InStepEnd}
@@ -45,9 +43,8 @@ use Rattle.vdcp_world.proofs.RoundsLeft.{answer_at}
 -- ---- in step
 
 left_most : (r : ℕ) (stage : Stage) → left_from r stage ≤ 6 * r + 6
-left_most r (Ready q) = grind arith
-left_most r (Awaiting q) = grind arith
 left_most r (Ended o) = omega arith
+left_most r _ = grind arith
 
 in_step_end : Below → (c : Channel) → IsReached c → GoesInStep c → (n : ℕ) → rounds_in_step c ≤ n
     → IsDone (after_events c (times n good_round))
@@ -255,15 +252,12 @@ catches_up below c q r can e goes opened n enough = by q e goes opened
     by : (q : Phase) → c.state.stage ≡ Ready q → is_halting q ≡ false → Opened c.port.state q
         → (after_events c (times n good_round)).state.stage ≡ Ended outcome.Done
     by phase.Open e goes opened = in_step phase.Open e tt
-    by phase.Select e goes opened = in_step phase.Select e opened
     by phase.Seen e goes opened = which (is_selected c.port.state) refl
       where
         which : (b : Bool) → is_selected c.port.state ≡ b → (after_events c (times n good_round)).state.stage ≡ Ended
             outcome.Done
         which true selected = in_step phase.Seen e selected
         which false unselected = seen n enough e opened unselected
-    by (phase.Exists k) e goes opened = in_step (phase.Exists k) e opened
-    by (phase.Cue k) e goes opened = in_step (phase.Cue k) e opened
     by (phase.Wait k) e goes opened = which (is_empty_slot c.port.state.cued) refl
       where
         which : (b : Bool) → is_empty_slot c.port.state.cued ≡ b
@@ -272,7 +266,6 @@ catches_up below c q r can e goes opened n enough = by q e goes opened
             ahead_done below n c r can.confirming can.playable _
             (wait_ahead below c k kept can.confirming e can.no_wish opened lost can.spare_try) (omega (arith, enough))
         which false there = in_step (phase.Wait k) e (opened, there)
-    by (phase.Play k) e goes opened = in_step (phase.Play k) e opened
     by (phase.Probe k) e goes opened = which (is_empty_slot c.port.state.cued) refl
       where
         which : (b : Bool) → is_empty_slot c.port.state.cued ≡ b
@@ -281,11 +274,10 @@ catches_up below c q r can e goes opened n enough = by q e goes opened
         which false lost =
             ahead_done below n c r can.confirming can.playable _
             (probe_ahead below c k kept can.confirming e can.no_wish opened lost) (omega (arith, enough))
-    by (phase.Check k) e goes opened = in_step (phase.Check k) e opened
-    by phase.Drain e goes opened = in_step phase.Drain e opened
     by phase.Close e goes opened = in_step phase.Close e tt
     by phase.Halt e goes opened = cc
     by phase.HaltClose e goes opened = cc
+    by q e goes opened = in_step q e opened
 
 catch_up_end : Below → (c : Channel) → IsReached c → IsLawful c.plan c.state c.log → CanCatchUp c → (n : ℕ)
     → rounds_in_step c ≤ n
@@ -304,8 +296,7 @@ catch_up_end below c r lawful can n enough =
     by : (stage : Stage) → c.state.stage ≡ stage → IsTrue (is_ready stage) → OpenedAt c.port.state stage
         → (after_events c (times n good_round)).state.stage ≡ Ended outcome.Done
     by (Ready q) e ready opened = catches_up below c q r can e (on q (is_halting q) e refl) opened n enough
-    by (Awaiting q) e ready opened = cc
-    by (Ended o) e ready opened = cc
+    by _ e ready opened = cc
 
 pub in_step_ends : Below → ((plan : Plan) (state : State) (log : List Exchange) → Reached plan state log
     → IsLawful plan state log)

@@ -1,5 +1,6 @@
 -- What every event keeps of a channel.
-use Rattle.std.proofs.Common.{ℕ, ◌<◌, ◌≡◌, ◌≢◌, ◌⊎◌, inl, inr, Bool, true, false, ◌&&◌, ◌||◌, List, [], ◌∷◌, ◌++◌, All, refl, arith, sym, subst, if◌then◌else◌}
+use Rattle.std.proofs.Common.{ℕ, ◌<◌, ◌≡◌, ◌≢◌, ◌⊎◌, inl, inr, Bool, true, false, ◌&&◌, List, [], ◌∷◌, ◌++◌, All, refl, arith, sym, subst, if◌then◌else◌}
+use Rattle.std.proofs.lemmas.Bool.{or_cases, and_parts}
 use Rattle.std.specs.Option.{option_to_list}
 use Rattle.std.specs.Prelude.{Option, None, Some, IfSome}
 use Rattle.vdcp_value.specs.Parts.{IsItem}
@@ -33,7 +34,7 @@ use Rattle.vdcp_world.proofs.Beginnings.{is_beginning_of}
 use Rattle.vdcp_world.proofs.OnTheWay.{ReadsNothing, ReadsCommand, IsQuiet, Way}
 use Rattle.vdcp_world.proofs.PhaseTable.{ToldAt}
 use Rattle.vdcp_world.proofs.TableKept.{Stands, told_none, told_quiet, tick_stands, tick_told, came_stands, came_told, nothing_stands, nothing_told, nak_told, ReadAt, read_at_stage, PortStands, ready_stands, ended_stands, frame_stands}
-use Rattle.vdcp_world.proofs.WayKept.{tick_way, hear_way, quiet_way, left_of, alter_down, alter_up, quiet_receipt, wait_way, stray_same}
+use Rattle.vdcp_world.proofs.WayKept.{tick_way, hear_way, quiet_way, alter_down, alter_up, quiet_receipt, wait_way, stray_same}
 use Rattle.vdcp_world.proofs.WayLemmas.{reads_nothing, reads_command}
 
 -- what holds of every channel; of its log nothing is said
@@ -210,14 +211,10 @@ alters_told mode c bytes true e told = by mode e told
         → ToldAt mode c.plan.list c.port.clips c.port.state c.aired c.state.stage (heard_in c.port.state.unit bytes)
     front mode can told =
         let (others, is) = is_beginning_of (messages_of bytes) (messages_of c.up)
-        (left_of (is_short bytes) (is_beginning (messages_of bytes) (messages_of c.up)) can) in
+        (and_parts (is_short bytes) (is_beginning (messages_of bytes) (messages_of c.up)) can).1 in
         front_told mode c (messages_of bytes) others
         (subst (λ (ms : List Content). ToldAt mode c.plan.list c.port.clips c.port.state c.aired c.state.stage
         (heard_first c.port.state.unit ms)) is told)
-
-    either : (a b : Bool) → (a || b) ≡ true → (a ≡ true) ⊎ (b ≡ true)
-    either true b e = inl refl
-    either false b e = inr e
 
     which : (can_become c.up bytes ≡ true) ⊎ ((is_short bytes && hears_receipt (heard_in c.port.state.unit bytes)) ≡
         true)
@@ -230,14 +227,15 @@ alters_told mode c bytes true e told = by mode e told
         told_quiet Confirming c.plan.list c.port.clips c.port.state c.aired c.state.stage
         (heard_in c.port.state.unit bytes)
         (quiet_receipt (heard_in c.port.state.unit bytes)
-        (left_of (is_short bytes) (hears_receipt (heard_in c.port.state.unit bytes)) receipt))
+        (and_parts (is_short bytes) (hears_receipt (heard_in c.port.state.unit bytes)) receipt).1)
 
     by : (mode : Mode) → can_become_up mode c.port.state.unit c.up bytes ≡ true
         → ToldAt mode c.plan.list c.port.clips c.port.state c.aired c.state.stage (heard_in c.port.state.unit c.up)
         → ToldAt mode c.plan.list c.port.clips c.port.state c.aired c.state.stage (heard_in c.port.state.unit bytes)
     by Plain e told = front Plain e told
-    by Confirming e told = which (either (can_become c.up bytes)
-        (is_short bytes && hears_receipt (heard_in c.port.state.unit bytes)) e) told
+    by Confirming e told =
+        which (or_cases (can_become c.up bytes) (is_short bytes && hears_receipt (heard_in c.port.state.unit bytes)) e)
+        told
 
 -- ---- what a tick leaves on the way up
 
@@ -249,7 +247,7 @@ ticks_told c None e k = tick_told c.plan c.port.clips c.port.state c.aired c.sta
 ticks_told c (Some command) e k =
     told_none c.plan.mode c.plan.list c.port.clips c.port.state c.aired (ticked c.state).stage
 
-clips_frame : (p : ClockedPort) → (after_frame p).clips ≡ p.clips
+pub clips_frame : (p : ClockedPort) → (after_frame p).clips ≡ p.clips
 clips_frame p = by (completes_cue p) (ends_clip p)
   where
     by : (cue clip : Bool)

@@ -1,5 +1,5 @@
 -- No clip is cut short without a take.
-use Rattle.std.proofs.Common.{◌≡◌, ◌<◌, inl, inr, ℕ, Bool, true, false, List, [], ◌∷◌, ◌++◌, length, Option, Some, None, refl, sym, ap, subst, ◌∙◌, arith, append-nil, length-append}
+use Rattle.std.proofs.Common.{◌≡◌, ◌<◌, inl, inr, ℕ, Bool, true, false, List, [], ◌∷◌, ◌++◌, length, Option, Some, None, refl, sym, ap, subst, ◌∙◌, arith, length-append}
 use Rattle.std.specs.List.{list_any}
 use Rattle.std.specs.Option.{option_map}
 use Rattle.std.specs.Prelude.{IfSome, IsSome, slice_get}
@@ -23,8 +23,7 @@ use Rattle.vdcp_auto.specs.declared.phase.Mode.{Mode}
 use Rattle.vdcp_auto.specs.declared.phase.Mode.TheVariants.{Plain, Confirming}
 use Rattle.vdcp_auto.specs.declared.phase.Phase.{Phase}
 use Rattle.vdcp_auto.specs.declared.phase.Phase.TheVariants as phase
-use Rattle.vdcp_auto.specs.State.{Stage}
-use Rattle.vdcp_auto.specs.State.{Ready, Awaiting, Ended}
+use Rattle.vdcp_auto.specs.State.{Stage, Ready, Awaiting, Ended}
 use Rattle.vdcp_world.specs.Channel.{Channel, IsReached, after_event, after_events, new_channel, up_behind}
 use Rattle.vdcp_world.specs.NoCut.{is_take, Cuts, CutsUnasked, NoCut}
 use Rattle.vdcp_world.specs.declared.event.Event.{Event}
@@ -38,6 +37,7 @@ use Rattle.vdcp_world.proofs.OnTheWay.{Way}
 use Rattle.vdcp_world.proofs.PhaseTable.{PlaysLast, is_asked, port_after, aired_after, answer_after}
 use Rattle.vdcp_world.proofs.Reached.{events_reached}
 use Rattle.vdcp_world.proofs.WayLemmas.{reads_nothing, reads_command}
+use Rattle.vdcp_world.proofs.Readings.{none_more}
 
 -- once more than n items were aired, a PLAY goes out to a cue only where nothing plays
 abbrev Over : ℕ → PortState → List Item → Phase → Type 0
@@ -95,9 +95,6 @@ sends_over n take true p aired q h = (h.0, tt)
 sends_over n take false p aired q h = (still_untaken q take h.0, h.1)
 
 -- ---- the port reads
-
-none_more : (xs : List Item) → xs ++ [] ≡ xs
-none_more xs = append-nil xs
 
 reads_play : (n : ℕ) (clips : List (ClipId × Timecode)) (p : PortState) (cued : Cued) (aired : List Item) (k : ℕ)
     → p.cued ≡ cued
@@ -192,12 +189,8 @@ airs_no_request clips p (Some item) = refl
 airs_by_play : (list : List Item) (clips : List (ClipId × Timecode)) (p : PortState) (aired : List Item) (n port : ℕ)
     (q : Phase)
     → Over n p aired q → n < length aired → IsSome p.playing → aired_after clips p (command_in list port q) ≡ []
-airs_by_play list clips p aired n port phase.Open h more plays = grind arith
-airs_by_play list clips p aired n port phase.Select h more plays = grind arith
-airs_by_play list clips p aired n port phase.Seen h more plays = grind arith
 airs_by_play list clips p aired n port (phase.Exists k) h more plays = airs_no_request clips p (slice_get list k)
 airs_by_play list clips p aired n port (phase.Cue k) h more plays = airs_no_cue clips p (slice_get list k)
-airs_by_play list clips p aired n port (phase.Wait k) h more plays = grind arith
 airs_by_play list clips p aired n port (phase.Play k) h more plays = by p.cued refl
   where
     nothing : p.playing ≡ None → ⊥
@@ -210,12 +203,7 @@ airs_by_play list clips p aired n port (phase.Play k) h more plays = by p.cued r
     by empty e = grind arith
     by (cueing item) e = grind arith
     by (done item) e = absurd (nothing (h more (ap is_empty_slot e)))
-airs_by_play list clips p aired n port (phase.Probe k) h more plays = grind arith
-airs_by_play list clips p aired n port (phase.Check k) h more plays = grind arith
-airs_by_play list clips p aired n port phase.Drain h more plays = grind arith
-airs_by_play list clips p aired n port phase.Close h more plays = grind arith
-airs_by_play list clips p aired n port phase.Halt h more plays = grind arith
-airs_by_play list clips p aired n port phase.HaltClose h more plays = grind arith
+airs_by_play list clips p aired n port _ h more plays = grind arith
 
 airs_none : Below → (n : ℕ) (c : Channel) → IsKept c → OverAt n c.port.state c.aired c.state.stage → n < length c.aired
     → IsSome c.port.state.playing
@@ -224,11 +212,10 @@ airs_none below n c k h more plays = by k.way
   where
     airs : (stage : Stage) (d : Command) → OverAt n c.port.state c.aired stage → awaited_in c.plan stage ≡ Some d
         → aired_after c.port.clips c.port.state (Some d) ≡ []
-    airs (Ready q) d h is = cc
     airs (Awaiting q) d h is =
         subst (λ (o : Option Command). aired_after c.port.clips c.port.state o ≡ []) is
         (airs_by_play c.plan.list c.port.clips c.port.state c.aired n c.plan.port q h more plays)
-    airs (Ended outcome) d h is = cc
+    airs _ d h is = cc
 
     by : Way c.plan.mode c.port.state.unit (awaited c.plan c.state) c.down c.up → aired_for c.port c.down ≡ []
     by (inl none) = (reads_nothing below c.port c.down none).airs
@@ -248,23 +235,9 @@ cuts_none below n c e k h more cuts = by e cuts.airs
     none = airs_none below n c k h more cuts.plays
 
     by : (e : Event) → length c.aired < length (after_event c e).aired → ⊥
-    by event.Tick l = omega (arith, l)
     by event.Down l = same_length c.aired (aired_for c.port c.down) none l
-    by event.Up l = omega (arith, l)
     by event.DownCopy l = same_length c.aired (aired_for c.port c.down) none l
-    by event.UpCopy l = omega (arith, l)
-    by event.LoseDown l = omega (arith, l)
-    by event.LoseUp l = omega (arith, l)
-    by (event.AlterDown bytes) l = omega (arith, l)
-    by (event.AlterUp bytes) l = omega (arith, l)
-    by event.Timeout l = omega (arith, l)
-    by event.Ready l = omega (arith, l)
-    by event.End l = omega (arith, l)
-    by event.Frame l = omega (arith, l)
-    by event.Take l = omega (arith, l)
-    by event.Stop l = omega (arith, l)
-    by event.StrayAck l = omega (arith, l)
-    by (event.StrayNak byte) l = omega (arith, l)
+    by _ l = omega (arith, l)
 
 -- ---- from where on
 
@@ -303,9 +276,6 @@ over_none p aired q = grind arith
 
 gives_play : (list : List Item) (port : ℕ) (q : Phase) (take : Bool) → command_in list port q ≡ Some command.Play
     → take_after_sending q take ≡ false
-gives_play list port phase.Open take e = cc
-gives_play list port phase.Select take e = cc
-gives_play list port phase.Seen take e = cc
 gives_play list port (phase.Exists k) take e = of (slice_get list k) e
   where
     of : (o : Option Item) → option_map (λ item. command.IdRequest item.id) o ≡ Some command.Play → take ≡ false
@@ -320,14 +290,8 @@ gives_play list port (phase.Cue k) take e = of (slice_get list k) e
     of : (o : Option Item) → option_map cue_of o ≡ Some command.Play → take ≡ false
     of None e = cc
     of (Some item) e = of_part item.id item.part e
-gives_play list port (phase.Wait k) take e = cc
 gives_play list port (phase.Play k) take e = refl
-gives_play list port (phase.Probe k) take e = cc
-gives_play list port (phase.Check k) take e = cc
-gives_play list port phase.Drain take e = cc
-gives_play list port phase.Close take e = cc
-gives_play list port phase.Halt take e = cc
-gives_play list port phase.HaltClose take e = cc
+gives_play list port _ take e = cc
 
 sent_untaken : (c : Channel) → given c.plan c.state ≡ Some command.Play
     → Untaken (length c.aired) (ticked c.state).take c.port.state c.aired (ticked c.state).stage
@@ -340,8 +304,7 @@ sent_untaken c e = by c.state.stage e
       over_none c.port.state
           c.aired (phase_to_send c.state.stop q),
     )
-    by (Awaiting q) e = cc
-    by (Ended outcome) e = cc
+    by _ e = cc
 
 not_since : Below → (c : Channel) → IsReached c → given c.plan c.state ≡ Some command.Play
     → (events : List Event) (e : Event)

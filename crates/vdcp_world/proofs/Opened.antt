@@ -15,8 +15,7 @@ use Rattle.vdcp_auto.specs.declared.phase.Mode.{Mode}
 use Rattle.vdcp_auto.specs.declared.phase.Mode.TheVariants.{Plain, Confirming}
 use Rattle.vdcp_auto.specs.declared.phase.Phase.{Phase}
 use Rattle.vdcp_auto.specs.declared.phase.Phase.TheVariants as phase
-use Rattle.vdcp_auto.specs.State.{Stage}
-use Rattle.vdcp_auto.specs.State.{Ready, Awaiting, Ended}
+use Rattle.vdcp_auto.specs.State.{Stage, Ready, Awaiting, Ended}
 use Rattle.vdcp_world.specs.Channel.{Channel, IsReached, new_channel}
 use Rattle.vdcp_world.specs.Below.{Below}
 use Rattle.vdcp_world.proofs.Claims.{Closed, claim_events}
@@ -58,18 +57,12 @@ reads_opened : (list : List Item) (clips : List (ClipId × Timecode)) (p : PortS
     → p.number ≡ port
     → Opened p q → Opened (port_after clips p (command_in list port q)) q
 reads_opened list clips p port phase.Open n h = tt
-reads_opened list clips p port phase.Select n h = grind arith
-reads_opened list clips p port phase.Seen n h = grind arith
 reads_opened list clips p port (phase.Exists k) n h = firm_request clips p (slice_get list k) h
 reads_opened list clips p port (phase.Cue k) n h = firm_cue_at clips p (slice_get list k) h
-reads_opened list clips p port (phase.Wait k) n h = grind arith
-reads_opened list clips p port (phase.Play k) n h = grind arith
-reads_opened list clips p port (phase.Probe k) n h = grind arith
-reads_opened list clips p port (phase.Check k) n h = grind arith
-reads_opened list clips p port phase.Drain n h = grind arith
 reads_opened list clips p port phase.Close n h = tt
 reads_opened list clips p port phase.Halt n h = tt
 reads_opened list clips p port phase.HaltClose n h = tt
+reads_opened list clips p port _ n h = grind arith
 
 reads_tell_opened : (list : List Item) (clips : List (ClipId × Timecode)) (p : PortState) (port : ℕ) (q : Phase)
     (r : Reply) → p.number ≡ port

@@ -136,23 +136,10 @@ make_frame plan p =
     ∙ make_if plan (completes_cue p) (counted_down p) (after_ready (counted_down p)) refl
 
 pub make_stays : (c : Channel) (e : Event) → make_of (after_event c e) ≡ make_of c
-make_stays c event.Tick = refl
 make_stays c event.Down = make_messages c.plan (messages_of c.down) c.port
-make_stays c event.Up = refl
 make_stays c event.DownCopy = make_messages c.plan (messages_of c.down) c.port
-make_stays c event.UpCopy = refl
-make_stays c event.LoseDown = refl
-make_stays c event.LoseUp = refl
-make_stays c (event.AlterDown bytes) = refl
-make_stays c (event.AlterUp bytes) = refl
-make_stays c event.Timeout = refl
-make_stays c event.Ready = refl
-make_stays c event.End = refl
 make_stays c event.Frame = make_frame c.plan c.port
-make_stays c event.Take = refl
-make_stays c event.Stop = refl
-make_stays c event.StrayAck = refl
-make_stays c (event.StrayNak byte) = refl
+make_stays c _ = refl
 
 pub make_after_all : (c : Channel) (es : List Event) → make_of (after_events c es) ≡ make_of c
 make_after_all c [] = refl

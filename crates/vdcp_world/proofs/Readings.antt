@@ -24,7 +24,7 @@ use Rattle.vdcp_world.proofs.Beginnings.{own_list}
 use Rattle.vdcp_world.proofs.Exchanges.{taken}
 use Rattle.vdcp_world.proofs.PhaseTable.{Idle, Coming, Standing, PlaysLast, Place, Tells, Firm, FirmTells, knows, refuses, port_after, aired_after, answer_after}
 
-none_more : (xs : List Item) → xs ++ [] ≡ xs
+pub none_more : (xs : List Item) → xs ++ [] ≡ xs
 none_more xs = append-nil xs
 
 airs_next : (list : List Item) (k : ℕ) (item : Item) → k < length list → slice_get list k ≡ Some item
@@ -67,20 +67,10 @@ pub reads_place : (list : List Item) (clips : List (ClipId × Timecode)) (p : Po
     → Place list p.cued aired settled q
     → Place list (port_after clips p (command_in list port q)).cued
     (aired ++ aired_after clips p (command_in list port q)) settled q
-reads_place list clips p aired settled port phase.Open h = grind (arith, none_more)
-reads_place list clips p aired settled port phase.Select h = grind (arith, none_more)
-reads_place list clips p aired settled port phase.Seen h = grind (arith, none_more)
-reads_place list clips p aired settled port (phase.Exists k) h = grind (arith, none_more)
 reads_place list clips p aired settled port (phase.Cue k) h =
     (cue_place list clips p aired k (slice_get list k) refl h.2 h.0, h.1, h.2)
-reads_place list clips p aired settled port (phase.Wait k) h = grind (arith, none_more)
 reads_place list clips p aired settled port (phase.Play k) h = (play_place list clips p aired k p.cued refl h.0, h.1)
-reads_place list clips p aired settled port (phase.Probe k) h = grind (arith, none_more)
-reads_place list clips p aired settled port (phase.Check k) h = grind (arith, none_more)
-reads_place list clips p aired settled port phase.Drain h = grind (arith, none_more)
-reads_place list clips p aired settled port phase.Close h = grind (arith, none_more)
-reads_place list clips p aired settled port phase.Halt h = grind (arith, none_more)
-reads_place list clips p aired settled port phase.HaltClose h = grind (arith, none_more)
+reads_place list clips p aired settled port _ h = grind (arith, none_more)
 
 -- ---- what plays
 
@@ -124,19 +114,9 @@ pub reads_plays : (list : List Item) (clips : List (ClipId × Timecode)) (p : Po
     → Place list p.cued aired settled q → PlaysLast list p.playing aired
     → PlaysLast list (port_after clips p (command_in list port q)).playing
     (aired ++ aired_after clips p (command_in list port q))
-reads_plays list clips p aired settled port phase.Open h l = grind (arith, none_more)
-reads_plays list clips p aired settled port phase.Select h l = grind (arith, none_more)
-reads_plays list clips p aired settled port phase.Seen h l = grind (arith, none_more)
-reads_plays list clips p aired settled port (phase.Exists k) h l = grind (arith, none_more)
 reads_plays list clips p aired settled port (phase.Cue k) h l = plays_cue_at list clips p aired (slice_get list k) l
-reads_plays list clips p aired settled port (phase.Wait k) h l = grind (arith, none_more)
 reads_plays list clips p aired settled port (phase.Play k) h l = plays_next list clips p aired k p.cued refl h.0 l
-reads_plays list clips p aired settled port (phase.Probe k) h l = grind (arith, none_more)
-reads_plays list clips p aired settled port (phase.Check k) h l = grind (arith, none_more)
-reads_plays list clips p aired settled port phase.Drain h l = grind (arith, none_more)
-reads_plays list clips p aired settled port phase.Close h l = grind (arith, none_more)
-reads_plays list clips p aired settled port phase.Halt h l = grind (arith, none_more)
-reads_plays list clips p aired settled port phase.HaltClose h l = grind (arith, none_more)
+reads_plays list clips p aired settled port _ h l = grind (arith, none_more)
 
 -- ---- its number
 
@@ -174,18 +154,13 @@ firm_request clips p (Some item) h = h
 pub reads_firm : (list : List Item) (clips : List (ClipId × Timecode)) (p : PortState) (port : ℕ) (q : Phase)
     → p.number ≡ port → Firm list clips p q → Firm list clips (port_after clips p (command_in list port q)) q
 reads_firm list clips p port phase.Open n h = tt
-reads_firm list clips p port phase.Select n h = grind arith
 reads_firm list clips p port phase.Seen n h = absurd h
 reads_firm list clips p port (phase.Exists k) n h = firm_request clips p (slice_get list k) h
 reads_firm list clips p port (phase.Cue k) n h = (firm_cue_at clips p (slice_get list k) h.0, h.1)
-reads_firm list clips p port (phase.Wait k) n h = grind arith
-reads_firm list clips p port (phase.Play k) n h = grind arith
-reads_firm list clips p port (phase.Probe k) n h = grind arith
-reads_firm list clips p port (phase.Check k) n h = grind arith
-reads_firm list clips p port phase.Drain n h = grind arith
 reads_firm list clips p port phase.Close n h = tt
 reads_firm list clips p port phase.Halt n h = tt
 reads_firm list clips p port phase.HaltClose n h = tt
+reads_firm list clips p port _ n h = grind arith
 
 -- ---- what the answer tells
 
@@ -259,20 +234,15 @@ pub reads_tells : (list : List Item) (clips : List (ClipId × Timecode)) (p : Po
     → Tells list clips (port_after clips p (command_in list port q)).cued
     (aired ++ aired_after clips p (command_in list port q)) q r
 reads_tells list clips p aired settled port phase.Open r n h l a = grind arith
-reads_tells list clips p aired settled port phase.Select r n h l a = tt
-reads_tells list clips p aired settled port phase.Seen r n h l a = tt
 reads_tells list clips p aired settled port (phase.Exists k) r n h l a =
     grind (arith, presence_tells clips p (slice_get list k) r a)
-reads_tells list clips p aired settled port (phase.Cue k) r n h l a = tt
 reads_tells list clips p aired settled port (phase.Wait k) r n h l a = status_tells list clips p aired k r h.0 a
 reads_tells list clips p aired settled port (phase.Play k) r n h l a = play_tells list clips p aired k r h.0 a
 reads_tells list clips p aired settled port (phase.Probe k) r n h l a = probe_tells list clips p aired k r h.0 a
 reads_tells list clips p aired settled port (phase.Check k) r n h l a =
     check_tells list clips p aired k r (is_selected p) refl h.0 l a
 reads_tells list clips p aired settled port phase.Drain r n h l a = grind arith
-reads_tells list clips p aired settled port phase.Close r n h l a = tt
-reads_tells list clips p aired settled port phase.Halt r n h l a = tt
-reads_tells list clips p aired settled port phase.HaltClose r n h l a = tt
+reads_tells list clips p aired settled port _ r n h l a = tt
 
 cue_refusal : (clips : List (ClipId × Timecode)) (p : PortState) (id : ClipId) (part : Option Part) (r : Reply)
     → is_selected p ≡ true → knows clips (Some (record { id = id; part = part })) ≡ true
@@ -293,17 +263,11 @@ pub reads_firm_tells : (list : List Item) (clips : List (ClipId × Timecode)) (p
     (r : Reply)
     → p.number ≡ port → Firm list clips p q → answer_after clips p (command_in list port q) ≡ Some r
     → FirmTells list clips (port_after clips p (command_in list port q)) q r
-reads_firm_tells list clips p port phase.Open r n h a = grind arith
-reads_firm_tells list clips p port phase.Select r n h a = grind arith
 reads_firm_tells list clips p port phase.Seen r n h a = tt
 reads_firm_tells list clips p port (phase.Exists k) r n h a =
     grind (arith, presence_tells clips p (slice_get list k) r a)
 reads_firm_tells list clips p port (phase.Cue k) r n h a = cue_refusal_at clips p (slice_get list k) r h.0 h.1 a
-reads_firm_tells list clips p port (phase.Wait k) r n h a = grind arith
-reads_firm_tells list clips p port (phase.Play k) r n h a = grind arith
-reads_firm_tells list clips p port (phase.Probe k) r n h a = grind arith
-reads_firm_tells list clips p port (phase.Check k) r n h a = grind arith
-reads_firm_tells list clips p port phase.Drain r n h a = grind arith
 reads_firm_tells list clips p port phase.Close r n h a = tt
 reads_firm_tells list clips p port phase.Halt r n h a = tt
 reads_firm_tells list clips p port phase.HaltClose r n h a = tt
+reads_firm_tells list clips p port _ r n h a = grind arith

@@ -21,8 +21,7 @@ use Rattle.vdcp_auto.specs.declared.outcome.Outcome.TheVariants as outcome
 use Rattle.vdcp_auto.specs.declared.phase.Mode.TheVariants.{Plain}
 use Rattle.vdcp_auto.specs.declared.phase.Phase.{Phase}
 use Rattle.vdcp_auto.specs.declared.phase.Phase.TheVariants as phase
-use Rattle.vdcp_auto.specs.State.{Stage}
-use Rattle.vdcp_auto.specs.State.{Ready, Awaiting, Ended}
+use Rattle.vdcp_auto.specs.State.{Stage, Ready, Awaiting, Ended}
 use Rattle.vdcp_auto.specs.declared.phase.Transition.{Transition}
 use Rattle.vdcp_world.proofs.Exchanges.{turn_by}
 use Rattle.vdcp_world.proofs.PhaseTable.{PlaceReady, Firm, answer_after}
@@ -144,8 +143,6 @@ pub plain_nears : (list : List Item) (clips : List (ClipId × Timecode)) (p : Po
     → answer_after clips p (command_in list port q) ≡ Some r
     → Nears (length list) settled (left (length list - settled) q)
     (turn_by Plain list limit take tries unanswered counts q (answer_at (command_in list port q) r))
-plain_nears list clips p aired settled port limit tries unanswered take counts phase.Open r n i j f h w none a =
-    grind arith
 plain_nears list clips p aired settled port limit tries unanswered take counts phase.Select r n i j f h w none a =
     grind (arith, goes_next)
 plain_nears list clips p aired settled port limit tries unanswered take counts phase.Seen r n i j f h w none a =
@@ -154,20 +151,11 @@ plain_nears list clips p aired settled port limit tries unanswered take counts (
     exists_nears list clips p settled port limit tries unanswered take counts k (slice_get list k) r (f k) h.1 h.2 a
 plain_nears list clips p aired settled port limit tries unanswered take counts (phase.Cue k) r n i j f h w none a =
     cue_nears_at list clips p settled port limit tries unanswered take counts k (slice_get list k) r w.0 (f k) h.1 h.2 a
-plain_nears list clips p aired settled port limit tries unanswered take counts (phase.Wait k) r n i j f h w none a =
-    grind arith
-plain_nears list clips p aired settled port limit tries unanswered take counts (phase.Play k) r n i j f h w none a =
-    grind arith
-plain_nears list clips p aired settled port limit tries unanswered take counts (phase.Probe k) r n i j f h w none a =
-    grind arith
 plain_nears list clips p aired settled port limit tries unanswered take counts (phase.Check k) r n i j f h w none a =
     grind (arith, goes_next)
-plain_nears list clips p aired settled port limit tries unanswered take counts phase.Drain r n i j f h w none a =
-    grind arith
-plain_nears list clips p aired settled port limit tries unanswered take counts phase.Close r n i j f h w none a =
-    grind arith
 plain_nears list clips p aired settled port limit tries unanswered take counts phase.Halt r n i j f h w none a = cc
 plain_nears list clips p aired settled port limit tries unanswered take counts phase.HaltClose r n i j f h w none a = cc
+plain_nears list clips p aired settled port limit tries unanswered take counts _ r n i j f h w none a = grind arith
 
 pub left_most : (r : ℕ) (q : Phase) → left r q ≤ 5 * r + 4
 left_most r q = grind arith

@@ -9,8 +9,7 @@ use Rattle.vdcp_auto.specs.declared.exchange.Heard.{Heard}
 use Rattle.vdcp_auto.specs.declared.phase.Mode.{Mode}
 use Rattle.vdcp_auto.specs.declared.phase.Mode.TheVariants.{Plain, Confirming}
 use Rattle.vdcp_auto.specs.declared.phase.Phase.{Phase}
-use Rattle.vdcp_auto.specs.State.{Stage}
-use Rattle.vdcp_auto.specs.State.{Ready, Awaiting, Ended}
+use Rattle.vdcp_auto.specs.State.{Stage, Ready, Awaiting, Ended}
 use Rattle.vdcp_world.proofs.PhaseTable.{Place, PlaceAt, Tells, Firm, FirmAt, FirmIn, FirmTells, TellsIn, ToldAt}
 
 -- ---- the cue is done
@@ -74,9 +73,8 @@ ready_tells_in Confirming list clips p aired q r h =
 pub ready_told : (mode : Mode) (list : List Item) (clips : List (ClipId × Timecode)) (p : PortState) (aired : List Item)
     (stage : Stage) (h : Option Heard)
     → ToldAt mode list clips p aired stage h → ToldAt mode list clips (ready_state p) aired stage h
-ready_told mode list clips p aired (Ready q) h told = tt
 ready_told mode list clips p aired (Awaiting q) h told = λ r e. ready_tells_in mode list clips p aired q r (told r e)
-ready_told mode list clips p aired (Ended outcome) h told = tt
+ready_told mode list clips p aired _ h told = tt
 
 -- ---- the clip has ended
 
@@ -108,6 +106,5 @@ ended_tells_in Confirming list clips p aired q r h = h
 pub ended_told : (mode : Mode) (list : List Item) (clips : List (ClipId × Timecode)) (p : PortState) (aired : List Item)
     (stage : Stage) (h : Option Heard)
     → ToldAt mode list clips p aired stage h → ToldAt mode list clips (ended_state p) aired stage h
-ended_told mode list clips p aired (Ready q) h told = tt
 ended_told mode list clips p aired (Awaiting q) h told = λ r e. ended_tells_in mode list clips p aired q r (told r e)
-ended_told mode list clips p aired (Ended outcome) h told = tt
+ended_told mode list clips p aired _ h told = tt

@@ -26,11 +26,9 @@ use Rattle.vdcp_auto.specs.declared.phase.Mode.{Mode}
 use Rattle.vdcp_auto.specs.declared.phase.Mode.TheVariants.{Plain, Confirming}
 use Rattle.vdcp_auto.specs.declared.phase.Phase.{Phase}
 use Rattle.vdcp_auto.specs.declared.phase.Phase.TheVariants as phase
-use Rattle.vdcp_auto.specs.State.{Stage}
-use Rattle.vdcp_auto.specs.State.{Ready, Awaiting, Ended}
-use Rattle.vdcp_auto.specs.State.{State}
+use Rattle.vdcp_auto.specs.State.{Stage, Ready, Awaiting, Ended, State}
 use Rattle.vdcp_auto.specs.declared.phase.Transition.{Transition}
-use Rattle.vdcp_auto.specs.declared.phase.Transition.TheVariants.{Goes, Settles, Retries, Ends}
+use Rattle.vdcp_auto.specs.declared.phase.Transition.TheVariants.{Goes}
 use Rattle.vdcp_world.proofs.OnTheWay.{IsQuiet}
 use Rattle.vdcp_world.proofs.PhaseTable.{PlaysLast, Place, PlaceAt, Tells, FirmIn, FirmTells, TellsIn, Told, ToldAt, port_after, aired_after, answer_after}
 use Rattle.vdcp_world.proofs.Exchanges.{Behind, turn_by, turn_place, tick_place, tick_firm}
@@ -50,12 +48,11 @@ pub record Stands (plan : Plan) (clips : List (ClipId × Timecode)) (p : PortSta
 pub told_none : (mode : Mode) (list : List Item) (clips : List (ClipId × Timecode)) (p : PortState) (aired : List Item)
     (stage : Stage)
     → ToldAt mode list clips p aired stage None
-told_none mode list clips p aired (Ready q) = tt
 told_none mode list clips p aired (Awaiting q) = λ r e. absurd (impossible r e)
   where
     impossible : (r : Reply) → None ≡ Some (heard.Reply r) → ⊥
     impossible r e = cc
-told_none mode list clips p aired (Ended outcome) = tt
+told_none mode list clips p aired _ = tt
 
 same_reply : (a b : Reply) → Some (heard.Reply a) ≡ Some (heard.Reply b) → a ≡ b
 same_reply a b e = cc
@@ -72,10 +69,9 @@ quiet_tells Confirming list clips p aired q r quiet = λ no_receipt. absurd (imp
 pub told_quiet : (mode : Mode) (list : List Item) (clips : List (ClipId × Timecode)) (p : PortState) (aired : List Item)
     (stage : Stage) (h : Option Heard)
     → IsQuiet mode h → ToldAt mode list clips p aired stage h
-told_quiet mode list clips p aired (Ready q) h quiet = tt
 told_quiet mode list clips p aired (Awaiting q) h quiet =
     λ r e. quiet_tells mode list clips p aired q r (subst (IsQuiet mode) e quiet)
-told_quiet mode list clips p aired (Ended outcome) h quiet = tt
+told_quiet mode list clips p aired _ h quiet = tt
 
 -- ---- a tick
 
@@ -97,8 +93,7 @@ tick_stands plan clips p aired state h = by state.stage h
       place = tick_place plan.list p.cued aired state.settled state.stop q g.place;
       firm = firm_in plan.mode q g.firm;
     }
-    by (Awaiting q) g = h
-    by (Ended outcome) g = h
+    by _ g = h
 
 -- there is an event for each phase that asks for one
 
@@ -123,19 +118,9 @@ some_at list k f below none = no_item list k below (none_of f (slice_get list k)
 pub gives_some : (list : List Item) (port : ℕ) (cued : Cued) (aired : List Item) (settled : ℕ) (q : Phase)
     → Place list cued aired settled q
     → command_in list port q ≡ None → ⊥
-gives_some list port cued aired settled phase.Open h e = cc
-gives_some list port cued aired settled phase.Select h e = cc
-gives_some list port cued aired settled phase.Seen h e = cc
 gives_some list port cued aired settled (phase.Exists k) h e = some_at list k (λ item. command.IdRequest item.id) h.2 e
 gives_some list port cued aired settled (phase.Cue k) h e = some_at list k cue_of h.2 e
-gives_some list port cued aired settled (phase.Wait k) h e = cc
-gives_some list port cued aired settled (phase.Play k) h e = cc
-gives_some list port cued aired settled (phase.Probe k) h e = cc
-gives_some list port cued aired settled (phase.Check k) h e = cc
-gives_some list port cued aired settled phase.Drain h e = cc
-gives_some list port cued aired settled phase.Close h e = cc
-gives_some list port cued aired settled phase.Halt h e = cc
-gives_some list port cued aired settled phase.HaltClose h e = cc
+gives_some list port cued aired settled _ h e = cc
 
 -- nothing is heard after a command that is given; and nothing changes where none is
 pub tick_told : (plan : Plan) (clips : List (ClipId × Timecode)) (p : PortState) (aired : List Item) (state : State)
@@ -150,8 +135,7 @@ tick_told plan clips p aired state h s none told = by state.stage s none
     by (Ready q) g e =
         absurd (gives_some plan.list plan.port p.cued aired state.settled (phase_to_send state.stop q)
         (tick_place plan.list p.cued aired state.settled state.stop q g.place) e)
-    by (Awaiting q) g e = told
-    by (Ended outcome) g e = told
+    by _ g e = told
 
 -- ---- something comes, or nothing in time
 
@@ -202,9 +186,8 @@ came_stands plan clips p aired state came h told = by state.stage h told
     by : (stage : Stage) → Stands plan clips p aired state.settled stage
         → ToldAt plan.mode plan.list clips p aired stage came
         → After (came_in plan came stage state)
-    by (Ready q) g t = h
     by (Awaiting q) g t = awaits q g t (command_in plan.list plan.port q) refl
-    by (Ended outcome) g t = h
+    by _ g t = h
 
 pub came_told : (plan : Plan) (clips : List (ClipId × Timecode)) (p : PortState) (aired : List Item) (state : State)
     (came h : Option Heard)
@@ -217,9 +200,7 @@ came_told plan clips p aired state came h told = by state.stage
 
     turns : (transition : Transition) (n : ℕ) → After (state_after transition n state)
     turns (Goes q) n = tt
-    turns (Settles k) n = tt
-    turns (Retries k) n = tt
-    turns (Ends outcome) n = tt
+    turns _ n = tt
 
     ends : (q : Phase) (c : Command) (b : Bool)
         → After (option_map_or (λ e. ended_in plan (Awaiting q) e state)
@@ -235,9 +216,8 @@ came_told plan clips p aired state came h told = by state.stage
     awaits q (Some c) = ends q c (is_end plan.mode c came)
 
     by : (stage : Stage) → After (came_in plan came stage state)
-    by (Ready q) = told
     by (Awaiting q) = awaits q (command_in plan.list plan.port q)
-    by (Ended outcome) = told
+    by _ = told
 
 -- ---- the port reads what is on the way down
 
@@ -278,14 +258,13 @@ pub nak_told : (mode : Mode) (list : List Item) (clips : List (ClipId × Timecod
     (stage : Stage) (byte : ℕ)
     → is_refusal (reply.Nak byte) ≡ false
     → ToldAt mode list clips p aired stage (Some (heard.Reply (reply.Nak byte)))
-nak_told mode list clips p aired (Ready q) byte e = tt
 nak_told mode list clips p aired (Awaiting q) byte e =
     λ r is. subst (λ r. TellsIn mode list clips p aired q r) (same_reply (reply.Nak byte) r is) (tells mode)
   where
     tells : (mode : Mode) → TellsIn mode list clips p aired q (reply.Nak byte)
     tells Plain = nak_tells list clips p aired q byte e
     tells Confirming = λ _. (nak_tells list clips p aired q byte e).0
-nak_told mode list clips p aired (Ended outcome) byte e = tt
+nak_told mode list clips p aired _ byte e = tt
 
 -- after a command that is awaited
 pub record Read (plan : Plan) (clips : List (ClipId × Timecode)) (p : PortState) (aired : List Item) (settled : ℕ)

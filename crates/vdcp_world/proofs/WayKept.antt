@@ -1,5 +1,6 @@
 -- What events keep of what is on the way.
-use Rattle.std.proofs.Common.{ℕ, ◌<◌, ◌≡◌, ◌⊎◌, inl, inr, Bool, true, false, ◌&&◌, ◌||◌, List, [], ◌∷◌, ◌++◌, All, refl, arith, sym, ap, ◌∙◌, subst}
+use Rattle.std.proofs.Common.{ℕ, ◌<◌, ◌≡◌, ◌⊎◌, inl, inr, Bool, true, false, ◌&&◌, List, [], ◌∷◌, ◌++◌, All, refl, arith, sym, ap, ◌∙◌, subst}
+use Rattle.std.proofs.lemmas.Bool.{and_parts, or_cases}
 use Rattle.std.specs.Prelude.{Option, None, Some, IfSome}
 use Rattle.vdcp_value.specs.Parts.{IsItem}
 use Rattle.vdcp_frame.specs.Burst.{messages_of}
@@ -14,9 +15,7 @@ use Rattle.vdcp_auto.specs.declared.exchange.Heard.{Heard}
 use Rattle.vdcp_auto.specs.declared.exchange.Heard.TheVariants as heard
 use Rattle.vdcp_auto.specs.declared.phase.Mode.{Mode}
 use Rattle.vdcp_auto.specs.declared.phase.Mode.TheVariants.{Plain, Confirming}
-use Rattle.vdcp_auto.specs.State.{Stage}
-use Rattle.vdcp_auto.specs.State.{Ready, Awaiting, Ended}
-use Rattle.vdcp_auto.specs.State.{State}
+use Rattle.vdcp_auto.specs.State.{Stage, Ready, Awaiting, State}
 use Rattle.vdcp_world.specs.Channel.{down_behind, up_behind, state_hearing, state_waiting, state_straying, is_short, can_become, can_become_up, altered}
 use Rattle.vdcp_world.specs.Beginnings.{is_beginning}
 use Rattle.vdcp_auto.specs.Heard.{heard_in, heard_first, hears_receipt}
@@ -33,17 +32,15 @@ given_awaited plan state c e = by state.stage e
   where
     by : (stage : Stage) → given_in plan state.stop stage ≡ Some c → awaited plan (tick_in stage state) ≡ Some c
     by (Ready q) e = e
-    by (Awaiting q) e = cc
-    by (Ended outcome) e = cc
+    by _ e = cc
 
 none_awaited : (plan : Plan) (state : State) (c : Command) → given plan state ≡ None → awaited plan state ≡ Some c
     → awaited plan (ticked state) ≡ Some c
 none_awaited plan state c e aw = by state.stage aw
   where
     by : (stage : Stage) → awaited_in plan stage ≡ Some c → awaited plan (tick_in stage state) ≡ Some c
-    by (Ready q) a = cc
     by (Awaiting q) a = aw
-    by (Ended outcome) a = cc
+    by _ a = cc
 
 pub tick_way : Below → (mode : Mode) (unit : ℕ) (plan : Plan) (state : State) (down up : List ℕ) (g : Option Command)
     → given plan state ≡ g
@@ -84,7 +81,7 @@ quiet_way mode unit o down up new q (inr (c, aw, ms, quiet)) = inr (c, aw, ms, q
 
 -- ---- damage
 
-front_of_none : (ms others : List Content) → [] ≡ ms ++ others → ms ≡ []
+pub front_of_none : (ms others : List Content) → [] ≡ ms ++ others → ms ≡ []
 front_of_none [] others e = refl
 front_of_none (m ∷ ms) others e = cc
 
@@ -93,16 +90,13 @@ front_of_one n [] others e = inl refl
 front_of_one n (m ∷ []) others e = inr (cc e)
 front_of_one n (m ∷ k ∷ ms) others e = cc
 
-pub left_of : (a b : Bool) → (a && b) ≡ true → b ≡ true
-left_of a b e = grind arith
-
 pub alter_down : (mode : Mode) (unit : ℕ) (o : Option Command) (down up bytes : List ℕ) (can : Bool)
     → can_become down bytes ≡ can
     → Way mode unit o down up → Way mode unit o (altered can down bytes) up
 alter_down mode unit o down up bytes false e way = way
 alter_down mode unit o down up bytes true e way =
     let (others, is) = is_beginning_of (messages_of bytes) (messages_of down)
-    (left_of (is_short bytes) (is_beginning (messages_of bytes) (messages_of down)) e) in
+    (and_parts (is_short bytes) (is_beginning (messages_of bytes) (messages_of down)) e).1 in
     by others is way
   where
     by : (others : List Content) → messages_of down ≡ messages_of bytes ++ others → Way mode unit o down up
@@ -136,25 +130,21 @@ alter_up mode unit o down up bytes true e (inr (c, aw, ms, quiet)) = inr (c, aw,
         → IsQuiet mode (heard_in unit bytes)
     front mode quiet e =
         let (others, is) = is_beginning_of (messages_of bytes) (messages_of up)
-        (left_of (is_short bytes) (is_beginning (messages_of bytes) (messages_of up)) e) in
+        (and_parts (is_short bytes) (is_beginning (messages_of bytes) (messages_of up)) e).1 in
         quiet_front mode unit (messages_of bytes) others (subst (λ ms. IsQuiet mode (heard_first unit ms)) is quiet)
-
-    both : (a b : Bool) → (a || b) ≡ true → (a ≡ true) ⊎ (b ≡ true)
-    both true b e = inl refl
-    both false b e = inr e
 
     which : IsQuiet Confirming (heard_in unit up) → (can_become up bytes ≡ true)
         ⊎ ((is_short bytes && hears_receipt (heard_in unit bytes)) ≡ true)
         → IsQuiet Confirming (heard_in unit bytes)
     which quiet (inl can) = front Confirming quiet can
     which quiet (inr receipt) =
-        quiet_receipt (heard_in unit bytes) (left_of (is_short bytes) (hears_receipt (heard_in unit bytes)) receipt)
+        quiet_receipt (heard_in unit bytes) (and_parts (is_short bytes) (hears_receipt (heard_in unit bytes)) receipt).1
 
     still : (mode : Mode) → IsQuiet mode (heard_in unit up) → can_become_up mode unit up bytes ≡ true
         → IsQuiet mode (heard_in unit bytes)
     still Plain quiet e = front Plain quiet e
     still Confirming quiet e =
-        which quiet (both (can_become up bytes) (is_short bytes && hears_receipt (heard_in unit bytes)) e)
+        which quiet (or_cases (can_become up bytes) (is_short bytes && hears_receipt (heard_in unit bytes)) e)
 
 -- ---- silence, and receipts from nowhere
 

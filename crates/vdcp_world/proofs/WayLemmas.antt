@@ -36,20 +36,11 @@ same_unit unit = grind arith
 heard_own : Below → (unit : ℕ) (r : Reply) → IsWritableReply r → heard_as unit (reply_message unit r) ≡ heard.Reply r
 heard_own below unit reply.Ack w = refl
 heard_own below unit (reply.Nak byte) w = refl
-heard_own below unit (reply.Opened granted) w =
-    heard_if (nat_eq unit unit) _ _ (same_unit unit) (below.reply_read unit (reply.Opened granted) w)
 heard_own below unit (reply.State bitmap None) w =
     heard_if (nat_eq unit unit) _ _ (same_unit unit) (below.reply_read unit (reply.State bitmap None) w)
-heard_own below unit (reply.State bitmap (Some state)) w = heard_if (nat_eq unit unit) _ _ (same_unit unit)
-    (below.reply_read unit (reply.State bitmap (Some state)) w)
 heard_own below unit (reply.Active None) w =
     heard_if (nat_eq unit unit) _ _ (same_unit unit) (below.reply_read unit (reply.Active None) w)
-heard_own below unit (reply.Active (Some id)) w =
-    heard_if (nat_eq unit unit) _ _ (same_unit unit) (below.reply_read unit (reply.Active (Some id)) w)
-heard_own below unit (reply.Size time) w =
-    heard_if (nat_eq unit unit) _ _ (same_unit unit) (below.reply_read unit (reply.Size time) w)
-heard_own below unit (reply.Present there) w =
-    heard_if (nat_eq unit unit) _ _ (same_unit unit) (below.reply_read unit (reply.Present there) w)
+heard_own below unit q w = heard_if (nat_eq unit unit) _ _ (same_unit unit) (below.reply_read unit q w)
 
 end_bytes : (unit : ℕ) (end : End) → AreOctets (answer_bytes unit (end_answers end))
 end_bytes unit clean = All-nil IsByte

@@ -16,17 +16,16 @@ use Rattle.vdcp_auto.specs.declared.phase.Mode.{Mode}
 use Rattle.vdcp_auto.specs.declared.phase.Mode.TheVariants.{Confirming}
 use Rattle.vdcp_auto.specs.declared.phase.Phase.{Phase}
 use Rattle.vdcp_auto.specs.declared.phase.Phase.TheVariants as phase
-use Rattle.vdcp_auto.specs.State.{Stage}
-use Rattle.vdcp_auto.specs.State.{Ready, Awaiting, Ended}
-use Rattle.vdcp_auto.specs.State.{State}
+use Rattle.vdcp_auto.specs.State.{Stage, Ready, Awaiting, Ended, State}
 use Rattle.vdcp_world.specs.LateLine.Damage.{is_no_answer}
 use Rattle.vdcp_world.specs.LateLine.Pipe.{IsPipe}
 use Rattle.vdcp_world.proofs.LateLine.Closing.{Ages}
 use Rattle.vdcp_world.proofs.LateLine.Endings.{Misses, settled_at}
 use Rattle.vdcp_world.proofs.LateLine.Exactness.{exact_ages, exact_copied, exact_reads, exact_thins, is_exact_at}
-use Rattle.vdcp_world.proofs.LateLine.Places.{Answer, At, Exact, Near, misfits, pipe_of}
+use Rattle.vdcp_world.proofs.LateLine.Places.{Answer, At, Exact, misfits, pipe_of}
 use Rattle.vdcp_world.proofs.LateLine.Standing.{Reads, misleads}
 use Rattle.vdcp_world.proofs.LateLine.Thinning.{Thins}
+use Rattle.vdcp_world.proofs.PhaseTable.{Near}
 
 -- of the playlist, the catalogue, how many events are settled, whether the port is selected, its cued slot, what was
 -- aired, the
@@ -101,7 +100,8 @@ pub record Covers (mode : Mode) (S : Claim) : Type 0 where
       → IfSome (settled_at mode (length list) o) (At list aired settled) × Misses list clips o
 
 -- the claim, and where no event more than are settled may have aired, that none has
-pub record Exactly (S : Claim) (may : Bool) (list : List Item) (clips : List (ClipId × Timecode)) (settled : ℕ) (s : Bool)
+pub record Exactly (S : Claim) (may : Bool) (list : List Item) (clips : List (ClipId × Timecode)) (settled : ℕ)
+    (s : Bool)
     (a : Cued) (aired : List Item) (ups : List Answer) (downs : List Phase) (stage : Stage) : Type 0 where
   pub stands : S list clips settled s a aired ups downs stage
   pub exact : may ≡ false → Exact list settled s a aired downs

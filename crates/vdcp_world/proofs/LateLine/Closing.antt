@@ -9,9 +9,9 @@ use Rattle.vdcp_auto.specs.declared.phase.Phase.TheVariants as phase
 use Rattle.vdcp_world.specs.LateLine.Pipe.{Climbs, IsPipe, stretch, stretches}
 use Rattle.vdcp_world.proofs.LateLine.Pipes.{climbs_pushed, climbs_thins}
 use Rattle.vdcp_world.proofs.LateLine.Stretches.{pipe_copied, pipe_pushed}
-use Rattle.vdcp_world.proofs.LateLine.Places.{Answer, pipe_of, plays, arms, waits, says_ack, says_done, says_empty, shows_no_cue, cued_item, HasItem, HasDone, HasNone}
-use Rattle.vdcp_world.proofs.LateLine.Places.{ToAir, OnAir, Playing, LastCue, Unarmed, Safe, Place}
+use Rattle.vdcp_world.proofs.LateLine.Places.{Answer, pipe_of, plays, arms, waits, says_ack, says_done, says_empty, shows_no_cue, HasItem, HasDone, HasNone, ToAir, OnAir, Playing, LastCue, Unarmed, Safe, Place}
 use Rattle.vdcp_world.proofs.LateLine.Thinning.{Thins, any_thins, none_thins}
+use Rattle.vdcp_world.proofs.PhaseTable.{cued_item}
 
 -- ---- something is left out
 
@@ -57,10 +57,6 @@ pub place_thins : (list : List Item) (settled : ℕ) (s : Bool) (a : Cued) (aire
     (downs left : List Phase) (q : Phase)
     → Thins ups others → Thins downs left → Place list settled s a aired ups downs q
     → Place list settled s a aired others left q
-place_thins list settled s a aired ups others downs left phase.Open u d h = h
-place_thins list settled s a aired ups others downs left phase.Select u d h = h
-place_thins list settled s a aired ups others downs left phase.Seen u d h = h
-place_thins list settled s a aired ups others downs left (phase.Exists k) u d h = h
 place_thins list settled s a aired ups others downs left (phase.Cue k) u d h =
     record { at = h.at; within = h.within; taken = λ e. h.taken (any_thins says_ack ups others u e) }
 place_thins list settled s a aired ups others downs left (phase.Wait k) u d h = record {
@@ -74,13 +70,11 @@ place_thins list settled s a aired ups others downs left (phase.Play k) u d h =
     playing_thins list settled s a aired ups others downs left k u d h
 place_thins list settled s a aired ups others downs left (phase.Probe k) u d h =
     playing_thins list settled s a aired ups others downs left k u d h
-place_thins list settled s a aired ups others downs left (phase.Check k) u d h = h
-place_thins list settled s a aired ups others downs left phase.Drain u d h = h
-place_thins list settled s a aired ups others downs left phase.Close u d h = h
 place_thins list settled s a aired ups others downs left phase.Halt u d h =
     safe_thins list settled s a aired downs left d h
 place_thins list settled s a aired ups others downs left phase.HaltClose u d h =
     safe_thins list settled s a aired downs left d h
+place_thins list settled s a aired ups others downs left _ u d h = h
 
 -- the pipe
 pub pipe_thins : (mode : Mode) (n : ℕ) (ups others : List Answer) (downs left : List Phase) → Thins ups others
@@ -107,19 +101,9 @@ pipe_thins mode n (a ∷ ups) others downs left (inr (rest, is, u)) d =
 flow_maps : (mode : Mode) (n : ℕ) (pipe other : List Phase) (q : Phase)
     → ((low high : ℕ) → Climbs low high (stretches mode n pipe) → Climbs low high (stretches mode n other))
     → IsPipe mode n q pipe → IsPipe mode n q other
-flow_maps mode n pipe other phase.Open f c = f _ _ c
-flow_maps mode n pipe other phase.Select f c = f _ _ c
-flow_maps mode n pipe other phase.Seen f c = f _ _ c
-flow_maps mode n pipe other (phase.Exists k) f c = f _ _ c
-flow_maps mode n pipe other (phase.Cue k) f c = f _ _ c
-flow_maps mode n pipe other (phase.Wait k) f c = f _ _ c
-flow_maps mode n pipe other (phase.Play k) f c = f _ _ c
-flow_maps mode n pipe other (phase.Probe k) f c = f _ _ c
-flow_maps mode n pipe other (phase.Check k) f c = f _ _ c
-flow_maps mode n pipe other phase.Drain f c = f _ _ c
-flow_maps mode n pipe other phase.Close f c = f _ _ c
 flow_maps mode n pipe other phase.Halt f c = tt
 flow_maps mode n pipe other phase.HaltClose f c = tt
+flow_maps mode n pipe other _ f c = f _ _ c
 
 pub flow_thins : (mode : Mode) (n : ℕ) (ups others : List Answer) (downs left : List Phase) (q : Phase)
     → Thins ups others → Thins downs left → IsPipe mode n q (pipe_of ups downs)
@@ -265,10 +249,6 @@ safe_ages list settled s a t b aired downs g h = record { near = h.near; calm = 
 pub place_ages : (list : List Item) (settled : ℕ) (s : Bool) (a : Cued) (t : Bool) (b : Cued) (aired : List Item)
     (ups : List Answer) (downs : List Phase)
     (q : Phase) → Ages s a t b → Place list settled s a aired ups downs q → Place list settled t b aired ups downs q
-place_ages list settled s a t b aired ups downs phase.Open g h = h
-place_ages list settled s a t b aired ups downs phase.Select g h = h
-place_ages list settled s a t b aired ups downs phase.Seen g h = h
-place_ages list settled s a t b aired ups downs (phase.Exists k) g h = h
 place_ages list settled s a t b aired ups downs (phase.Cue k) g h =
     record { at = h.at; within = h.within; taken = λ e. item_ages list s a t b k g (h.taken e) }
 place_ages list settled s a t b aired ups downs (phase.Wait k) g h = record {
@@ -284,7 +264,6 @@ place_ages list settled s a t b aired ups downs (phase.Probe k) g h =
     playing_ages list settled s a t b aired ups downs k g h
 place_ages list settled s a t b aired ups downs (phase.Check k) g h =
     record { at = h.at; within = h.within; has_none = none_ages s a t b g h.has_none }
-place_ages list settled s a t b aired ups downs phase.Drain g h = h
-place_ages list settled s a t b aired ups downs phase.Close g h = h
 place_ages list settled s a t b aired ups downs phase.Halt g h = safe_ages list settled s a t b aired downs g h
 place_ages list settled s a t b aired ups downs phase.HaltClose g h = safe_ages list settled s a t b aired downs g h
+place_ages list settled s a t b aired ups downs _ g h = h

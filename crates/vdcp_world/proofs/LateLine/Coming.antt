@@ -19,9 +19,7 @@ use Rattle.vdcp_auto.specs.declared.exchange.Heard.{Heard}
 use Rattle.vdcp_auto.specs.declared.exchange.Heard.TheVariants as heard
 use Rattle.vdcp_auto.specs.declared.phase.Mode.TheVariants.{Plain}
 use Rattle.vdcp_auto.specs.declared.phase.Phase.{Phase}
-use Rattle.vdcp_auto.specs.State.{Stage}
-use Rattle.vdcp_auto.specs.State.{Ready, Awaiting, Ended}
-use Rattle.vdcp_auto.specs.State.{State}
+use Rattle.vdcp_auto.specs.State.{Stage, Awaiting, State}
 use Rattle.vdcp_world.specs.LateLine.Damage.{is_no_answer}
 use Rattle.vdcp_world.proofs.Exchanges.{fits_asked}
 use Rattle.vdcp_world.proofs.LateLine.Claims.{Comes}
@@ -38,16 +36,7 @@ plain_plan list port limit = record { mode = Plain; list = list; port = port; li
 -- a NAK fits no command
 nak_fits : (c : Command) (byte : ℕ) → fits c (reply.Nak byte) ≡ false
 nak_fits (command.Open port lock) byte = refl
-nak_fits (command.Close port) byte = refl
-nak_fits (command.Select port) byte = refl
-nak_fits (command.PlayCue id) byte = refl
-nak_fits (command.CueData id start duration) byte = refl
-nak_fits command.Play byte = refl
-nak_fits command.Stop byte = refl
-nak_fits (command.Status groups) byte = refl
-nak_fits command.ActiveId byte = refl
-nak_fits (command.IdRequest id) byte = refl
-nak_fits (command.IdSize id) byte = refl
+nak_fits _ byte = refl
 
 -- ---- where it leads
 
@@ -58,7 +47,7 @@ LeadsBy list clips settled s a aired ups downs limit state port counts q o =
     Leads list clips settled s a aired ups downs (transition_on (plain_plan list port limit) state.take state.tries
     state.unanswered counts q o)
 
-either : (a b : Bool) → (a || b) ≡ true → a ≡ false → b ≡ true
+pub either : (a b : Bool) → (a || b) ≡ true → a ≡ false → b ≡ true
 either a b e f = grind arith
 
 came_led : (list : List Item) (clips : List (ClipId × Timecode)) (port limit : ℕ) (s : Bool) (a : Cued)
@@ -91,12 +80,7 @@ came_led list clips port limit s a aired ups downs state came q c counts is (inl
     by (Some heard.Other) e = nothing
     by (Some (heard.Reply (reply.Nak byte))) e =
         nak byte (is_refusal (reply.Nak byte)) (fits c (reply.Nak byte)) refl (nak_fits c byte)
-    by (Some (heard.Reply reply.Ack)) e = cc
-    by (Some (heard.Reply (reply.Opened granted))) e = cc
-    by (Some (heard.Reply (reply.State groups byte))) e = cc
-    by (Some (heard.Reply (reply.Active id))) e = cc
-    by (Some (heard.Reply (reply.Present there))) e = cc
-    by (Some (heard.Reply (reply.Size length))) e = cc
+    by _ e = cc
 came_led list clips port limit s a aired ups downs state came q c counts is (inr (x, rest, first, e)) h =
     subst (λ (o : Option Heard). LeadsBy list clips state.settled s a aired ups downs limit state port counts q
     (answer_to c o)) (sym e)
@@ -151,6 +135,5 @@ came_stands list clips port limit s a aired ups downs state came comes h = by st
     by : (stage : Stage) → Stands list clips state.settled s a aired ups downs stage
         → After (option_map_or (λ e. ended_in (plain_plan list port limit) stage e state)
         (exchange_of Plain came (awaited_in (plain_plan list port limit) stage)) state)
-    by (Ready q) g = h
     by (Awaiting q) g = awaits q g (command_in list port q) refl
-    by (Ended o) g = h
+    by _ g = h

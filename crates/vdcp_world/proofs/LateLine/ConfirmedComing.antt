@@ -1,5 +1,5 @@
 -- What comes to the controller, or silence, in confirm mode.
-use Rattle.std.proofs.Common.{◌≡◌, ℕ, inl, inr, Bool, true, false, not, ◌||◌, ◌&&◌, List, ◌∷◌, length, Option, Some, None, refl, arith, sym, subst, if◌then◌else◌}
+use Rattle.std.proofs.Common.{◌≡◌, ℕ, inl, inr, Bool, true, false, ◌||◌, List, ◌∷◌, length, Option, Some, None, refl, sym, subst, if◌then◌else◌}
 use Rattle.std.specs.Option.{option_map_or}
 use Rattle.vdcp_value.specs.declared.clip_id.ClipId.{ClipId}
 use Rattle.vdcp_value.specs.declared.part.Item.{Item}
@@ -17,16 +17,15 @@ use Rattle.vdcp_auto.specs.declared.exchange.Heard.{Heard}
 use Rattle.vdcp_auto.specs.declared.exchange.Heard.TheVariants as heard
 use Rattle.vdcp_auto.specs.declared.phase.Mode.TheVariants.{Confirming}
 use Rattle.vdcp_auto.specs.declared.phase.Phase.{Phase}
-use Rattle.vdcp_auto.specs.State.{Stage}
-use Rattle.vdcp_auto.specs.State.{Ready, Awaiting, Ended}
-use Rattle.vdcp_auto.specs.State.{State}
+use Rattle.vdcp_auto.specs.State.{Stage, Awaiting, State}
 use Rattle.vdcp_world.specs.LateLine.Damage.{is_no_answer}
 use Rattle.vdcp_world.proofs.LateLine.Claims.{Comes}
-use Rattle.vdcp_world.proofs.Exchanges.{fits_asked}
+use Rattle.vdcp_world.proofs.Exchanges.{fits_asked, no_receipt, no_refusal}
 use Rattle.vdcp_world.proofs.LateLine.ConfirmedHearing.{Leads, silent, replied}
 use Rattle.vdcp_world.proofs.LateLine.ConfirmedStanding.{Holds}
 use Rattle.vdcp_world.proofs.LateLine.Delivering.{clash}
 use Rattle.vdcp_world.proofs.LateLine.Places.{Answer}
+use Rattle.vdcp_world.proofs.LateLine.Coming.{either}
 
 -- the plan of a controller in confirm mode
 abbrev pub confirming_plan : List Item → ℕ → ℕ → Plan
@@ -39,25 +38,11 @@ LeadsBy list clips settled s a aired ups downs limit state port counts q o =
     Leads list clips settled s a aired ups downs (transition_on (confirming_plan list port limit) state.take state.tries
     state.unanswered counts q o)
 
--- what ends an exchange is no receipt
-no_receipt : (c : Command) (r : Reply) → is_end Confirming c (Some (heard.Reply r)) ≡ true → is_receipt r ≡ false
-no_receipt c r e = of (is_sense c) (is_receipt r) e
-  where
-    of : (a b : Bool) → (a && not b) ≡ true → b ≡ false
-    of a b e = grind arith
-
-no_refusal : (r : Reply) → is_receipt r ≡ false → is_refusal r ≡ false
-no_refusal r e = grind arith
-
 -- what is no answer, and ends the exchange, answers nothing
 no_answer : (c : Command) (came : Option Heard) → is_no_answer Confirming came ≡ true → is_end Confirming c came ≡ true
     → answer_to c came ≡ None
-no_answer c None e f = refl
-no_answer c (Some heard.Other) e f = refl
 no_answer c (Some (heard.Reply r)) e f = clash (is_receipt r) e (no_receipt c r f)
-
-either : (a b : Bool) → (a || b) ≡ true → a ≡ false → b ≡ true
-either a b e f = grind arith
+no_answer c _ e f = refl
 
 came_led : (list : List Item) (clips : List (ClipId × Timecode)) (port limit : ℕ) (s : Bool) (a : Cued)
     (aired : List Item) (ups : List Answer)
@@ -134,6 +119,5 @@ came_holds list clips port limit s a aired ups downs state came comes h = by sta
     by : (stage : Stage) → Holds list clips state.settled s a aired ups downs stage
         → After (option_map_or (λ e. ended_in (confirming_plan list port limit) stage e state)
         (exchange_of Confirming came (awaited_in (confirming_plan list port limit) stage)) state)
-    by (Ready q) g = h
     by (Awaiting q) g = awaits q g (command_in list port q) refl
-    by (Ended o) g = h
+    by _ g = h

@@ -21,8 +21,9 @@ use Rattle.vdcp_world.proofs.LateLine.ConfirmedStanding.{SpotAt, Holds, holds_th
 use Rattle.vdcp_world.proofs.LateLine.Endings.{ended_either, ended_settles, settled_at}
 use Rattle.vdcp_world.proofs.LateLine.ExactPlaces.{exact_in}
 use Rattle.vdcp_world.proofs.LateLine.Exactness.{is_exact_at, is_exact_in, none_taken}
-use Rattle.vdcp_world.proofs.LateLine.Places.{Answer, At, Exact, Near, pipe_of}
+use Rattle.vdcp_world.proofs.LateLine.Places.{Answer, At, Exact, pipe_of}
 use Rattle.vdcp_world.proofs.LateLine.Safety.{near_at}
+use Rattle.vdcp_world.proofs.PhaseTable.{Near}
 
 -- in which phases how many events are aired and settled
 at_in : (list : List Item) (settled : ℕ) (s : Bool) (a : Cued) (aired : List Item) (ups : List Answer)

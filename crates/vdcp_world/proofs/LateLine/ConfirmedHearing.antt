@@ -1,5 +1,6 @@
 -- Where a reply leads the controller, or silence, in confirm mode. Receipts lead nowhere.
-use Rattle.std.proofs.Common.{◌≡◌, ℕ, ◌+◌, ◌*◌, ◌<◌, ◌≤◌, ◌⊎◌, inl, inr, Bool, true, false, not, ◌||◌, ◌&&◌, List, [], ◌∷◌, length, Some, None, refl, arith, ap, subst, ◌∙◌, if◌then◌else◌}
+use Rattle.std.proofs.Common.{◌≡◌, ℕ, ◌+◌, ◌*◌, ◌<◌, ◌≤◌, ◌⊎◌, inl, inr, Bool, true, false, not, ◌||◌, ◌&&◌, List, [], ◌∷◌, length, Some, refl, arith, ap, subst, ◌∙◌, if◌then◌else◌}
+use Rattle.std.proofs.lemmas.Bool.{and_right, or_from, or_left, or_parts, not-false}
 use Rattle.std.specs.List.{list_any}
 use Rattle.std.specs.Prelude.{slice_get, nat_le, nat_lt}
 use Rattle.vdcp_value.specs.declared.clip_id.ClipId.{ClipId}
@@ -9,7 +10,7 @@ use Rattle.vdcp_words.specs.declared.reply.Reply.{Reply}
 use Rattle.vdcp_words.specs.declared.reply.Reply.TheVariants as reply
 use Rattle.vdcp_port.specs.Port.{Cued}
 use Rattle.vdcp_auto.specs.Commands.{is_presence}
-use Rattle.vdcp_auto.specs.Replies.{is_ack, is_receipt, is_refusal, is_granted, is_present, is_done, is_playing, is_empty, is_cueing}
+use Rattle.vdcp_auto.specs.Replies.{is_ack, is_receipt, is_granted, is_present, is_done, is_playing, is_empty, is_cueing}
 use Rattle.vdcp_auto.specs.Table.{next, names_other, on_lost_cue, on_reply, on_no_answer}
 use Rattle.vdcp_auto.specs.Turn.{on_unanswered, stage_after, settled_after}
 use Rattle.vdcp_auto.specs.declared.outcome.Outcome.TheVariants as outcome
@@ -20,18 +21,19 @@ use Rattle.vdcp_auto.specs.State.{Ready}
 use Rattle.vdcp_auto.specs.declared.phase.Transition.{Transition}
 use Rattle.vdcp_auto.specs.declared.phase.Transition.TheVariants.{Goes, Settles, Retries, Ends}
 use Rattle.vdcp_world.specs.LateLine.Pipe.{stretch, Climbs, stretches, IsPipe}
-use Rattle.vdcp_world.proofs.PhaseTable.{is_asked}
+use Rattle.vdcp_world.proofs.PhaseTable.{is_asked, knows}
 use Rattle.vdcp_world.proofs.LateLine.ConfirmedPlaces.{ToSound, Sounded, Idle, Secure, Spot, full_none}
 use Rattle.vdcp_world.proofs.LateLine.ConfirmedReads.{presence_no_state}
 use Rattle.vdcp_world.proofs.LateLine.ConfirmedStanding.{SpotAt, secure_in}
-use Rattle.vdcp_world.proofs.LateLine.Endings.{EndedAt, knows, settles_at, silent_end}
+use Rattle.vdcp_world.proofs.LateLine.Endings.{EndedAt, settles_at, silent_end}
 use Rattle.vdcp_world.proofs.LateLine.Delivering.{clash}
-use Rattle.vdcp_world.proofs.LateLine.Passing.{wanted, same_wanted, all_own, fitting, fits_as}
+use Rattle.vdcp_world.proofs.LateLine.Passing.{wanted, same_wanted, all_own, fits_as}
 use Rattle.vdcp_world.proofs.LateLine.Pipes.{climbs_within}
 use Rattle.vdcp_world.proofs.LateLine.Places.{Answer, pipe_of, waits, misfits, fits_phase, says_done, says_empty, shows_no_cue, At}
 use Rattle.vdcp_world.proofs.LateLine.Safety.{is_silent, none_arms_in}
 use Rattle.vdcp_world.proofs.LateLine.Standing.{differs, misleads, misleads_at}
 use Rattle.vdcp_world.proofs.LateLine.Stretches.{Lies, ups_climb, none_answers}
+use Rattle.vdcp_world.proofs.Exchanges.{no_refusal}
 
 -- where a turn leads
 abbrev pub Leads : List Item → List (ClipId × Timecode) → ℕ → Bool → Cued → List Item → List Answer → List Phase
@@ -58,20 +60,10 @@ goes_on : (list : List Item) (clips : List (ClipId × Timecode)) (settled : ℕ)
     (ups : List Answer) (downs : List Phase)
     (q : Phase) → Here list settled s a aired ups downs q
     → Leads list clips settled s a aired ups downs (on_no_answer Confirming q)
-goes_on list clips settled s a aired ups downs phase.Open h = h
-goes_on list clips settled s a aired ups downs phase.Select h = h
-goes_on list clips settled s a aired ups downs phase.Seen h = h
-goes_on list clips settled s a aired ups downs (phase.Exists k) h = h
-goes_on list clips settled s a aired ups downs (phase.Cue k) h = h
-goes_on list clips settled s a aired ups downs (phase.Wait k) h = h
-goes_on list clips settled s a aired ups downs (phase.Play k) h = h
-goes_on list clips settled s a aired ups downs (phase.Probe k) h = h
-goes_on list clips settled s a aired ups downs (phase.Check k) h = h
-goes_on list clips settled s a aired ups downs phase.Drain h = h
 goes_on list clips settled s a aired ups downs phase.Close h =
     (over list settled s a aired ups downs (length list) phase.Close refl h.1 h.0, tt)
-goes_on list clips settled s a aired ups downs phase.Halt h = h
 goes_on list clips settled s a aired ups downs phase.HaltClose h = (h.0, tt)
+goes_on list clips settled s a aired ups downs _ h = h
 
 pub silent : (list : List Item) (clips : List (ClipId × Timecode)) (settled : ℕ) (s : Bool) (a : Cued)
     (aired : List Item) (ups : List Answer) (downs : List Phase)
@@ -155,18 +147,12 @@ pub record Asked (list : List Item) (clips : List (ClipId × Timecode)) (x : Ans
   pub fit : list_any misfits (x ∷ ups) ≡ false
   pub true_told : list_any (misleads list clips) (x ∷ ups) ≡ false
 
-first_of : (b c : Bool) → (b || c) ≡ false → b ≡ false
-first_of b c e = grind arith
-
-no_refusal : (r : Reply) → is_receipt r ≡ false → is_refusal r ≡ false
-no_refusal r e = grind arith
-
 -- the phases want the same kind of reply
 wants : (list : List Item) (clips : List (ClipId × Timecode)) (x : Answer) (ups : List Answer) (q : Phase)
     → Asked list clips x ups q → wanted x.to ≡ wanted q
 wants list clips x ups q k =
     same_wanted q x.to x.reply (no_refusal x.reply k.no_receipt)
-    (fitting (fits_phase x.to x.reply) (first_of (misfits x) (list_any misfits ups) k.fit)) k.asked
+    (not-false (fits_phase x.to x.reply) (or_parts (misfits x) (list_any misfits ups) k.fit).0) k.asked
 
 from_open : (list : List Item) (clips : List (ClipId × Timecode)) (settled : ℕ) (s : Bool) (a : Cued)
     (aired : List Item) (ups : List Answer) (downs : List Phase)
@@ -219,16 +205,10 @@ from_exists list clips settled s a aired x ups downs k g h b e = by b e
         h.0.1,
         unknown (is_present x.reply) (knows clips (slice_get list k))
             (subst (λ (p : Phase). misleads_at list clips p x.reply ≡ false) is
-            (first_of (misleads list clips x) (list_any (misleads list clips) ups) g.true_told))
+            (or_parts (misleads list clips x) (list_any (misleads list clips) ups) g.true_told).0)
             g.asked e,
       ),
     )
-
-or_first : (b c : Bool) → b ≡ true → (b || c) ≡ true
-or_first b c e = grind arith
-
-neither : (b c : Bool) → b ≡ false → c ≡ false → (b || c) ≡ false
-neither b c e f = grind arith
 
 -- a state doesn't show both
 done_not_empty : (r : Reply) → is_done r ≡ true → is_empty r ≡ false
@@ -236,26 +216,14 @@ done_not_empty (reply.State groups (Some byte)) e = by _ _ e
   where
     by : (x y : Bool) → not y ≡ true → (x && y) ≡ false
     by x y e = grind arith
-done_not_empty (reply.State groups None) e = refl
-done_not_empty reply.Ack e = refl
-done_not_empty (reply.Nak byte) e = refl
-done_not_empty (reply.Opened granted) e = refl
-done_not_empty (reply.Active id) e = refl
-done_not_empty (reply.Present there) e = refl
-done_not_empty (reply.Size length) e = refl
+done_not_empty _ e = refl
 
 none_shows : (ups : List Answer) → list_any says_empty ups ≡ false → list_any shows_no_cue ups ≡ false
 none_shows [] e = refl
 none_shows (x ∷ ups) e =
-    neither (shows_no_cue x) (list_any shows_no_cue ups) (second (waits x.to) (is_empty x.reply)
-    (first_of (says_empty x) (list_any says_empty ups) e))
-    (none_shows ups (rest (says_empty x) (list_any says_empty ups) e))
-  where
-    second : (b c : Bool) → c ≡ false → (b && c) ≡ false
-    second b c e = grind arith
-
-    rest : (b c : Bool) → (b || c) ≡ false → c ≡ false
-    rest b c e = grind arith
+    or_from (shows_no_cue x) (list_any shows_no_cue ups) (and_right (waits x.to) (is_empty x.reply)
+    (or_parts (says_empty x) (list_any says_empty ups) e).0)
+    (none_shows ups (or_parts (says_empty x) (list_any says_empty ups) e).1)
 
 lost_cue : (list : List Item) (clips : List (ClipId × Timecode)) (settled : ℕ) (s : Bool) (a : Cued) (aired : List Item)
     (ups : List Answer) (downs : List Phase)
@@ -282,7 +250,7 @@ from_wait list clips settled s a aired x ups downs k limit tries wish g h =
     playing : is_done x.reply ≡ true → Leads list clips settled s a aired (x ∷ ups) downs (Goes (phase.Play k))
     playing e =
         let none : list_any says_empty (x ∷ ups) ≡ false =
-        neither (says_empty x) (list_any says_empty ups) (done_not_empty x.reply e) (h.0.full.0 e) in (
+        or_from (says_empty x) (list_any says_empty ups) (done_not_empty x.reply e) (h.0.full.0 e) in (
           record {
             settled_is = h.0.at.settled_is;
             within = h.0.within;
@@ -290,7 +258,7 @@ from_wait list clips settled s a aired x ups downs k limit tries wish g h =
             stands = inl (record {
               aired_is = h.0.at.aired_is;
               owns = h.0.owns;
-              has_item = h.0.shown (or_first (is_done x.reply) (list_any says_done ups) e);
+              has_item = h.0.shown (or_left (is_done x.reply) (list_any says_done ups) e);
               no_empty = none;
             });
           },
@@ -329,9 +297,9 @@ from_probe list clips settled s a aired x ups downs k g h false true e = by h.0.
     by : ToSound list s a aired (x ∷ ups) k ⊎ Sounded list a aired downs k
         → (x.to ≡ phase.Wait k) ⊎ (x.to ≡ phase.Probe k)
         → Leads list clips settled s a aired (x ∷ ups) downs (Settles k)
-    by (inl q) w = clash (is_empty x.reply) e (first_of (is_empty x.reply) (list_any says_empty ups) q.no_empty)
+    by (inl q) w = clash (is_empty x.reply) e (or_parts (is_empty x.reply) (list_any says_empty ups) q.no_empty).0
     by (inr q) (inl is) =
-        clash (shows_no_cue x) (shows x.to is) (first_of (shows_no_cue x) (list_any shows_no_cue ups) h.0.never_none)
+        clash (shows_no_cue x) (shows x.to is) (or_parts (shows_no_cue x) (list_any shows_no_cue ups) h.0.never_none).0
     by (inr q) (inr is) = (
       (
         (record { aired_is = q.aired_is; within = omega (arith, h.0.within); settled_is = refl }, q.is_empty),
@@ -391,18 +359,12 @@ pub replied : (list : List Item) (clips : List (ClipId × Timecode)) (settled : 
     → Leads list clips settled s a aired (x ∷ ups) downs (on_reply Confirming list limit wish tries q x.reply)
 replied list clips settled s a aired x ups downs limit tries wish phase.Open g h =
     from_open list clips settled s a aired (x ∷ ups) downs (is_granted x.reply) h
-replied list clips settled s a aired x ups downs limit tries wish phase.Select g h =
-    ack_receipt x.reply g.asked g.no_receipt
 replied list clips settled s a aired x ups downs limit tries wish phase.Seen g h =
     next_spot list clips settled s a aired (x ∷ ups) downs 0 h.0 h.1
 replied list clips settled s a aired x ups downs limit tries wish (phase.Exists k) g h =
     from_exists list clips settled s a aired x ups downs k g h (is_present x.reply) refl
-replied list clips settled s a aired x ups downs limit tries wish (phase.Cue k) g h =
-    ack_receipt x.reply g.asked g.no_receipt
 replied list clips settled s a aired x ups downs limit tries wish (phase.Wait k) g h =
     from_wait list clips settled s a aired x ups downs k limit tries wish g h
-replied list clips settled s a aired x ups downs limit tries wish (phase.Play k) g h =
-    ack_receipt x.reply g.asked g.no_receipt
 replied list clips settled s a aired x ups downs limit tries wish (phase.Probe k) g h =
     from_probe list clips settled s a aired x ups downs k g h (is_done x.reply) (is_empty x.reply) refl
 replied list clips settled s a aired x ups downs limit tries wish (phase.Check k) g h =
@@ -410,9 +372,4 @@ replied list clips settled s a aired x ups downs limit tries wish (phase.Check k
 replied list clips settled s a aired x ups downs limit tries wish phase.Drain g h =
     from_drain list clips settled s a aired (x ∷ ups) downs (is_cueing x.reply || is_done x.reply)
     (is_playing x.reply) h
-replied list clips settled s a aired x ups downs limit tries wish phase.Close g h =
-    ack_receipt x.reply g.asked g.no_receipt
-replied list clips settled s a aired x ups downs limit tries wish phase.Halt g h =
-    ack_receipt x.reply g.asked g.no_receipt
-replied list clips settled s a aired x ups downs limit tries wish phase.HaltClose g h =
-    ack_receipt x.reply g.asked g.no_receipt
+replied list clips settled s a aired x ups downs limit tries wish _ g h = ack_receipt x.reply g.asked g.no_receipt

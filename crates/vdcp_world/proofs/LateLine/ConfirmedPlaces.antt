@@ -1,5 +1,6 @@
 -- Where the port is in each phase of the controller, in confirm mode, and what the answers on the way up tell of it.
 use Rattle.std.proofs.Common.{◌≡◌, ℕ, ◌+◌, ◌<◌, ◌⊎◌, inl, inr, Bool, true, false, not, nat_eq, ◌||◌, List, [], ◌∷◌, ◌++◌, length, take, refl, arith, sym, subst, ◌∙◌}
+use Rattle.std.proofs.lemmas.Bool.{or_from, or_left, or_parts, or_right}
 use Rattle.std.specs.List.{list_any}
 use Rattle.std.specs.Prelude.{slice_get}
 use Rattle.vdcp_value.specs.declared.part.Item.{Item}
@@ -8,8 +9,9 @@ use Rattle.vdcp_auto.specs.declared.phase.Phase.{Phase}
 use Rattle.vdcp_auto.specs.declared.phase.Phase.TheVariants as phase
 use Rattle.vdcp_world.proofs.LateLine.Closing.{Ages, item_ages}
 use Rattle.vdcp_world.proofs.LateLine.Delivering.{clash, none_pushed}
-use Rattle.vdcp_world.proofs.LateLine.Places.{Answer, plays, says_done, says_empty, shows_no_cue, cued_item, HasItem, At, Near}
+use Rattle.vdcp_world.proofs.LateLine.Places.{Answer, plays, says_done, says_empty, shows_no_cue, HasItem, At}
 use Rattle.vdcp_world.proofs.LateLine.Thinning.{Thins, none_thins, any_thins, any_push}
+use Rattle.vdcp_world.proofs.PhaseTable.{cued_item, Near}
 
 -- ---- what is said and sent
 
@@ -119,33 +121,21 @@ full_thins (x ∷ ups) others (inl t) h = full_thins ups others t h.1
 full_thins (x ∷ ups) others (inr (rest, is, t)) h =
     subst FullAfterDone (sym is) (λ e. none_thins says_empty ups rest t (h.0 e), full_thins ups rest t h.1)
 
-or_first : (b c : Bool) → b ≡ true → (b || c) ≡ true
-or_first b c e = grind arith
-
-or_second : (b c : Bool) → c ≡ true → (b || c) ≡ true
-or_second b c e = grind arith
-
 pub full_pushed : (ups : List Answer) (x : Answer) → (list_any says_done ups ≡ true → says_empty x ≡ false)
     → FullAfterDone ups
     → FullAfterDone (ups ++ x ∷ [])
 full_pushed [] x f h = (λ _. refl, tt)
 full_pushed (y ∷ ups) x f h = (
-  λ e. none_pushed says_empty ups x (h.0 e) (f (or_first (says_done y) (list_any says_done ups) e)),
-  full_pushed ups x (λ e. f (or_second (says_done y) (list_any says_done ups) e)) h.1,
+  λ e. none_pushed says_empty ups x (h.0 e) (f (or_left (says_done y) (list_any says_done ups) e)),
+  full_pushed ups x (λ e. f (or_right (says_done y) (list_any says_done ups) e)) h.1,
 )
-
-false_first : (a b : Bool) → (a || b) ≡ false → a ≡ false
-false_first a b e = grind arith
-
-false_second : (a b : Bool) → (a || b) ≡ false → b ≡ false
-false_second a b e = grind arith
 
 -- none shows a cue to be done
 pub full_none : (ups : List Answer) → list_any says_done ups ≡ false → FullAfterDone ups
 full_none [] e = tt
 full_none (x ∷ ups) e = (
-  λ t. clash (says_done x) t (false_first (says_done x) (list_any says_done ups) e),
-  full_none ups (false_second (says_done x) (list_any says_done ups) e),
+  λ t. clash (says_done x) t (or_parts (says_done x) (list_any says_done ups) e).0,
+  full_none ups (or_parts (says_done x) (list_any says_done ups) e).1,
 )
 
 -- ---- commands that are left out, one more, one twice
@@ -156,12 +146,9 @@ last_thins s (d ∷ downs) left (inl t) h = last_thins s downs left t h.2
 last_thins s (d ∷ downs) left (inr (rest, is, t)) h =
     subst (LastOf s) (sym is) (h.0, λ e. none_thins cues downs rest t (h.1 e), last_thins s downs rest t h.2)
 
-neither : (a b : Bool) → a ≡ false → b ≡ false → (a || b) ≡ false
-neither a b e f = grind arith
-
 pub none_sent : (test : Phase → Bool) (downs : List Phase) (q : Phase) → list_any test downs ≡ false → test q ≡ false
     → list_any test (downs ++ q ∷ []) ≡ false
-none_sent test downs q e f = any_push test downs q ∙ neither (list_any test downs) (test q) e f
+none_sent test downs q e f = any_push test downs q ∙ or_from (list_any test downs) (test q) e f
 
 pub last_sent : (s : ℕ) (downs : List Phase) (q : Phase) → cues q ≡ false → cues_other s q ≡ false → LastOf s downs
     → LastOf s (downs ++ q ∷ [])
@@ -172,7 +159,7 @@ plays_not_cues : (d : Phase) → plays d ≡ true → cues d ≡ false
 plays_not_cues d e = grind arith
 
 pub last_copied : (s : ℕ) (d : Phase) (downs : List Phase) → LastOf s (d ∷ downs) → LastOf s (d ∷ d ∷ downs)
-last_copied s d downs h = (h.0, λ e. neither (cues d) (list_any cues downs) (plays_not_cues d e) (h.1 e), h)
+last_copied s d downs h = (h.0, λ e. or_from (cues d) (list_any cues downs) (plays_not_cues d e) (h.1 e), h)
 
 -- ---- the port by itself
 
@@ -236,9 +223,6 @@ secure_ages list settled s a t b aired downs g h = record { near = h.near; calm 
 pub spot_ages : (list : List Item) (settled : ℕ) (s : Bool) (a : Cued) (t : Bool) (b : Cued) (aired : List Item)
     (ups : List Answer) (downs : List Phase)
     (q : Phase) → Ages s a t b → Spot list settled s a aired ups downs q → Spot list settled t b aired ups downs q
-spot_ages list settled s a t b aired ups downs phase.Open g h = (h.0, g.still_empty h.1)
-spot_ages list settled s a t b aired ups downs phase.Select g h = (h.0, g.still_empty h.1)
-spot_ages list settled s a t b aired ups downs phase.Seen g h = (h.0, g.still_empty h.1)
 spot_ages list settled s a t b aired ups downs (phase.Exists k) g h = ((h.0.0, g.still_empty h.0.1), h.1)
 spot_ages list settled s a t b aired ups downs (phase.Cue k) g h = trying_ages list settled s a t b aired ups k g h
 spot_ages list settled s a t b aired ups downs (phase.Wait k) g h = trying_ages list settled s a t b aired ups k g h
@@ -251,6 +235,7 @@ spot_ages list settled s a t b aired ups downs phase.Drain g h = h
 spot_ages list settled s a t b aired ups downs phase.Close g h = h
 spot_ages list settled s a t b aired ups downs phase.Halt g h = secure_ages list settled s a t b aired downs g h
 spot_ages list settled s a t b aired ups downs phase.HaltClose g h = secure_ages list settled s a t b aired downs g h
+spot_ages list settled s a t b aired ups downs _ g h = (h.0, g.still_empty h.1)
 
 -- ---- something is left out
 
@@ -314,10 +299,6 @@ pub spot_thins : (list : List Item) (settled : ℕ) (s : Bool) (a : Cued) (aired
     (downs left : List Phase) (q : Phase)
     → Thins ups others → Thins downs left → Spot list settled s a aired ups downs q
     → Spot list settled s a aired others left q
-spot_thins list settled s a aired ups others downs left phase.Open u d h = h
-spot_thins list settled s a aired ups others downs left phase.Select u d h = h
-spot_thins list settled s a aired ups others downs left phase.Seen u d h = h
-spot_thins list settled s a aired ups others downs left (phase.Exists k) u d h = h
 spot_thins list settled s a aired ups others downs left (phase.Cue k) u d h =
     trying_thins list settled s a aired ups others k u h
 spot_thins list settled s a aired ups others downs left (phase.Wait k) u d h =
@@ -326,13 +307,11 @@ spot_thins list settled s a aired ups others downs left (phase.Play k) u d h =
     sounding_thins list settled s a aired ups others downs left k u d h
 spot_thins list settled s a aired ups others downs left (phase.Probe k) u d h =
     sounding_thins list settled s a aired ups others downs left k u d h
-spot_thins list settled s a aired ups others downs left (phase.Check k) u d h = h
-spot_thins list settled s a aired ups others downs left phase.Drain u d h = h
-spot_thins list settled s a aired ups others downs left phase.Close u d h = h
 spot_thins list settled s a aired ups others downs left phase.Halt u d h =
     secure_thins list settled a aired downs left d h
 spot_thins list settled s a aired ups others downs left phase.HaltClose u d h =
     secure_thins list settled a aired downs left d h
+spot_thins list settled s a aired ups others downs left _ u d h = h
 
 -- ---- the oldest command is copied in its place
 
@@ -383,17 +362,9 @@ secure_copied list settled a aired d downs h = record { near = h.near; calm = by
 pub spot_copied : (list : List Item) (settled : ℕ) (s : Bool) (a : Cued) (aired : List Item) (ups : List Answer)
     (d : Phase) (downs : List Phase) (q : Phase)
     → Spot list settled s a aired ups (d ∷ downs) q → Spot list settled s a aired ups (d ∷ d ∷ downs) q
-spot_copied list settled s a aired ups d downs phase.Open h = h
-spot_copied list settled s a aired ups d downs phase.Select h = h
-spot_copied list settled s a aired ups d downs phase.Seen h = h
-spot_copied list settled s a aired ups d downs (phase.Exists k) h = h
-spot_copied list settled s a aired ups d downs (phase.Cue k) h = h
-spot_copied list settled s a aired ups d downs (phase.Wait k) h = h
 spot_copied list settled s a aired ups d downs (phase.Play k) h = sounding_copied list settled s a aired ups d downs k h
 spot_copied list settled s a aired ups d downs (phase.Probe k) h =
     sounding_copied list settled s a aired ups d downs k h
-spot_copied list settled s a aired ups d downs (phase.Check k) h = h
-spot_copied list settled s a aired ups d downs phase.Drain h = h
-spot_copied list settled s a aired ups d downs phase.Close h = h
 spot_copied list settled s a aired ups d downs phase.Halt h = secure_copied list settled a aired d downs h
 spot_copied list settled s a aired ups d downs phase.HaltClose h = secure_copied list settled a aired d downs h
+spot_copied list settled s a aired ups d downs _ h = h

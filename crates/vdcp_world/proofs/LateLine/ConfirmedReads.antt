@@ -1,5 +1,6 @@
 -- The port reads the oldest command on the way down, in confirm mode.
-use Rattle.std.proofs.Common.{◌≡◌, ℕ, ◌+◌, ◌*◌, ◌<◌, ◌≤◌, ◌⊎◌, inl, inr, Bool, true, false, not, nat_eq, ◌||◌, ◌&&◌, List, [], ◌∷◌, ◌++◌, length, refl, arith, sym, ap, subst, ◌∙◌}
+use Rattle.std.proofs.Common.{◌≡◌, ℕ, ◌+◌, ◌*◌, ◌<◌, ◌≤◌, ◌⊎◌, inl, inr, Bool, true, false, not, nat_eq, ◌||◌, List, [], ◌∷◌, ◌++◌, length, refl, arith, sym, ap, subst, ◌∙◌}
+use Rattle.std.proofs.lemmas.Bool.{and_left, and_right, or_parts}
 use Rattle.std.specs.List.{list_any}
 use Rattle.std.specs.Prelude.{slice_get}
 use Rattle.vdcp_value.specs.declared.part.Item.{Item}
@@ -15,9 +16,11 @@ use Rattle.vdcp_world.proofs.LateLine.ConfirmedPlaces.{cues, tries, Owns, Trying
 use Rattle.vdcp_world.proofs.LateLine.Delivering.{at_same, aired_same, item_same, no_more, pushed, none_pushed, clash, never_empty, ack_fits, airs_none, cueing_cue}
 use Rattle.vdcp_world.proofs.LateLine.DeliveringPlay.{airs_item, airs_nothing}
 use Rattle.vdcp_world.proofs.LateLine.Executed.{Does, Executed, left_cued, put_on_air}
-use Rattle.vdcp_world.proofs.LateLine.Places.{Answer, pipe_of, plays, waits, says_done, says_empty, shows_no_cue, cued_item, HasItem, Near}
-use Rattle.vdcp_world.proofs.LateLine.Safety.{near_of, near_same}
+use Rattle.vdcp_world.proofs.LateLine.Places.{Answer, pipe_of, plays, waits, says_done, says_empty, shows_no_cue, HasItem}
+use Rattle.vdcp_world.proofs.LateLine.Safety.{near_same}
 use Rattle.vdcp_world.proofs.LateLine.Stretches.{Lies, climbs_after, none_within}
+use Rattle.vdcp_world.proofs.PhaseTable.{cued_item, Near}
+use Rattle.vdcp_world.proofs.Exchanges.{near_of}
 
 -- ---- which phases are in the stretches
 
@@ -47,10 +50,7 @@ cue_free n k low high l h d lies = refl
 pub empty_stays : (list : List Item) (d : Phase) (s : Bool) (a : Cued) (r : Reply) (t : Bool) (b : Cued)
     (airs : List Item)
     → cues d ≡ false → a ≡ empty → Does list d s a r t b airs → (b ≡ empty) × (airs ≡ [])
-empty_stays list phase.Open s a r t b airs c e h = (h.1 ∙ e, h.2)
 empty_stays list phase.Select s a r t b airs c e h = (h.0 ∙ e, h.1)
-empty_stays list phase.Seen s a r t b airs c e h = (h.1 ∙ e, h.2)
-empty_stays list (phase.Exists k) s a r t b airs c e h = (h.1 ∙ e, h.2)
 empty_stays list (phase.Cue k) s a r t b airs c e h = cc
 empty_stays list (phase.Wait k) s a r t b airs c e h = (h.0.1 ∙ e, h.0.2)
 empty_stays list (phase.Play k) s a r t b airs c e h = by h.1
@@ -60,8 +60,6 @@ empty_stays list (phase.Play k) s a r t b airs c e h = by h.1
     by (inl (off, same, none, no_ack)) = (same ∙ e, none)
     by (inr (on, left, aired)) = let n = airs_nothing a e in (left ∙ n.1 ∙ e, aired ∙ n.0)
 empty_stays list (phase.Probe k) s a r t b airs c e h = (h.0.1 ∙ e, h.0.2)
-empty_stays list (phase.Check k) s a r t b airs c e h = (h.1 ∙ e, h.2)
-empty_stays list phase.Drain s a r t b airs c e h = (h.1 ∙ e, h.2)
 empty_stays list phase.Close s a r t b airs c e h = (by h.2, h.1)
   where
     by : (b ≡ empty) ⊎ (b ≡ a) → b ≡ empty
@@ -77,6 +75,7 @@ empty_stays list phase.HaltClose s a r t b airs c e h = (by h.2, h.1)
     by : (b ≡ empty) ⊎ (b ≡ a) → b ≡ empty
     by (inl none) = none
     by (inr same) = same ∙ e
+empty_stays list _ s a r t b airs c e h = (h.1 ∙ e, h.2)
 
 pub idle_keeps : (list : List Item) (settled : ℕ) (s : Bool) (a : Cued) (aired : List Item) (d : Phase) (k : ℕ)
     (r : Reply) (t : Bool) (b : Cued) (airs : List Item)
@@ -183,32 +182,20 @@ none_tries list k ups downs c =
     one (phase.Wait j) l = absurd (omega arith)
     one d l = refl
 
-rest_of : (x y : Bool) → (x || y) ≡ false → y ≡ false
-rest_of x y e = grind arith
-
-first_of : (x y : Bool) → (x || y) ≡ false → x ≡ false
-first_of x y e = grind arith
-
 sounded_stays : (list : List Item) (a : Cued) (aired : List Item) (d : Phase) (downs : List Phase) (k : ℕ) (b : Cued)
     (airs : List Item)
     → b ≡ empty → airs ≡ [] → Sounded list a aired (d ∷ downs) k → Sounded list b (aired ++ airs) downs k
 sounded_stays list a aired d downs k b airs none nothing h = record {
   aired_is = aired_same aired airs nothing ∙ h.aired_is;
   is_empty = none;
-  none_tries = rest_of (tries d) (list_any tries downs) h.none_tries;
+  none_tries = (or_parts (tries d) (list_any tries downs) h.none_tries).1;
 }
 
-tries_not_cues : (d : Phase) → tries d ≡ false → cues d ≡ false
+pub tries_not_cues : (d : Phase) → tries d ≡ false → cues d ≡ false
 tries_not_cues d e = grind arith
 
 tries_not_waits : (d : Phase) → tries d ≡ false → waits d ≡ false
 tries_not_waits d e = grind arith
-
-and_first : (x y : Bool) → x ≡ false → (x && y) ≡ false
-and_first x y e = grind arith
-
-and_second : (x y : Bool) → y ≡ false → (x && y) ≡ false
-and_second x y e = grind arith
 
 -- what was aired before stays so, whatever comes
 sounding_after : (list : List Item) (settled : ℕ) (s : Bool) (a : Cued) (aired : List Item) (ups : List Answer)
@@ -218,13 +205,13 @@ sounding_after : (list : List Item) (settled : ℕ) (s : Bool) (a : Cued) (aired
     → Executed list d s a r t b airs
     → Sounding list settled t b (aired ++ airs) (ups ++ record { to = d; reply = r } ∷ []) downs k
 sounding_after list settled s a aired ups d downs k r t b airs h q x =
-    let silent = first_of (tries d) (list_any tries downs) q.none_tries in
+    let silent = (or_parts (tries d) (list_any tries downs) q.none_tries).0 in
     let after = empty_stays list d s a r t b airs (tries_not_cues d silent) q.is_empty x.does in
     record {
       settled_is = h.settled_is;
       within = h.within;
       never_none = none_pushed shows_no_cue ups (record { to = d; reply = r }) h.never_none
-          (and_first (waits d) (is_empty r) (tries_not_waits d silent));
+          (and_left (waits d) (is_empty r) (tries_not_waits d silent));
       stands = inr (sounded_stays list a aired d downs k b airs after.0 after.1 q);
     }
 
@@ -239,7 +226,7 @@ sounding_before list settled s a aired ups d downs k r t b airs h q none full ow
   settled_is = h.settled_is;
   within = h.within;
   never_none =
-      none_pushed shows_no_cue ups (record { to = d; reply = r }) h.never_none (and_second (waits d) (is_empty r) full);
+      none_pushed shows_no_cue ups (record { to = d; reply = r }) h.never_none (and_right (waits d) (is_empty r) full);
   stands = inl (record {
     aired_is = aired_same aired airs none ∙ q.aired_is;
     owns = owns;
@@ -376,14 +363,8 @@ last_does : (list : List Item) (settled : ℕ) (s : Bool) (a : Cued) (aired : Li
     (r : Reply) (t : Bool) (b : Cued)
     (airs : List Item) → Near list aired settled → Last list settled a aired (d ∷ downs) → Does list d s a r t b airs
     → Secure list settled b (aired ++ airs) downs
-last_does list settled s a aired phase.Open downs r t b airs near q x =
-    last_same list settled a aired phase.Open downs b airs near q x.2 (owns_same list a b settled x.1 q.owns)
 last_does list settled s a aired phase.Select downs r t b airs near q x =
     last_same list settled a aired phase.Select downs b airs near q x.1 (owns_same list a b settled x.0 q.owns)
-last_does list settled s a aired phase.Seen downs r t b airs near q x =
-    last_same list settled a aired phase.Seen downs b airs near q x.2 (owns_same list a b settled x.1 q.owns)
-last_does list settled s a aired (phase.Exists k) downs r t b airs near q x =
-    last_same list settled a aired (phase.Exists k) downs b airs near q x.2 (owns_same list a b settled x.1 q.owns)
 last_does list settled s a aired (phase.Cue k) downs r t b airs near q x =
     last_same list settled a aired (phase.Cue k) downs b airs near q x.1
     (owns_cue list a b settled r (subst (λ (j : ℕ). ((b ≡ a) × (is_ack r ≡ false)) ⊎ (cued_item b ≡ slice_get list j))
@@ -400,16 +381,14 @@ last_does list settled s a aired (phase.Play k) downs r t b airs near q x = by x
     by (inr (on, left, plays)) = last_play list settled a aired k downs b airs a refl near q left plays
 last_does list settled s a aired (phase.Probe k) downs r t b airs near q x =
     last_same list settled a aired (phase.Probe k) downs b airs near q x.0.2 (owns_same list a b settled x.0.1 q.owns)
-last_does list settled s a aired (phase.Check k) downs r t b airs near q x =
-    last_same list settled a aired (phase.Check k) downs b airs near q x.2 (owns_same list a b settled x.1 q.owns)
-last_does list settled s a aired phase.Drain downs r t b airs near q x =
-    last_same list settled a aired phase.Drain downs b airs near q x.2 (owns_same list a b settled x.1 q.owns)
 last_does list settled s a aired phase.Close downs r t b airs near q x =
     last_same list settled a aired phase.Close downs b airs near q x.1 (owns_or_none list a b settled x.2 q.owns)
 last_does list settled s a aired phase.Halt downs r t b airs near q x =
     last_same list settled a aired phase.Halt downs b airs near q x.1 (owns_or_none list a b settled x.2 q.owns)
 last_does list settled s a aired phase.HaltClose downs r t b airs near q x =
     last_same list settled a aired phase.HaltClose downs b airs near q x.1 (owns_or_none list a b settled x.2 q.owns)
+last_does list settled s a aired o downs r t b airs near q x =
+    last_same list settled a aired o downs b airs near q x.2 (owns_same list a b settled x.1 q.owns)
 
 pub secure_keeps : (list : List Item) (settled : ℕ) (s : Bool) (a : Cued) (aired : List Item) (d : Phase)
     (downs : List Phase) (r : Reply) (t : Bool) (b : Cued)
@@ -422,15 +401,18 @@ secure_keeps list settled s a aired d downs r t b airs h x = by h.calm
         → Secure list settled b (aired ++ airs) downs
     by (inl none) = record {
       near = near_same list aired airs settled (airs_none list d s a r t b airs
-          (first_of (plays d) (list_any plays downs) none) x.does) h.near;
-      calm = inl (rest_of (plays d) (list_any plays downs) none);
+          (or_parts (plays d) (list_any plays downs) none).0 x.does) h.near;
+      calm = inl (or_parts (plays d) (list_any plays downs) none).1;
     }
     by (inr (inl q)) =
-        let after = empty_stays list d s a r t b airs (first_of (cues d) (list_any cues downs) q.none_cues) q.is_empty
+        let after = empty_stays list d s a r t b airs (or_parts (cues d) (list_any cues downs) q.none_cues).0 q.is_empty
         x.does in
         record {
           near = near_same list aired airs settled after.1 h.near;
           calm =
-              inr (inl (record { is_empty = after.0; none_cues = rest_of (cues d) (list_any cues downs) q.none_cues }));
+              inr (inl (record {
+                is_empty = after.0;
+                none_cues = (or_parts (cues d) (list_any cues downs) q.none_cues).1;
+              }));
         }
     by (inr (inr q)) = last_does list settled s a aired d downs r t b airs h.near q x.does

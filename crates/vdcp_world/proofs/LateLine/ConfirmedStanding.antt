@@ -1,7 +1,8 @@
 -- What holds of a late channel in confirm mode, said of the phases that sent what is on the way; and that it stays so
 -- while the
 -- controller hears nothing.
-use Rattle.std.proofs.Common.{◌≡◌, ℕ, ◌+◌, ◌*◌, ◌≤◌, ◌⊎◌, inl, inr, Bool, true, false, not, ◌||◌, List, [], ◌∷◌, ◌++◌, length, take, refl, arith, sym, ap, subst, ◌∙◌}
+use Rattle.std.proofs.Common.{◌≡◌, ℕ, ◌+◌, ◌*◌, ◌≤◌, ◌⊎◌, inl, inr, Bool, true, false, not, List, [], ◌∷◌, ◌++◌, length, take, refl, arith, sym, ap, subst, ◌∙◌}
+use Rattle.std.proofs.lemmas.Bool.{or_parts}
 use Rattle.std.specs.List.{list_any}
 use Rattle.vdcp_value.specs.declared.clip_id.ClipId.{ClipId}
 use Rattle.vdcp_value.specs.declared.part.Item.{Item}
@@ -13,25 +14,25 @@ use Rattle.vdcp_auto.specs.declared.outcome.Outcome.{Outcome}
 use Rattle.vdcp_auto.specs.declared.phase.Mode.TheVariants.{Confirming}
 use Rattle.vdcp_auto.specs.declared.phase.Phase.{Phase}
 use Rattle.vdcp_auto.specs.declared.phase.Phase.TheVariants as phase
-use Rattle.vdcp_auto.specs.State.{Stage}
-use Rattle.vdcp_auto.specs.State.{Ready, Awaiting, Ended}
+use Rattle.vdcp_auto.specs.State.{Stage, Ready, Awaiting, Ended}
 use Rattle.vdcp_world.specs.LateLine.Pipe.{stretch, Climbs, stretches, IsPipe}
 use Rattle.vdcp_world.proofs.LateLine.Closing.{Ages, flow_copied, flow_thins, pushed}
-use Rattle.vdcp_world.proofs.LateLine.ConfirmedPlaces.{cues, tries, cues_other, LastOf, Owns, ToSound, Sounded, Sounding, Spent, Last, Secure, Spot}
-use Rattle.vdcp_world.proofs.LateLine.ConfirmedPlaces.{none_sent, last_sent, spot_ages, secure_ages, spot_thins, secure_thins, spot_copied, secure_copied}
-use Rattle.vdcp_world.proofs.LateLine.ConfirmedReads.{cue_free, idle_keeps, trying_keeps, sounding_keeps, secure_keeps}
+use Rattle.vdcp_world.proofs.LateLine.ConfirmedPlaces.{cues, tries, cues_other, LastOf, Owns, ToSound, Sounded, Sounding, Spent, Last, Secure, Spot, none_sent, last_sent, spot_ages, secure_ages, spot_thins, secure_thins, spot_copied, secure_copied}
+use Rattle.vdcp_world.proofs.LateLine.ConfirmedReads.{cue_free, idle_keeps, trying_keeps, sounding_keeps, secure_keeps, tries_not_cues}
 use Rattle.vdcp_world.proofs.LateLine.Delivering.{none_pushed}
 use Rattle.vdcp_world.proofs.LateLine.Endings.{EndedAt, Misses, ended_ages, ended_copied, ended_reads, ended_thins, settled_at}
 use Rattle.vdcp_world.proofs.LateLine.Executed.{Executed}
 use Rattle.vdcp_world.proofs.LateLine.Pipes.{climbs_within}
 use Rattle.vdcp_world.proofs.LateLine.Places.{Answer, pipe_of, plays, misfits, At}
-use Rattle.vdcp_world.proofs.LateLine.Safety.{near_at, near_of, none_plays, quiet}
+use Rattle.vdcp_world.proofs.LateLine.Safety.{near_at, none_plays, quiet}
 use Rattle.vdcp_world.proofs.LateLine.Standing.{Reads, misleads, quiet_keeps}
 use Rattle.vdcp_world.proofs.LateLine.Stretches.{Lies, lies_at, downs_climb, none_within, pipe_delivered}
 use Rattle.vdcp_world.proofs.LateLine.Thinning.{Thins, none_thins}
+use Rattle.vdcp_world.proofs.Exchanges.{near_of}
 
 -- after an end
-abbrev pub SpotEnded : List Item → List (ClipId × Timecode) → ℕ → Bool → Cued → List Item → List Phase → Outcome → Type 0
+abbrev pub SpotEnded : List Item → List (ClipId × Timecode) → ℕ → Bool → Cued → List Item → List Phase → Outcome
+    → Type 0
 SpotEnded list clips settled s a aired downs o =
     EndedAt (Secure list settled a aired downs) list settled s a aired downs (settled_at Confirming (length list) o)
     × Misses list clips o
@@ -79,18 +80,9 @@ none_weaker : (test other : Phase → Bool) (downs : List Phase) → ((d : Phase
     → list_any test downs ≡ false → list_any other downs ≡ false
 none_weaker test other [] f e = refl
 none_weaker test other (d ∷ downs) f e =
-    let here = f d (first (test d) (list_any test downs) e) in
-    let rest = none_weaker test other downs f (second (test d) (list_any test downs) e) in
+    let here = f d (or_parts (test d) (list_any test downs) e).0 in
+    let rest = none_weaker test other downs f (or_parts (test d) (list_any test downs) e).1 in
     rw here rest
-  where
-    first : (x y : Bool) → (x || y) ≡ false → x ≡ false
-    first x y e = grind arith
-
-    second : (x y : Bool) → (x || y) ≡ false → y ≡ false
-    second x y e = grind arith
-
-tries_not_cues : (d : Phase) → tries d ≡ false → cues d ≡ false
-tries_not_cues d e = grind arith
 
 secure_calm : (list : List Item) (settled : ℕ) (a : Cued) (aired : List Item) (downs : List Phase) (k : ℕ)
     → At list aired settled k → list_any plays downs ≡ false → Secure list settled a aired downs
@@ -126,14 +118,9 @@ pub secure_in : (list : List Item) (settled : ℕ) (s : Bool) (a : Cued) (aired 
     (downs : List Phase) (q : Phase)
     → Spot list settled s a aired ups downs q → IsPipe Confirming (length list) q (pipe_of ups downs)
     → Secure list settled a aired downs
-secure_in list settled s a aired ups downs phase.Open h c =
-    secure_calm list settled a aired downs 0 h.0 (none_plays Confirming (length list) ups downs phase.Open refl c)
-secure_in list settled s a aired ups downs phase.Select h c =
-    secure_calm list settled a aired downs 0 h.0 (none_plays Confirming (length list) ups downs phase.Select refl c)
-secure_in list settled s a aired ups downs phase.Seen h c =
-    secure_calm list settled a aired downs 0 h.0 (none_plays Confirming (length list) ups downs phase.Seen refl c)
 secure_in list settled s a aired ups downs (phase.Exists k) h c =
-    secure_calm list settled a aired downs k h.0.0 (none_plays Confirming (length list) ups downs (phase.Exists k) refl c)
+    secure_calm list settled a aired downs k h.0.0 (none_plays Confirming (length list) ups downs (phase.Exists k) refl
+    c)
 secure_in list settled s a aired ups downs (phase.Cue k) h c =
     secure_calm list settled a aired downs k h.at (none_plays Confirming (length list) ups downs (phase.Cue k) refl c)
 secure_in list settled s a aired ups downs (phase.Wait k) h c =
@@ -156,11 +143,15 @@ secure_in list settled s a aired ups downs (phase.Check k) h c = record {
   }));
 }
 secure_in list settled s a aired ups downs phase.Drain h c =
-    secure_calm list settled a aired downs (length list) h (none_plays Confirming (length list) ups downs phase.Drain refl c)
+    secure_calm list settled a aired downs (length list) h (none_plays Confirming (length list) ups downs phase.Drain
+    refl c)
 secure_in list settled s a aired ups downs phase.Close h c =
-    secure_calm list settled a aired downs (length list) h (none_plays Confirming (length list) ups downs phase.Close refl c)
+    secure_calm list settled a aired downs (length list) h (none_plays Confirming (length list) ups downs phase.Close
+    refl c)
 secure_in list settled s a aired ups downs phase.Halt h c = h
 secure_in list settled s a aired ups downs phase.HaltClose h c = h
+secure_in list settled s a aired ups downs q h c =
+    secure_calm list settled a aired downs 0 h.0 (none_plays Confirming (length list) ups downs q refl c)
 
 -- ---- something is left out
 
@@ -257,12 +248,6 @@ own_sends : (list : List Item) (settled : ℕ) (s : Bool) (a : Cued) (aired : Li
     → Spot list settled s a aired ups downs q × IsPipe Confirming (length list) q (pipe_of ups downs)
     → Spot list settled s a aired ups (downs ++ q ∷ []) q × IsPipe Confirming (length list) q
     (pipe_of ups (downs ++ q ∷ []))
-own_sends list settled s a aired ups downs phase.Open h =
-    (h.0, pushed Confirming (length list) 1 ups downs phase.Open (omega arith) h.1)
-own_sends list settled s a aired ups downs phase.Select h =
-    (h.0, pushed Confirming (length list) 1 ups downs phase.Select (omega arith) h.1)
-own_sends list settled s a aired ups downs phase.Seen h =
-    (h.0, pushed Confirming (length list) 1 ups downs phase.Seen (omega arith) h.1)
 own_sends list settled s a aired ups downs (phase.Exists k) h =
     (h.0, pushed Confirming (length list) (5 * k + 1) ups downs (phase.Exists k) (omega arith) h.1)
 own_sends list settled s a aired ups downs (phase.Cue k) h =
@@ -289,6 +274,7 @@ own_sends list settled s a aired ups downs phase.Halt h =
     (secure_sends list settled a aired downs phase.Halt refl refl refl h.0, tt)
 own_sends list settled s a aired ups downs phase.HaltClose h =
     (secure_sends list settled a aired downs phase.HaltClose refl refl refl h.0, tt)
+own_sends list settled s a aired ups downs q h = (h.0, pushed Confirming (length list) 1 ups downs q (omega arith) h.1)
 
 pub holds_sends : (list : List Item) (clips : List (ClipId × Timecode)) (settled : ℕ) (s : Bool) (a : Cued)
     (aired : List Item) (ups : List Answer)
@@ -312,15 +298,6 @@ spot_keeps : (list : List Item) (settled : ℕ) (s : Bool) (a : Cued) (aired : L
     → Spot list settled s a aired ups (d ∷ downs) q → IsPipe Confirming (length list) q (pipe_of ups (d ∷ downs))
     → Executed list d s a r t b airs
     → Spot list settled t b (aired ++ airs) (ups ++ record { to = d; reply = r } ∷ []) downs q
-spot_keeps list settled s a aired ups d downs phase.Open r t b airs h c x =
-    let l = lies_at Confirming (length list) 1 1 ups d downs c in
-    idle_keeps list settled s a aired d 0 r t b airs (cue_free (length list) 0 1 1 (omega arith) (omega arith) d l) h x
-spot_keeps list settled s a aired ups d downs phase.Select r t b airs h c x =
-    let l = lies_at Confirming (length list) 1 1 ups d downs c in
-    idle_keeps list settled s a aired d 0 r t b airs (cue_free (length list) 0 1 1 (omega arith) (omega arith) d l) h x
-spot_keeps list settled s a aired ups d downs phase.Seen r t b airs h c x =
-    let l = lies_at Confirming (length list) 1 1 ups d downs c in
-    idle_keeps list settled s a aired d 0 r t b airs (cue_free (length list) 0 1 1 (omega arith) (omega arith) d l) h x
 spot_keeps list settled s a aired ups d downs (phase.Exists k) r t b airs h c x =
     let l = lies_at Confirming (length list) (5 * k + 1) (5 * k + 2) ups d downs c in (
       idle_keeps list settled s a aired d k r t b airs (cue_free (length list) k (5 * k + 1) (5 * k + 2) (omega arith)
@@ -359,6 +336,9 @@ spot_keeps list settled s a aired ups d downs phase.Halt r t b airs h c x =
     secure_keeps list settled s a aired d downs r t b airs h x
 spot_keeps list settled s a aired ups d downs phase.HaltClose r t b airs h c x =
     secure_keeps list settled s a aired d downs r t b airs h x
+spot_keeps list settled s a aired ups d downs _ r t b airs h c x =
+    let l = lies_at Confirming (length list) 1 1 ups d downs c in idle_keeps list settled s a aired d 0 r t b airs
+    (cue_free (length list) 0 1 1 (omega arith) (omega arith) d l) h x
 
 pub holds_reads : (list : List Item) (clips : List (ClipId × Timecode)) (settled : ℕ) (s : Bool) (a : Cued)
     (aired : List Item) (ups : List Answer) (d : Phase)
@@ -400,7 +380,8 @@ holds_copied list clips settled s a aired ups d downs stage h =
   where
     by : (stage : Stage) → SpotAt list clips settled s a aired ups (d ∷ downs) stage
         → SpotAt list clips settled s a aired ups (d ∷ d ∷ downs) stage
-    by (Ready q) h = (spot_copied list settled s a aired ups d downs q h.0, flow_copied Confirming (length list) ups d downs q h.1)
+    by (Ready q) h =
+        (spot_copied list settled s a aired ups d downs q h.0, flow_copied Confirming (length list) ups d downs q h.1)
     by (Awaiting q) h =
         (spot_copied list settled s a aired ups d downs q h.0, flow_copied Confirming (length list) ups d downs q h.1)
     by (Ended o) h = (

@@ -1,6 +1,6 @@
 -- The port reads the oldest command on the way down, and its answer joins the queue up: each phase keeps its place.
-use Rattle.std.proofs.Common.{◌≡◌, ℕ, ◌+◌, ◌*◌, ◌<◌, ◌≤◌, ◌⊎◌, inl, inr, Bool, true, false, not, ◌||◌, ◌&&◌, List, [], ◌∷◌, ◌++◌, length, get_or, Some, None, refl, arith, sym, ap, subst, ◌∙◌, append-nil}
-use Rattle.std.proofs.lemmas.Option.{slice_get_cases}
+use Rattle.std.proofs.Common.{◌≡◌, ℕ, ◌+◌, ◌*◌, ◌<◌, ◌⊎◌, inl, inr, Bool, true, false, ◌||◌, List, [], ◌∷◌, ◌++◌, length, None, refl, arith, sym, ap, subst, ◌∙◌, append-nil}
+use Rattle.std.proofs.lemmas.Bool.{not-false, or_cases, or_from}
 use Rattle.std.specs.List.{list_any}
 use Rattle.std.specs.Prelude.{slice_get}
 use Rattle.vdcp_value.specs.declared.part.Item.{Item}
@@ -13,10 +13,11 @@ use Rattle.vdcp_auto.specs.declared.phase.Phase.TheVariants as phase
 use Rattle.vdcp_auto.specs.declared.phase.Mode.TheVariants.{Plain}
 use Rattle.vdcp_world.specs.LateLine.Pipe.{Climbs, stretches}
 use Rattle.vdcp_world.proofs.LateLine.Executed.{Does, Executed, Shows}
-use Rattle.vdcp_world.proofs.LateLine.Places.{Answer, pipe_of, plays, misfits, fits_phase, says_ack, says_done, shows_no_cue}
-use Rattle.vdcp_world.proofs.LateLine.Places.{cued_item, HasItem, HasDone, HasNone, At, Cueing, Waiting}
+use Rattle.vdcp_world.proofs.LateLine.Places.{Answer, pipe_of, plays, misfits, fits_phase, says_ack, says_done, shows_no_cue, HasItem, HasDone, HasNone, At, Cueing, Waiting}
 use Rattle.vdcp_world.proofs.LateLine.Stretches.{Lies, cue_or_before, wait_or_before, climbs_before, none_answers}
 use Rattle.vdcp_world.proofs.LateLine.Thinning.{any_push}
+use Rattle.vdcp_world.proofs.TableKept.{no_item}
+use Rattle.vdcp_world.proofs.PhaseTable.{cued_item}
 
 -- ---- what stays
 
@@ -41,14 +42,6 @@ none_same s t a b st ba h = λ e. ba ∙ h (st e)
 pub no_more : (s t : Bool) → t ≡ s → t ≡ true → s ≡ true
 no_more s t e h = sym e ∙ h
 
-or_cases : (a b : Bool) → (a || b) ≡ true → (a ≡ true) ⊎ (b ≡ true)
-or_cases true b e = inl refl
-or_cases false b e = inr e
-
-or_neither : (a b : Bool) → a ≡ false → b ≡ false → (a || b) ≡ false
-or_neither true b e f = e
-or_neither false b e f = f
-
 -- an answer more passes a test, or one before it did
 pub pushed : (test : Answer → Bool) (ups : List Answer) (a : Answer) → list_any test (ups ++ a ∷ []) ≡ true
     → (list_any test ups ≡ true) ⊎ (test a ≡ true)
@@ -56,7 +49,7 @@ pushed test ups a e = or_cases (list_any test ups) (test a) (sym (any_push test 
 
 pub none_pushed : (test : Answer → Bool) (ups : List Answer) (a : Answer) → list_any test ups ≡ false → test a ≡ false
     → list_any test (ups ++ a ∷ []) ≡ false
-none_pushed test ups a e f = any_push test ups a ∙ or_neither (list_any test ups) (test a) e f
+none_pushed test ups a e f = any_push test ups a ∙ or_from (list_any test ups) (test a) e f
 
 impossible : true ≡ false → ⊥
 impossible e = cc
@@ -73,19 +66,15 @@ ack_fits r e = grind arith
 pub airs_none : (list : List Item) (d : Phase) (s : Bool) (a : Cued) (r : Reply) (t : Bool) (b : Cued)
     (airs : List Item)
     → plays d ≡ false → Does list d s a r t b airs → airs ≡ []
-airs_none list phase.Open s a r t b airs p h = h.2
 airs_none list phase.Select s a r t b airs p h = h.1
-airs_none list phase.Seen s a r t b airs p h = h.2
-airs_none list (phase.Exists k) s a r t b airs p h = h.2
 airs_none list (phase.Cue k) s a r t b airs p h = h.1
 airs_none list (phase.Wait k) s a r t b airs p h = h.0.2
 airs_none list (phase.Play k) s a r t b airs p h = cc
 airs_none list (phase.Probe k) s a r t b airs p h = h.0.2
-airs_none list (phase.Check k) s a r t b airs p h = h.2
-airs_none list phase.Drain s a r t b airs p h = h.2
 airs_none list phase.Close s a r t b airs p h = h.1
 airs_none list phase.Halt s a r t b airs p h = h.1
 airs_none list phase.HaltClose s a r t b airs p h = h.1
+airs_none list _ s a r t b airs p h = h.2
 
 -- ---- Cue
 
@@ -144,18 +133,6 @@ cueing_keeps list settled s a aired ups k d r t b airs h lies x = by (cue_or_bef
 
 -- ---- Wait
 
--- there is an event
-pub no_item : (list : List Item) (k : ℕ) → k < length list → slice_get list k ≡ None → ⊥
-no_item list k below none = at (slice_get_cases list k).1
-  where
-    different : (x : Item) → slice_get list k ≡ Some x → ⊥
-    different x is = cc
-
-    at : (((x : Item) × (k < length list) × (slice_get list k ≡ Some x) × (get_or list k x ≡ x)) ⊎
-        ((length list ≤ k) × (slice_get list k ≡ None))) → ⊥
-    at (inl (x, within, is, here)) = different x is
-    at (inr (past, is)) = absurd (omega arith)
-
 none_cued : (a : Cued) → is_empty_slot a ≡ true → cued_item a ≡ None
 none_cued empty e = refl
 none_cued (cueing item) e = cc
@@ -169,10 +146,6 @@ never_empty list s a k r below h shows = by (is_empty r) refl
     by : (b : Bool) → is_empty r ≡ b → is_empty r ≡ false
     by true e = absurd (no_item list k below (sym (h (shows.is_selected e)) ∙ none_cued a (shows.shows_empty e)))
     by false e = e
-
-and_false : (a b : Bool) → b ≡ false → (a && b) ≡ false
-and_false true b e = e
-and_false false b e = refl
 
 waiting_wait : (list : List Item) (settled : ℕ) (s : Bool) (a : Cued) (aired : List Item) (ups : List Answer) (k : ℕ)
     (r : Reply) (t : Bool) (b : Cued)
@@ -206,15 +179,11 @@ none_done list k ups downs below fit c =
     is_cue (phase.Cue j) l = let e : j ≡ k = omega arith in ap phase.Cue e
     is_cue d l = absurd (omega arith)
 
-    fitting : (b : Bool) → not b ≡ false → b ≡ true
-    fitting true e = refl
-    fitting false e = cc
-
     one : (x : Answer) → Lies Plain (length list) (5 * k + 3) (5 * k + 3) x.to → misfits x ≡ false → says_done x ≡ false
     one x l m =
         let is = is_cue x.to l in
         (ack_fits x.reply (subst (λ (q : Phase). fits_phase q x.reply ≡ true) is
-        (fitting (fits_phase x.to x.reply) m))).0
+        (not-false (fits_phase x.to x.reply) m))).0
 
 waiting_cue : (list : List Item) (settled : ℕ) (s : Bool) (a : Cued) (aired : List Item) (ups : List Answer) (k : ℕ)
     (r : Reply) (t : Bool) (b : Cued)

@@ -1,5 +1,6 @@
 -- The port reads the oldest command on the way down in Play, Probe and Check.
-use Rattle.std.proofs.Common.{◌≡◌, ℕ, ◌+◌, ◌*◌, ◌<◌, ◌≤◌, ◌⊎◌, inl, inr, Bool, true, false, ◌||◌, ◌&&◌, List, [], ◌∷◌, ◌++◌, length, take, get_or, Some, None, refl, arith, sym, ap, subst, ◌∙◌}
+use Rattle.std.proofs.Common.{◌≡◌, ℕ, ◌+◌, ◌*◌, ◌<◌, ◌≤◌, ◌⊎◌, inl, inr, Bool, true, false, ◌||◌, List, [], ◌∷◌, ◌++◌, length, take, get_or, Some, None, refl, arith, sym, ap, subst, ◌∙◌}
+use Rattle.std.proofs.lemmas.Bool.{and_left, and_right, or_parts}
 use Rattle.std.proofs.lemmas.List.{take_more}
 use Rattle.std.proofs.lemmas.Option.{slice_get_cases}
 use Rattle.std.specs.List.{list_any}
@@ -15,9 +16,9 @@ use Rattle.vdcp_auto.specs.declared.phase.Mode.TheVariants.{Plain}
 use Rattle.vdcp_world.specs.LateLine.Pipe.{Climbs, stretches}
 use Rattle.vdcp_world.proofs.LateLine.Delivering.{at_same, aired_same, item_same, done_same, none_same, no_more, none_pushed, clash, never_empty, ack_fits}
 use Rattle.vdcp_world.proofs.LateLine.Executed.{Executed, Shows, left_cued, put_on_air}
-use Rattle.vdcp_world.proofs.LateLine.Places.{Answer, pipe_of, plays, waits, says_ack, says_empty, shows_no_cue}
-use Rattle.vdcp_world.proofs.LateLine.Places.{cued_item, ToAir, OnAir, Playing, Checking}
+use Rattle.vdcp_world.proofs.LateLine.Places.{Answer, pipe_of, plays, waits, says_ack, says_empty, shows_no_cue, ToAir, OnAir, Playing, Checking}
 use Rattle.vdcp_world.proofs.LateLine.Stretches.{Lies, play_or_before, check_or_before, climbs_after, none_within}
+use Rattle.vdcp_world.proofs.PhaseTable.{cued_item}
 
 -- ---- the event airs
 
@@ -81,11 +82,8 @@ on_air_stays : (list : List Item) (s : Bool) (a : Cued) (aired : List Item) (d :
 on_air_stays list s a aired d downs k t b airs ts ba none h = record {
   aired_is = aired_same aired airs none ∙ h.aired_is;
   has_none = none_same s t a b (no_more s t ts) ba h.has_none;
-  none_waits = rest (waits d) (list_any waits downs) h.none_waits;
+  none_waits = (or_parts (waits d) (list_any waits downs) h.none_waits).1;
 }
-  where
-    rest : (x y : Bool) → (x || y) ≡ false → y ≡ false
-    rest x y e = grind arith
 
 -- after a PLAY nothing waits
 none_waits : (list : List Item) (k : ℕ) (ups : List Answer) (downs : List Phase)
@@ -166,23 +164,14 @@ playing_shows list settled s a aired ups d downs k r t b airs h ts ba none no_ac
       stands = stands;
     }
 
-    left : (x y : Bool) → (x || y) ≡ false → x ≡ false
-    left x y e = grind arith
-
-    not_shown : (x y : Bool) → x ≡ false → (x && y) ≡ false
-    not_shown x y e = grind arith
-
-    shown_not : (x y : Bool) → y ≡ false → (x && y) ≡ false
-    shown_not x y e = grind arith
-
     by : ToAir list s a aired ups k ⊎ OnAir list s a aired (d ∷ downs) k → (waits d ≡ false) ⊎ (waits d ≡ true)
         → Playing list settled t b (aired ++ airs) (ups ++ new ∷ []) downs k
-    by (inl q) w = with_stand (shown_not (waits d) (is_empty r) (never_empty list s a k r h.within q.has_item shows))
+    by (inl q) w = with_stand (and_right (waits d) (is_empty r) (never_empty list s a k r h.within q.has_item shows))
         (inl (to_air_shows list s a aired ups k d r t b airs h.within ts ba none no_ack shows q))
     by (inr q) (inl w) =
-        with_stand (not_shown (waits d) (is_empty r) w)
+        with_stand (and_left (waits d) (is_empty r) w)
         (inr (on_air_stays list s a aired d downs k t b airs ts ba none q))
-    by (inr q) (inr w) = clash (waits d) w (left (waits d) (list_any waits downs) q.none_waits)
+    by (inr q) (inr w) = clash (waits d) w (or_parts (waits d) (list_any waits downs) q.none_waits).0
 
 pub playing_keeps : (list : List Item) (settled : ℕ) (s : Bool) (a : Cued) (aired : List Item) (ups : List Answer)
     (d : Phase) (downs : List Phase) (k : ℕ)

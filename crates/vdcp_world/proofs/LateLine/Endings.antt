@@ -5,7 +5,6 @@ use Rattle.vdcp_value.specs.declared.clip_id.ClipId.{ClipId}
 use Rattle.vdcp_value.specs.declared.part.Item.{Item}
 use Rattle.vdcp_value.specs.declared.timecode.Timecode.{Timecode}
 use Rattle.vdcp_words.specs.declared.reply.Reply.{Reply}
-use Rattle.vdcp_port.specs.Clips.{is_known}
 use Rattle.vdcp_port.specs.Port.{Cued}
 use Rattle.vdcp_auto.specs.declared.outcome.Outcome.{Outcome}
 use Rattle.vdcp_auto.specs.declared.outcome.Outcome.TheVariants as outcome
@@ -20,6 +19,7 @@ use Rattle.vdcp_world.specs.LateLine.Pipe.{IsPipe}
 use Rattle.vdcp_world.proofs.LateLine.Places.{Answer, At, Exact, Still, pipe_of}
 use Rattle.vdcp_world.proofs.LateLine.Safety.{is_silent, none_plays}
 use Rattle.vdcp_world.proofs.LateLine.Thinning.{Thins}
+use Rattle.vdcp_world.proofs.PhaseTable.{knows}
 
 -- so many events of a list of n
 abbrev pub settled_at : Mode → ℕ → Outcome → Option ℕ
@@ -32,11 +32,6 @@ settled_at Plain n (outcome.Refused k) = None
 settled_at Confirming n (outcome.Refused k) = Some k
 settled_at mode n outcome.Lost = None
 settled_at mode n outcome.Stopped = None
-
--- the item's clip is in the catalogue
-abbrev pub knows : List (ClipId × Timecode) → Option Item → Bool
-knows clips None = false
-knows clips (Some item) = is_known clips item.id
 
 -- an event that is missing is on the list, and its clip isn't in the catalogue
 abbrev pub Misses : List Item → List (ClipId × Timecode) → Outcome → Type 0
@@ -55,7 +50,8 @@ settles_at Else list settled s a aired downs k h still =
     (exact_at list settled s a aired downs k h still, h.settled_is)
 
 -- an end from a phase in which no PLAY is on the way
-pub silent_end : (Else : Type 0) (mode : Mode) (list : List Item) (settled : ℕ) (s : Bool) (a : Cued) (aired : List Item)
+pub silent_end : (Else : Type 0) (mode : Mode) (list : List Item) (settled : ℕ) (s : Bool) (a : Cued)
+    (aired : List Item)
     (ups : List Answer) (downs : List Phase) (k : ℕ) (q : Phase) → is_silent q ≡ true
     → IsPipe mode (length list) q (pipe_of ups downs) → At list aired settled k
     → EndedAt Else list settled s a aired downs (Some k)
@@ -66,7 +62,8 @@ pub ended_thins : {Else Left : Type 0} → (Else → Left) → (list : List Item
     (aired : List Item) (downs left : List Phase) (o : Option ℕ) → Thins downs left
     → EndedAt Else list settled s a aired downs o → EndedAt Left list settled s a aired left o
 ended_thins f list settled s a aired downs left None d h = f h
-ended_thins f list settled s a aired downs left (Some k) d h = (exact_thins list settled s a aired downs left d h.0, h.1)
+ended_thins f list settled s a aired downs left (Some k) d h =
+    (exact_thins list settled s a aired downs left d h.0, h.1)
 
 pub ended_copied : {Else Left : Type 0} → (Else → Left) → (list : List Item) (settled : ℕ) (s : Bool) (a : Cued)
     (aired : List Item) (d : Phase) (downs : List Phase) (o : Option ℕ)
@@ -74,7 +71,8 @@ pub ended_copied : {Else Left : Type 0} → (Else → Left) → (list : List Ite
 ended_copied f list settled s a aired d downs None h = f h
 ended_copied f list settled s a aired d downs (Some k) h = (exact_copied list settled s a aired d downs h.0, h.1)
 
-pub ended_ages : {Else Left : Type 0} → (Else → Left) → (list : List Item) (settled : ℕ) (s : Bool) (a : Cued) (t : Bool)
+pub ended_ages : {Else Left : Type 0} → (Else → Left) → (list : List Item) (settled : ℕ) (s : Bool) (a : Cued)
+    (t : Bool)
     (b : Cued) (aired : List Item) (downs : List Phase) (o : Option ℕ) → Ages s a t b
     → EndedAt Else list settled s a aired downs o → EndedAt Left list settled t b aired downs o
 ended_ages f list settled s a t b aired downs None g h = f h

@@ -1,5 +1,6 @@
 -- All that aired is settled, and nothing that is on the way airs: what keeps it so, and how the log shows it.
 use Rattle.std.proofs.Common.{◌≡◌, ℕ, ◌+◌, ◌⊎◌, inl, inr, Bool, true, false, not, ◌||◌, ◌&&◌, if◌then◌else◌, List, [], ◌∷◌, ◌++◌, Option, Some, None, refl, arith, sym, ap, subst, ◌∙◌, take}
+use Rattle.std.proofs.lemmas.Bool.{or_parts}
 use Rattle.std.specs.List.{list_any}
 use Rattle.std.specs.Option.{option_map_or}
 use Rattle.vdcp_value.specs.declared.part.Item.{Item}
@@ -22,7 +23,7 @@ use Rattle.vdcp_auto.specs.declared.phase.Mode.TheVariants.{Plain, Confirming}
 use Rattle.vdcp_auto.specs.declared.phase.Phase.{Phase}
 use Rattle.vdcp_auto.specs.declared.phase.Phase.TheVariants as phase
 use Rattle.vdcp_auto.specs.declared.phase.Transition.{Transition}
-use Rattle.vdcp_auto.specs.declared.phase.Transition.TheVariants.{Goes, Settles, Retries, Ends}
+use Rattle.vdcp_auto.specs.declared.phase.Transition.TheVariants.{Settles}
 use Rattle.vdcp_world.proofs.LateLine.Closing.{Ages, none_ages}
 use Rattle.vdcp_world.proofs.LateLine.ConfirmedPlaces.{none_copied, none_sent}
 use Rattle.vdcp_world.proofs.LateLine.Delivering.{airs_none, at_same, none_same, no_more}
@@ -90,13 +91,8 @@ none_closed s t a b ts (inr same) h = none_same s t a b ts same h
 -- nothing is cued, and nothing airs
 none_does : (list : List Item) (d : Phase) (s : Bool) (a : Cued) (r : Reply) (t : Bool) (b : Cued) (airs : List Item)
     → arms d ≡ false → HasNone s a → Does list d s a r t b airs → HasNone t b × (airs ≡ [])
-none_does list phase.Open s a r t b airs e h x = (none_same s t a b (no_more s t x.0) x.1 h, x.2)
-none_does list phase.Seen s a r t b airs e h x = (none_same s t a b (no_more s t x.0) x.1 h, x.2)
-none_does list (phase.Exists k) s a r t b airs e h x = (none_same s t a b (no_more s t x.0) x.1 h, x.2)
 none_does list (phase.Wait k) s a r t b airs e h x = (none_same s t a b (no_more s t x.0.0) x.0.1 h, x.0.2)
 none_does list (phase.Probe k) s a r t b airs e h x = (none_same s t a b (no_more s t x.0.0) x.0.1 h, x.0.2)
-none_does list (phase.Check k) s a r t b airs e h x = (none_same s t a b (no_more s t x.0) x.1 h, x.2)
-none_does list phase.Drain s a r t b airs e h x = (none_same s t a b (no_more s t x.0) x.1 h, x.2)
 none_does list (phase.Play k) s a r t b airs e h x = by x.1
   where
     by : ((s ≡ false) × (b ≡ a) × (airs ≡ []) × (is_ack r ≡ false)) ⊎
@@ -111,12 +107,7 @@ none_does list phase.Halt s a r t b airs e h x = (none_closed s t a b x.0 x.2 h,
 none_does list phase.HaltClose s a r t b airs e h x = (none_closed s t a b x.0 x.2 h, x.1)
 none_does list phase.Select s a r t b airs e h x = cc
 none_does list (phase.Cue k) s a r t b airs e h x = cc
-
-left_of : (x y : Bool) → (x || y) ≡ false → x ≡ false
-left_of x y e = grind arith
-
-right_of : (x y : Bool) → (x || y) ≡ false → y ≡ false
-right_of x y e = grind arith
+none_does list _ s a r t b airs e h x = (none_same s t a b (no_more s t x.0) x.1 h, x.2)
 
 pub exact_reads : (list : List Item) (settled : ℕ) (s : Bool) (a : Cued) (aired : List Item) (d : Phase)
     (downs : List Phase) (r : Reply) (t : Bool) (b : Cued) (airs : List Item)
@@ -127,14 +118,14 @@ exact_reads list settled s a aired d downs r t b airs h x = by h.still
     by : Still s a (d ∷ downs) → Exact list settled t b (aired ++ airs) downs
     by (inl e) = record {
       at = at_same list aired airs settled settled (airs_none list d s a r t b airs
-          (left_of (plays d) (list_any plays downs) e) x.does) h.at;
-      still = inl (right_of (plays d) (list_any plays downs) e);
+          (or_parts (plays d) (list_any plays downs) e).0 x.does) h.at;
+      still = inl (or_parts (plays d) (list_any plays downs) e).1;
     }
     by (inr (none, e)) =
-        let after = none_does list d s a r t b airs (left_of (arms d) (list_any arms downs) e) none x.does in
+        let after = none_does list d s a r t b airs (or_parts (arms d) (list_any arms downs) e).0 none x.does in
         record {
           at = at_same list aired airs settled settled after.1 h.at;
-          still = inr (after.0, right_of (arms d) (list_any arms downs) e);
+          still = inr (after.0, (or_parts (arms d) (list_any arms downs) e).1);
         }
 
 -- ---- in these phases the place says it, whatever the log shows
@@ -215,8 +206,8 @@ sent_may airs plan log q None is none = (never_silent plan.list plan.port q is, 
 sent_may airs plan log q (Some c) is none =
     let either : (is_play_command c || may_have_aired plan.mode log) ≡ false =
     sym (awaited_may airs plan.mode log c) ∙ none in (
-      not_playing plan.list plan.port q c is (left_of (is_play_command c) (may_have_aired plan.mode log) either),
-      right_of (is_play_command c) (may_have_aired plan.mode log) either,
+      not_playing plan.list plan.port q c is (or_parts (is_play_command c) (may_have_aired plan.mode log) either).0,
+      (or_parts (is_play_command c) (may_have_aired plan.mode log) either).1,
     )
 
 -- an exchange ends that settles nothing
@@ -258,7 +249,8 @@ came_may airs counts plan state log came before = by state.stage refl
         → may_have_aired plan.mode (log ++ record { command = c; heard = came } ∷ []) ≡ false
         → may_in plan state log ≡ false
     still q c at is none_settles none =
-        ap (λ (stage : Stage). may_have_aired plan.mode (logged log (exchange_of plan.mode None (awaited_in plan stage))))
+        ap (λ (stage : Stage). may_have_aired plan.mode
+        (logged log (exchange_of plan.mode None (awaited_in plan stage))))
         at
         ∙ ap (λ (o : Option Command). may_have_aired plan.mode (logged log (exchange_of plan.mode None o))) is
         ∙ awaited_may airs plan.mode log c
@@ -268,9 +260,7 @@ came_may airs counts plan state log came before = by state.stage refl
         → (t : Transition) (unanswered : ℕ)
         → After (state_after t unanswered state) (log ++ record { command = c; heard = came } ∷ [])
     ended q c at is (Settles k) unanswered = λ after none. inl refl
-    ended q c at is (Goes p) unanswered = λ after none. inr (still q c at is (sym after ∙ before) none, refl)
-    ended q c at is (Retries k) unanswered = λ after none. inr (still q c at is (sym after ∙ before) none, refl)
-    ended q c at is (Ends o) unanswered = λ after none. inr (still q c at is (sym after ∙ before) none, refl)
+    ended q c at is _ unanswered = λ after none. inr (still q c at is (sym after ∙ before) none, refl)
 
     ends : (q : Phase) (c : Command) → state.stage ≡ Awaiting q → command_in plan.list plan.port q ≡ Some c
         → (b : Bool)
@@ -289,8 +279,8 @@ came_may airs counts plan state log came before = by state.stage refl
     awaits q at (Some c) is = ends q c at is (is_end plan.mode c came)
 
     by : (stage : Stage) → state.stage ≡ stage
-        → After (option_map_or (λ e. ended_in plan stage e state) (exchange_of plan.mode came (awaited_in plan stage)) state)
+        → After (option_map_or (λ e. ended_in plan stage e state) (exchange_of plan.mode came (awaited_in plan stage))
+        state)
         (logged log (exchange_of plan.mode came (awaited_in plan stage)))
-    by (Ready q) at = same
     by (Awaiting q) at = awaits q at (command_in plan.list plan.port q) refl
-    by (Ended o) at = same
+    by _ at = same

@@ -7,7 +7,8 @@ use Rattle.vdcp_port.specs.Port.{Cued, empty, cueing, done, is_empty as is_empty
 use Rattle.vdcp_auto.specs.Replies.{is_ack, is_done, is_empty}
 use Rattle.vdcp_auto.specs.declared.phase.Phase.{Phase}
 use Rattle.vdcp_auto.specs.declared.phase.Phase.TheVariants as phase
-use Rattle.vdcp_world.proofs.LateLine.Places.{cued_item, fits_phase}
+use Rattle.vdcp_world.proofs.LateLine.Places.{fits_phase}
+use Rattle.vdcp_world.proofs.PhaseTable.{cued_item}
 
 -- Of a port: whether it is selected, and its cued slot. Before and after; and what aired.
 abbrev Stays : Bool → Cued → Bool → Cued → List Item → Type 0

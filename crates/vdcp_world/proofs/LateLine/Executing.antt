@@ -11,17 +11,16 @@ use Rattle.vdcp_words.specs.declared.command.Command.TheVariants as command
 use Rattle.vdcp_words.specs.declared.reply.Reply.{Reply}
 use Rattle.vdcp_words.specs.declared.reply.Reply.TheVariants as reply
 use Rattle.vdcp_port.specs.Clips.{is_known, is_playable, whole, part_of}
-use Rattle.vdcp_port.specs.Port.{PortState, Cued, empty, cueing, done, is_selected, is_open, state_byte, state_byte_of}
+use Rattle.vdcp_port.specs.Port.{PortState, Cued, empty, cueing, done, is_selected, is_open, state_byte, state_byte_of, lets_control, opened}
 use Rattle.vdcp_port.specs.Row.{Row, Change, keeps, opens, closes, selects, cues, airs, stops, row, refused, play_row, state_reply, command_row, changed, on_air}
 use Rattle.vdcp_port.specs.declared.access.Access.{Access}
-use Rattle.vdcp_port.specs.Port.{lets_control, opened}
 use Rattle.vdcp_auto.specs.Commands.{cue_of, cue_for}
 use Rattle.vdcp_auto.specs.Table.{command_in}
 use Rattle.vdcp_auto.specs.declared.phase.Phase.{Phase}
 use Rattle.vdcp_auto.specs.declared.phase.Phase.TheVariants as phase
 use Rattle.vdcp_world.proofs.LateLine.Executed.{Shows, left_cued, put_on_air}
-use Rattle.vdcp_world.proofs.LateLine.Endings.{knows}
 use Rattle.vdcp_world.proofs.LateLine.Standing.{Reads, differs}
+use Rattle.vdcp_world.proofs.PhaseTable.{knows}
 
 -- a row of the table does what the phase's command is to do
 abbrev pub RowReads : List Item → List (ClipId × Timecode) → Phase → PortState → Row → Type 0

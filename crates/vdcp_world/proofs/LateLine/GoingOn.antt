@@ -46,26 +46,8 @@ first_lost (burst ∷ queue) = refl
 step_held : (kept now : LateChannel) (e : LateEvent) → IsNoTick e
     → after_late_events (held kept now) (instead e) ≡ held kept (after_late_event now e)
 step_held kept now event.Tick quiet = absurd quiet
-step_held kept now event.Down quiet = refl
 step_held kept now event.Up quiet = ap (λ queue. record (held kept now) { up = queue }) (first_lost now.up)
-step_held kept now event.DownCopy quiet = refl
-step_held kept now event.UpCopy quiet = refl
-step_held kept now (event.LoseDown place) quiet = refl
-step_held kept now (event.LoseUp place) quiet = refl
-step_held kept now (event.AlterDown place bytes) quiet = refl
-step_held kept now (event.AlterUp place bytes) quiet = refl
-step_held kept now (event.JunkDown place bytes) quiet = refl
-step_held kept now (event.JunkUp place bytes) quiet = refl
-step_held kept now event.Timeout quiet = refl
-step_held kept now event.Ready quiet = refl
-step_held kept now event.End quiet = refl
-step_held kept now event.Frame quiet = refl
-step_held kept now event.Take quiet = refl
-step_held kept now event.Stop quiet = refl
-step_held kept now event.ServerAnew quiet = refl
-step_held kept now event.AutomationAnew quiet = refl
-step_held kept now event.StrayAck quiet = refl
-step_held kept now (event.StrayNak byte) quiet = refl
+step_held kept now _ quiet = refl
 
 -- all that happens on the line where the controller is held
 abbrev instead_of : List LateEvent → List LateEvent

@@ -95,27 +95,10 @@ in_part (Err x) old now es i e below is happened = record {
 -- ---- what a channel was made with stays
 
 make_stays : (c : LateChannel) (e : LateEvent) → late_make_of (after_late_event c e) ≡ late_make_of c
-make_stays c event.Tick = refl
 make_stays c event.Down = make_messages c.plan (messages_of (oldest c.down)) c.port
-make_stays c event.Up = refl
 make_stays c event.DownCopy = make_messages c.plan (messages_of (oldest c.down)) c.port
-make_stays c event.UpCopy = refl
-make_stays c (event.LoseDown place) = refl
-make_stays c (event.LoseUp place) = refl
-make_stays c (event.AlterDown place bytes) = refl
-make_stays c (event.AlterUp place bytes) = refl
-make_stays c (event.JunkDown place bytes) = refl
-make_stays c (event.JunkUp place bytes) = refl
-make_stays c event.Timeout = refl
-make_stays c event.Ready = refl
-make_stays c event.End = refl
 make_stays c event.Frame = make_frame c.plan c.port
-make_stays c event.Take = refl
-make_stays c event.Stop = refl
-make_stays c event.ServerAnew = refl
-make_stays c event.AutomationAnew = refl
-make_stays c event.StrayAck = refl
-make_stays c (event.StrayNak byte) = refl
+make_stays c _ = refl
 
 pub make_after_all : (c : LateChannel) (es : List LateEvent)
     → late_make_of (after_late_events c es) ≡ late_make_of c

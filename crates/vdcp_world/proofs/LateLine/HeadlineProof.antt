@@ -1,11 +1,10 @@
 -- The headline, from what holds of the clips that went to air, and from the law of the controller.
-use Rattle.std.proofs.Common.{ℕ, zero, suc, ◌+◌, ◌≡◌, ◌<◌, ◌≤◌, Bool, false, List, [], ◌∷◌, ◌++◌, length, take, drop, refl, arith, sym, ap, subst, ◌∙◌, take-append-drop, length-drop}
+use Rattle.std.proofs.Common.{ℕ, ◌+◌, ◌≡◌, Bool, false, List, length, take, refl, arith, sym, ap, ◌∙◌}
 use Rattle.std.proofs.Math.Seq.{take-length}
-use Rattle.std.specs.Prelude.{Option, None, Some, IsTrue, IfSome, IsSomeAnd, slice_get}
+use Rattle.std.specs.Prelude.{Some, IsTrue, IfSome, slice_get}
 use Rattle.vdcp_value.specs.declared.clip_id.ClipId.{ClipId}
 use Rattle.vdcp_value.specs.declared.part.Item.{Item}
 use Rattle.vdcp_value.specs.declared.timecode.Timecode.{Timecode}
-use Rattle.vdcp_port.specs.Clips.{is_known}
 use Rattle.vdcp_auto.specs.Endings.{IsRefused}
 use Rattle.vdcp_auto.specs.Law.{IsLawful}
 use Rattle.vdcp_auto.specs.Plan.{Plan}
@@ -16,15 +15,15 @@ use Rattle.vdcp_auto.specs.declared.outcome.Outcome.{Outcome}
 use Rattle.vdcp_auto.specs.declared.outcome.Outcome.TheVariants as outcome
 use Rattle.vdcp_auto.specs.declared.phase.Mode.{Mode}
 use Rattle.vdcp_auto.specs.declared.phase.Mode.TheVariants.{Plain, Confirming}
-use Rattle.vdcp_auto.specs.State.{Stage}
-use Rattle.vdcp_auto.specs.State.{Ready, Awaiting, Ended}
-use Rattle.vdcp_world.specs.Headline.{IsUnknownAt, AreReported}
+use Rattle.vdcp_auto.specs.State.{Stage, Ended}
+use Rattle.vdcp_world.specs.Headline.{AreReported}
 use Rattle.vdcp_world.specs.LateLine.LateChannel.{LateChannel}
 use Rattle.vdcp_world.specs.LateLine.LateHeadline.{IsLateRefused, LateMeans, LateHeadline, is_late_complete, log_so_far, reported_of}
-use Rattle.vdcp_world.proofs.LateLine.Delivering.{no_item}
-use Rattle.vdcp_world.proofs.LateLine.Endings.{Misses, complete_settles, knows, settled_at}
-use Rattle.vdcp_world.proofs.LateLine.Places.{At, Near}
-use Rattle.vdcp_world.proofs.LateLine.Safety.{taken}
+use Rattle.vdcp_world.proofs.LateLine.Endings.{Misses, complete_settles, settled_at}
+use Rattle.vdcp_world.proofs.LateLine.Places.{At}
+use Rattle.vdcp_world.proofs.PhaseTable.{Near}
+use Rattle.vdcp_world.proofs.Exchanges.{taken}
+use Rattle.vdcp_world.proofs.HeadlineProof.{begins, reports, unknown_at}
 
 -- what an end says of the clips that went to air
 abbrev pub EndHolds : Mode → List Item → List (ClipId × Timecode) → List Item → ℕ → Outcome → Type 0
@@ -47,41 +46,7 @@ AirsIn c =
     Airs c.plan.mode c.plan.list c.port.clips c.aired c.state.settled (may_have_aired c.plan.mode (log_so_far c))
     c.state.stage
 
--- ---- lists
-
-take_within : {A : Type 0} → (s a : ℕ) (xs : List A) → s ≤ a → take s (take a xs) ≡ take s xs
-take_within zero a xs l = refl
-take_within (suc s) zero xs l = absurd (omega arith)
-take_within (suc s) (suc a) [] l = refl
-take_within (suc s) (suc a) (x ∷ xs) l = ap (λ ys. x ∷ ys) (take_within s a xs (omega arith))
-
-begins : (list aired : List Item) (settled : ℕ) → Near list aired settled → (more : List Item) × (list ≡ aired ++ more)
-begins list aired settled n = (
-  drop (length aired) list,
-  sym (take-append-drop (length aired) list) ∙ ap
-      (λ (front : List Item). front ++ drop (length aired) list) (sym n.aired_is),
-)
-
-reports : (list aired : List Item) (settled : ℕ) → Near list aired settled
-    → (last : List Item) × (aired ≡ take settled list ++ last) × (length last ≤ 1)
-reports list aired settled n =
-    let front : take settled aired ≡ take settled list = ap (take settled) n.aired_is ∙ take_within settled
-    (length aired) list n.low in
-    let size : length (drop settled aired) + settled ≡ length aired =
-    omega (arith, length-drop settled aired, n.low) in (
-      drop settled aired,
-      sym (take-append-drop settled aired) ∙ ap (λ (x : List Item). x ++ drop settled aired) front,
-      omega (arith, size, n.high),
-    )
-
 -- ---- what the outcome means
-
-unknown_at : (clips : List (ClipId × Timecode)) (list : List Item) (k : ℕ) (o : Option Item) → slice_get list k ≡ o
-    → k < length list
-    → knows clips o ≡ false → IsUnknownAt clips list k
-unknown_at clips list k None is below e = absurd (no_item list k below is)
-unknown_at clips list k (Some item) is below e =
-    subst (λ (o : Option Item). IsSomeAnd o (λ item. is_known clips item.id ≡ false)) (sym is) e
 
 exactly : (plan : Plan) (aired : List Item) (log : List Exchange) (reported k : ℕ) → At plan.list aired reported k
     → reported ≡ settled plan.mode log
@@ -123,19 +88,17 @@ means_at : (c : LateChannel) (stage : Stage) → c.state.stage ≡ stage
     → EndHoldsAt c.plan.mode c.plan.list c.port.clips c.aired c.state.settled stage
     → IsLawful c.plan c.state c.log
     → IfSome (outcome_of stage) (LateMeans c.port.clips c.plan c.aired c.log)
-means_at c (Ready q) e h l = tt
-means_at c (Awaiting q) e h l = tt
 means_at c (Ended o) e h l = means c o h l (ap outcome_of e)
+means_at c _ e h l = tt
 
 -- all that went to air is reported
 complete_at : (c : LateChannel) (stage : Stage)
     → EndHoldsAt c.plan.mode c.plan.list c.port.clips c.aired c.state.settled stage
     → IfSome (outcome_of stage) (λ outcome. IsTrue (is_late_complete c.plan.mode outcome) → c.aired ≡ reported_of c)
-complete_at c (Ready q) h = tt
-complete_at c (Awaiting q) h = tt
 complete_at c (Ended o) h = λ e.
     let (k, at) = complete_settles c.plan.mode (length c.plan.list) o e h.0 in
     at.aired_is ∙ ap (λ (n : ℕ). take n c.plan.list) (sym at.settled_is)
+complete_at c _ h = tt
 
 pub headline : (c : LateChannel) → AirsIn c
     → IsLawful c.plan c.state c.log → LateHeadline c

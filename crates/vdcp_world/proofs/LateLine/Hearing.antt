@@ -1,5 +1,6 @@
 -- Where a reply leads the controller, or silence, in plain mode.
 use Rattle.std.proofs.Common.{◌≡◌, ℕ, ◌+◌, ◌*◌, ◌<◌, ◌≤◌, ◌⊎◌, inl, inr, Bool, true, false, not, ◌||◌, ◌&&◌, List, ◌∷◌, length, take, refl, arith, ap, subst, ◌∙◌, if◌then◌else◌, Some}
+use Rattle.std.proofs.lemmas.Bool.{not-false, or_left, or_parts}
 use Rattle.std.specs.List.{list_any}
 use Rattle.std.specs.Prelude.{slice_get, nat_le, nat_lt}
 use Rattle.vdcp_value.specs.declared.clip_id.ClipId.{ClipId}
@@ -18,14 +19,12 @@ use Rattle.vdcp_auto.specs.State.{Ready}
 use Rattle.vdcp_auto.specs.declared.phase.Transition.{Transition}
 use Rattle.vdcp_auto.specs.declared.phase.Transition.TheVariants.{Goes, Settles, Ends}
 use Rattle.vdcp_world.specs.LateLine.Pipe.{stretch, Climbs, stretches, IsPipe}
-use Rattle.vdcp_world.proofs.PhaseTable.{is_asked}
+use Rattle.vdcp_world.proofs.PhaseTable.{is_asked, knows}
 use Rattle.vdcp_world.proofs.LateLine.Delivering.{clash}
-use Rattle.vdcp_world.proofs.LateLine.Passing.{wanted, same_wanted, exists_passed, cue_passed, wait_passed, play_passed, probe_passed, check_passed, all_own}
-use Rattle.vdcp_world.proofs.LateLine.Passing.{exists_no_ack, cue_no_state, cue_shows_none, wait_no_ack, wait_no_empty}
+use Rattle.vdcp_world.proofs.LateLine.Passing.{wanted, same_wanted, exists_passed, cue_passed, wait_passed, play_passed, probe_passed, check_passed, all_own, exists_no_ack, cue_no_state, cue_shows_none, wait_no_ack, wait_no_empty}
 use Rattle.vdcp_world.proofs.LateLine.Pipes.{climbs_within}
-use Rattle.vdcp_world.proofs.LateLine.Places.{Answer, pipe_of, waits, misfits, fits_phase, says_ack, says_done, says_empty, shows_no_cue}
-use Rattle.vdcp_world.proofs.LateLine.Places.{At, ToAir, OnAir, Place, Safe}
-use Rattle.vdcp_world.proofs.LateLine.Endings.{EndedAt, knows, settles_at, silent_end}
+use Rattle.vdcp_world.proofs.LateLine.Places.{Answer, pipe_of, waits, misfits, fits_phase, says_ack, says_done, says_empty, shows_no_cue, At, ToAir, OnAir, Place, Safe}
+use Rattle.vdcp_world.proofs.LateLine.Endings.{EndedAt, settles_at, silent_end}
 use Rattle.vdcp_world.proofs.LateLine.Safety.{calm_in, is_silent, none_arms_in}
 use Rattle.vdcp_world.proofs.LateLine.Standing.{differs, misleads, misleads_at, PlaceAt}
 
@@ -47,18 +46,7 @@ goes_on : (list : List Item) (clips : List (ClipId × Timecode)) (settled : ℕ)
     (q : Phase) → Here list settled s a aired ups downs q
     → Leads list clips settled s a aired ups downs (on_no_answer Plain q)
 goes_on list clips settled s a aired ups downs (phase.Play k) h = h
-goes_on list clips settled s a aired ups downs phase.Open h = h
-goes_on list clips settled s a aired ups downs phase.Select h = h
-goes_on list clips settled s a aired ups downs phase.Seen h = h
-goes_on list clips settled s a aired ups downs (phase.Exists k) h = h
-goes_on list clips settled s a aired ups downs (phase.Cue k) h = h
-goes_on list clips settled s a aired ups downs (phase.Wait k) h = h
-goes_on list clips settled s a aired ups downs (phase.Probe k) h = h
-goes_on list clips settled s a aired ups downs (phase.Check k) h = h
-goes_on list clips settled s a aired ups downs phase.Drain h = h
-goes_on list clips settled s a aired ups downs phase.Close h = h
-goes_on list clips settled s a aired ups downs phase.Halt h = h
-goes_on list clips settled s a aired ups downs phase.HaltClose h = h
+goes_on list clips settled s a aired ups downs _ h = h
 
 pub silent : (list : List Item) (clips : List (ClipId × Timecode)) (settled : ℕ) (s : Bool) (a : Cued)
     (aired : List Item) (ups : List Answer) (downs : List Phase)
@@ -92,24 +80,11 @@ refused list clips settled s a aired ups downs phase.Select h =
     (over list settled s a aired ups downs 0 phase.Select refl h.1 h.0, tt)
 refused list clips settled s a aired ups downs phase.Seen h =
     (over list settled s a aired ups downs 0 phase.Seen refl h.1 h.0, tt)
-refused list clips settled s a aired ups downs (phase.Exists k) h =
-    (calm_in list settled s a aired ups downs (phase.Exists k) h.0 h.1, tt)
-refused list clips settled s a aired ups downs (phase.Cue k) h =
-    (calm_in list settled s a aired ups downs (phase.Cue k) h.0 h.1, tt)
-refused list clips settled s a aired ups downs (phase.Wait k) h =
-    (calm_in list settled s a aired ups downs (phase.Wait k) h.0 h.1, tt)
-refused list clips settled s a aired ups downs (phase.Play k) h =
-    (calm_in list settled s a aired ups downs (phase.Play k) h.0 h.1, tt)
-refused list clips settled s a aired ups downs (phase.Probe k) h =
-    (calm_in list settled s a aired ups downs (phase.Probe k) h.0 h.1, tt)
-refused list clips settled s a aired ups downs (phase.Check k) h =
-    (calm_in list settled s a aired ups downs (phase.Check k) h.0 h.1, tt)
-refused list clips settled s a aired ups downs phase.Drain h =
-    (calm_in list settled s a aired ups downs phase.Drain h.0 h.1, tt)
 refused list clips settled s a aired ups downs phase.Close h =
     (over list settled s a aired ups downs (length list) phase.Close refl h.1 h.0, tt)
 refused list clips settled s a aired ups downs phase.Halt h = h
 refused list clips settled s a aired ups downs phase.HaltClose h = (h.0, tt)
+refused list clips settled s a aired ups downs q h = (calm_in list settled s a aired ups downs q h.0 h.1, tt)
 
 -- ---- an answer
 
@@ -145,19 +120,12 @@ pub record Asked (list : List Item) (clips : List (ClipId × Timecode)) (x : Ans
   pub fit : list_any misfits (x ∷ ups) ≡ false
   pub true_told : list_any (misleads list clips) (x ∷ ups) ≡ false
 
-first_of : (b c : Bool) → (b || c) ≡ false → b ≡ false
-first_of b c e = grind arith
-
-fitting : (b : Bool) → not b ≡ false → b ≡ true
-fitting true e = refl
-fitting false e = cc
-
 -- the phases want the same kind of reply
 wants : (list : List Item) (clips : List (ClipId × Timecode)) (x : Answer) (ups : List Answer) (q : Phase)
     → Asked list clips x ups q → wanted x.to ≡ wanted q
 wants list clips x ups q k =
-    same_wanted q x.to x.reply k.no_refusal (fitting (fits_phase x.to x.reply)
-    (first_of (misfits x) (list_any misfits ups) k.fit)) k.asked
+    same_wanted q x.to x.reply k.no_refusal (not-false (fits_phase x.to x.reply) (or_parts (misfits x)
+    (list_any misfits ups) k.fit).0) k.asked
 
 from_open : (list : List Item) (clips : List (ClipId × Timecode)) (settled : ℕ) (s : Bool) (a : Cued)
     (aired : List Item) (ups : List Answer) (downs : List Phase)
@@ -205,13 +173,10 @@ from_exists list clips settled s a aired x ups downs k g h b e = by b e
         h.0.1,
         unknown (is_present x.reply) (knows clips (slice_get list k))
             (subst (λ (p : Phase). misleads_at list clips p x.reply ≡ false) is
-            (first_of (misleads list clips x) (list_any (misleads list clips) ups) g.true_told))
+            (or_parts (misleads list clips x) (list_any (misleads list clips) ups) g.true_told).0)
             g.asked e,
       ),
     )
-
-or_first : (b c : Bool) → b ≡ true → (b || c) ≡ true
-or_first b c e = grind arith
 
 from_cue : (list : List Item) (clips : List (ClipId × Timecode)) (settled : ℕ) (s : Bool) (a : Cued) (aired : List Item)
     (x : Answer) (ups : List Answer)
@@ -222,7 +187,7 @@ from_cue list clips settled s a aired x ups downs k g h = (
   record {
     at = h.0.at;
     within = h.0.within;
-    has_item = h.0.taken (or_first (is_ack x.reply) (list_any says_ack ups) g.asked);
+    has_item = h.0.taken (or_left (is_ack x.reply) (list_any says_ack ups) g.asked);
     shown =
         λ t. clash (list_any says_done (x ∷ ups)) t (cue_no_state (length list) k (x ∷ ups) downs h.0.within g.fit own);
     never_none = cue_shows_none (length list) k (x ∷ ups) downs h.0.within g.fit own;
@@ -258,7 +223,7 @@ from_wait list clips settled s a aired x ups downs k limit tries take g h =
         stands = inl (record {
           aired_is = h.0.at.aired_is;
           has_item = h.0.has_item;
-          has_done = h.0.shown (or_first (is_done x.reply) (list_any says_done ups) e);
+          has_done = h.0.shown (or_left (is_done x.reply) (list_any says_done ups) e);
           no_ack = wait_no_ack (length list) k (x ∷ ups) downs h.0.within g.fit own;
           no_empty = wait_no_empty (length list) k (x ∷ ups) downs h.0.within h.0.never_none own;
         });
@@ -305,7 +270,7 @@ from_play list clips settled s a aired x ups downs k g h = by h.0.stands
   where
     by : ToAir list s a aired (x ∷ ups) k ⊎ OnAir list s a aired downs k
         → Leads list clips settled s a aired (x ∷ ups) downs (Settles k)
-    by (inl q) = clash (is_ack x.reply) g.asked (first_of (is_ack x.reply) (list_any says_ack ups) q.no_ack)
+    by (inl q) = clash (is_ack x.reply) g.asked (or_parts (is_ack x.reply) (list_any says_ack ups) q.no_ack).0
     by (inr q) = settles list clips settled s a aired (x ∷ ups) downs k h.0.within q
         (all_own Plain (length list) (5 * k + 4) (5 * k + 5) x ups downs
         (ap (stretch Plain (length list)) (play_passed (length list) k x.to h.0.within (h.1.0, h.1.1)
@@ -331,9 +296,9 @@ from_probe list clips settled s a aired x ups downs k g h false true e = by h.0.
     by : ToAir list s a aired (x ∷ ups) k ⊎ OnAir list s a aired downs k
         → (x.to ≡ phase.Wait k) ⊎ (x.to ≡ phase.Probe k)
         → Leads list clips settled s a aired (x ∷ ups) downs (Settles k)
-    by (inl q) w = clash (is_empty x.reply) e (first_of (is_empty x.reply) (list_any says_empty ups) q.no_empty)
+    by (inl q) w = clash (is_empty x.reply) e (or_parts (is_empty x.reply) (list_any says_empty ups) q.no_empty).0
     by (inr q) (inl is) =
-        clash (shows_no_cue x) (shows x.to is) (first_of (shows_no_cue x) (list_any shows_no_cue ups) h.0.never_none)
+        clash (shows_no_cue x) (shows x.to is) (or_parts (shows_no_cue x) (list_any shows_no_cue ups) h.0.never_none).0
     by (inr q) (inr is) = settles list clips settled s a aired (x ∷ ups) downs k h.0.within q
         (all_own Plain (length list) (5 * k + 4) (5 * k + 5) x ups downs (ap (stretch Plain (length list)) is) h.1)
 
@@ -377,10 +342,6 @@ pub replied : (list : List Item) (clips : List (ClipId × Timecode)) (settled : 
     → Leads list clips settled s a aired (x ∷ ups) downs (on_reply Plain list limit take tries q x.reply)
 replied list clips settled s a aired x ups downs limit tries take phase.Open g h =
     from_open list clips settled s a aired (x ∷ ups) downs (is_granted x.reply) h
-replied list clips settled s a aired x ups downs limit tries take phase.Select g h =
-    next_place list clips settled s a aired (x ∷ ups) downs 0 h.0 h.1
-replied list clips settled s a aired x ups downs limit tries take phase.Seen g h =
-    next_place list clips settled s a aired (x ∷ ups) downs 0 h.0 h.1
 replied list clips settled s a aired x ups downs limit tries take (phase.Exists k) g h =
     from_exists list clips settled s a aired x ups downs k g h (is_present x.reply) refl
 replied list clips settled s a aired x ups downs limit tries take (phase.Cue k) g h =
@@ -400,3 +361,5 @@ replied list clips settled s a aired x ups downs limit tries take phase.Close g 
     (over list settled s a aired (x ∷ ups) downs (length list) phase.Close refl h.1 h.0, tt)
 replied list clips settled s a aired x ups downs limit tries take phase.Halt g h = h
 replied list clips settled s a aired x ups downs limit tries take phase.HaltClose g h = (h.0, tt)
+replied list clips settled s a aired x ups downs limit tries take _ g h =
+    next_place list clips settled s a aired (x ∷ ups) downs 0 h.0 h.1

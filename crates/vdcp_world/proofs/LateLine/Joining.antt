@@ -1,5 +1,6 @@
 -- Each event of a line that holds one burst each way is some events of a line that keeps order.
-use Rattle.std.proofs.Common.{ℕ, ◌≡◌, ◌⊎◌, inl, inr, Bool, true, false, ◌&&◌, ◌||◌, List, [], ◌∷◌, ◌++◌, refl, arith, sym, ap, subst, ◌∙◌, ap₂, append-nil, if◌then◌else◌}
+use Rattle.std.proofs.Common.{ℕ, ◌≡◌, ◌⊎◌, inl, inr, Bool, true, false, ◌&&◌, List, [], ◌∷◌, ◌++◌, refl, sym, ap, subst, ◌∙◌, ap₂, append-nil, if◌then◌else◌}
+use Rattle.std.proofs.lemmas.Bool.{and_parts, or_cases, or_left, or_right}
 use Rattle.std.specs.Prelude.{Option, None, Some, remove}
 use Rattle.vdcp_frame.specs.Burst.{messages_of}
 use Rattle.vdcp_frame.specs.Message.{Content, spelling}
@@ -20,9 +21,9 @@ use Rattle.vdcp_world.specs.Channel.{Channel, after_event, IsReached}
 use Rattle.vdcp_world.specs.declared.event.Event.{Event}
 use Rattle.vdcp_world.specs.declared.event.Event.TheVariants as was
 use Rattle.vdcp_world.specs.LateLine.Damage.{is_no_answer, is_junk_up, can_become_up, with_junk}
-use Rattle.vdcp_world.proofs.LateLine.Happened.{quiet_start}
+use Rattle.vdcp_world.proofs.LateLine.Happened.{quiet_start, after_all}
 use Rattle.vdcp_world.specs.LateLine.Joined.{late_of}
-use Rattle.vdcp_world.specs.LateLine.LateChannel.{LateChannel, after_late_event, after_late_events, bursts_of, command_bursts, IsLateReached}
+use Rattle.vdcp_world.specs.LateLine.LateChannel.{LateChannel, after_late_events, bursts_of, command_bursts, IsLateReached}
 use Rattle.vdcp_world.specs.declared.late.event.LateEvent.{LateEvent}
 use Rattle.vdcp_world.specs.declared.late.event.LateEvent.TheVariants as late
 
@@ -39,16 +40,7 @@ lost (byte ∷ bytes) = refl
 sent_whole : (unit : ℕ) (c : Command) → spelling (command_message unit c) ∷ [] ≡ bursts_of
     (spelling (command_message unit c))
 sent_whole unit (command.Open port lock) = refl
-sent_whole unit (command.Close port) = refl
-sent_whole unit (command.Select port) = refl
-sent_whole unit (command.PlayCue id) = refl
-sent_whole unit (command.CueData id start duration) = refl
-sent_whole unit command.Play = refl
-sent_whole unit command.Stop = refl
-sent_whole unit (command.Status groups) = refl
-sent_whole unit command.ActiveId = refl
-sent_whole unit (command.IdRequest id) = refl
-sent_whole unit (command.IdSize id) = refl
+sent_whole unit _ = refl
 
 -- with other bursts on the way
 same_lines : (x : LateChannel) (down down_too up up_too : List (List ℕ)) → down ≡ down_too → up ≡ up_too
@@ -123,9 +115,6 @@ joins_up_copy c (byte ∷ bytes) = (late.UpCopy ∷ [], refl)
 
 -- ---- damage
 
-right_of : (a b : Bool) → (a && b) ≡ true → b ≡ true
-right_of a b e = grind arith
-
 -- the burst down, which becomes these bytes
 joins_damage_down : (c : Channel) (down bytes : List ℕ) → is_beginning (messages_of bytes) (messages_of down) ≡ true
     → Joins (record c { down = down }) (record c { down = bytes })
@@ -144,8 +133,8 @@ joins_alter_down : (c : Channel) (bytes : List ℕ) (can : Bool) → world.can_b
     → Joins c (record c { down = world.altered can c.down bytes })
 joins_alter_down c bytes false e = ([], refl)
 joins_alter_down c bytes true e =
-    joins_damage_down c c.down bytes (right_of (world.is_short bytes)
-    (is_beginning (messages_of bytes) (messages_of c.down)) e)
+    joins_damage_down c c.down bytes (and_parts (world.is_short bytes) (is_beginning (messages_of bytes)
+    (messages_of c.down)) e).1
 
 -- the burst up
 joins_damage_up : (c : Channel) (up bytes : List ℕ) → can_become_up c.plan.mode c.port.state.unit up bytes ≡ true
@@ -168,32 +157,23 @@ no_message unit mode [] e = refl
 no_message unit mode (m ∷ ms) e = cc
 
 a_receipt : (h : Option Heard) → hears_receipt h ≡ true → is_no_answer Confirming h ≡ true
-a_receipt None e = refl
-a_receipt (Some heard.Other) e = refl
 a_receipt (Some (heard.Reply r)) e = e
-
-or_either : (a b : Bool) → (a || b) ≡ true → (a ≡ true) ⊎ (b ≡ true)
-or_either true b e = inl refl
-or_either false b e = inr e
-
-or_first : (a b : Bool) → a ≡ true → (a || b) ≡ true
-or_first a b e = grind arith
-
-or_second : (a b : Bool) → b ≡ true → (a || b) ≡ true
-or_second a b e = grind arith
+a_receipt _ e = refl
 
 -- what the one line lets a burst up become the other one does
 lets : (mode : Mode) (unit : ℕ) (up bytes : List ℕ) → world.can_become_up mode unit up bytes ≡ true
     → (is_beginning (messages_of bytes) (messages_of up) ≡ true) ⊎ (is_junk_up mode unit bytes ≡ true)
-lets Plain unit up bytes e = inl (right_of (world.is_short bytes) (is_beginning (messages_of bytes) (messages_of up)) e)
+lets Plain unit up bytes e =
+    inl (and_parts (world.is_short bytes) (is_beginning (messages_of bytes) (messages_of up)) e).1
 lets Confirming unit up bytes e =
-    by (or_either (world.can_become up bytes) (world.is_short bytes && hears_receipt (heard_in unit bytes)) e)
+    by (or_cases (world.can_become up bytes) (world.is_short bytes && hears_receipt (heard_in unit bytes)) e)
   where
     by : (world.can_become up bytes ≡ true) ⊎ ((world.is_short bytes && hears_receipt (heard_in unit bytes)) ≡ true)
         → (is_beginning (messages_of bytes) (messages_of up) ≡ true) ⊎ (is_junk_up Confirming unit bytes ≡ true)
-    by (inl can) = inl (right_of (world.is_short bytes) (is_beginning (messages_of bytes) (messages_of up)) can)
-    by (inr receipt) = inr (a_receipt (heard_in unit bytes) (right_of (world.is_short bytes)
-        (hears_receipt (heard_in unit bytes)) receipt))
+    by (inl can) = inl (and_parts (world.is_short bytes) (is_beginning (messages_of bytes) (messages_of up)) can).1
+    by (inr receipt) =
+        inr (a_receipt (heard_in unit bytes) (and_parts (world.is_short bytes) (hears_receipt (heard_in unit bytes))
+        receipt).1)
 
 joins_alter_up : (c : Channel) (bytes : List ℕ) (can : Bool)
     → world.can_become_up c.plan.mode c.port.state.unit c.up bytes ≡ can
@@ -205,13 +185,13 @@ joins_alter_up c bytes true e = by (lets c.plan.mode c.port.state.unit c.up byte
         (is_junk_up c.plan.mode c.port.state.unit bytes ≡ true)
         → Joins c (record c { up = bytes })
     by (inl can) = joins_damage_up c c.up bytes
-        (or_first (is_beginning (messages_of bytes) (messages_of c.up))
-        (is_junk_up c.plan.mode c.port.state.unit bytes) can)
+        (or_left (is_beginning (messages_of bytes) (messages_of c.up)) (is_junk_up c.plan.mode c.port.state.unit bytes)
+        can)
         (λ none. no_message c.port.state.unit c.plan.mode (messages_of bytes)
         (subst (λ (up : List ℕ). is_beginning (messages_of bytes) (messages_of up) ≡ true) none can))
     by (inr junk) = joins_damage_up c c.up bytes
-        (or_second (is_beginning (messages_of bytes) (messages_of c.up))
-        (is_junk_up c.plan.mode c.port.state.unit bytes) junk) (λ none. junk)
+        (or_right (is_beginning (messages_of bytes) (messages_of c.up)) (is_junk_up c.plan.mode c.port.state.unit bytes)
+        junk) (λ none. junk)
 
 -- ---- time-outs
 
@@ -243,18 +223,13 @@ joins c (was.StrayNak byte) = (late.StrayNak byte ∷ [], refl)
 
 -- ---- whole runs
 
-late_all : (x : LateChannel) (events more : List LateEvent)
-    → after_late_events x (events ++ more) ≡ after_late_events (after_late_events x events) more
-late_all x [] more = refl
-late_all x (e ∷ events) more = late_all (after_late_event x e) events more
-
 joins_all : (c : Channel) (es : List Event)
     → (events : List LateEvent) × (after_late_events (late_of c) events ≡ late_of (world.after_events c es))
 joins_all c [] = ([], refl)
 joins_all c (e ∷ es) =
     let (first, led) = joins c e in
     let (rest, ended) = joins_all (after_event c e) es in
-    (first ++ rest, late_all (late_of c) first rest ∙ ap (λ (x : LateChannel). after_late_events x rest) led ∙ ended)
+    (first ++ rest, after_all (late_of c) first rest ∙ ap (λ (x : LateChannel). after_late_events x rest) led ∙ ended)
 
 pub reached_late : (c : Channel) → IsReached c → IsLateReached (late_of c)
 reached_late c r =

@@ -13,7 +13,7 @@ use Rattle.vdcp_words.specs.declared.reply.Reply.TheVariants as reply
 use Rattle.vdcp_port.specs.Answers.{sent_for, aired_for, after_burst}
 use Rattle.vdcp_port.specs.Clock.{ClockedPort, after_change}
 use Rattle.vdcp_port.specs.Port.{is_selected}
-use Rattle.vdcp_port.specs.Row.{Change, keeps, opens, closes, selects, cues, airs, stops, command_row, changed, on_air}
+use Rattle.vdcp_port.specs.Row.{Change, airs, command_row, changed, on_air}
 use Rattle.vdcp_auto.specs.Heard.{heard_in}
 use Rattle.vdcp_auto.specs.Plan.{Plan}
 use Rattle.vdcp_auto.specs.Table.{command_in}
@@ -23,9 +23,7 @@ use Rattle.vdcp_auto.specs.declared.exchange.Heard.TheVariants as heard
 use Rattle.vdcp_auto.specs.declared.phase.Mode.{Mode}
 use Rattle.vdcp_auto.specs.declared.phase.Mode.TheVariants.{Plain, Confirming}
 use Rattle.vdcp_auto.specs.declared.phase.Phase.{Phase}
-use Rattle.vdcp_auto.specs.State.{Stage}
-use Rattle.vdcp_auto.specs.State.{Ready}
-use Rattle.vdcp_auto.specs.State.{State}
+use Rattle.vdcp_auto.specs.State.{Stage, Ready, State}
 use Rattle.vdcp_world.specs.LateLine.Damage.{is_no_answer}
 use Rattle.vdcp_world.specs.LateLine.LateChannel.{LateChannel, bursts_of}
 use Rattle.vdcp_world.specs.Below.{Below}
@@ -37,6 +35,7 @@ use Rattle.vdcp_world.proofs.LateLine.Executing.{reads}
 use Rattle.vdcp_world.proofs.LateLine.Places.{Answer}
 use Rattle.vdcp_world.proofs.OnTheWay.{ReadsNothing, ReadsCommand}
 use Rattle.vdcp_world.proofs.LateLine.Thinning.{all_left}
+use Rattle.vdcp_world.proofs.Kept.{keeps_unit}
 
 -- ---- what bursts carry
 
@@ -79,15 +78,6 @@ pub record IsKept (mode : Mode) (S : Claim) (c : LateChannel) : Type 0 where
 
 -- ---- the port reads a burst
 
-pub keeps_unit : (change : Change) (p : ClockedPort) → (after_change change p).state.unit ≡ p.state.unit
-keeps_unit keeps p = refl
-keeps_unit opens p = refl
-keeps_unit closes p = refl
-keeps_unit selects p = refl
-keeps_unit (cues item) p = refl
-keeps_unit (airs item) p = refl
-keeps_unit stops p = refl
-
 -- what a phase sends can be written
 pub writable : Below → (plan : Plan) (d : Phase) (c : Command) → All IsItem plan.list → plan.port < 256
     → command_in plan.list plan.port d ≡ Some c
@@ -123,7 +113,8 @@ says_junk mode p down r = by r.says
         (heard_in p.state.unit (sent_for p down) ≡ Some (heard.Reply (reply.Nak byte)))))
         → IsJunkUp mode p.state.unit (sent_for p down)
     by (inl none) = subst (λ (b : List ℕ). IsJunkUp mode p.state.unit b) (sym none) refl
-    by (inr (byte, other, hears)) = subst (λ (h : Option Heard). is_no_answer mode h ≡ true) (sym hears) (nak_strays mode byte)
+    by (inr (byte, other, hears)) =
+        subst (λ (h : Option Heard). is_no_answer mode h ≡ true) (sym hears) (nak_strays mode byte)
 
 -- the channel after a delivery, of which these are left on the way down
 pub record Delivered (mode : Mode) (S : Claim) (plan : Plan) (state : State) (p : ClockedPort) (up : List (List ℕ))

@@ -1,5 +1,6 @@
 -- Every event keeps what holds of a late channel, where the claim is closed.
-use Rattle.std.proofs.Common.{ℕ, ◌≡◌, ◌⊎◌, inl, inr, Bool, true, false, ◌||◌, List, [], ◌∷◌, ◌++◌, refl, arith, sym, ap, subst, ◌∙◌, if◌then◌else◌}
+use Rattle.std.proofs.Common.{ℕ, ◌≡◌, ◌⊎◌, inl, inr, Bool, true, false, List, [], ◌∷◌, ◌++◌, refl, arith, sym, ap, subst, ◌∙◌, if◌then◌else◌}
+use Rattle.std.proofs.lemmas.Bool.{or_cases}
 use Rattle.std.specs.Prelude.{Option, None, Some, remove}
 use Rattle.vdcp_value.specs.declared.clip_id.ClipId.{ClipId}
 use Rattle.vdcp_value.specs.declared.part.Item.{Item}
@@ -25,9 +26,7 @@ use Rattle.vdcp_auto.specs.declared.exchange.Heard.TheVariants as heard
 use Rattle.vdcp_auto.specs.declared.phase.Mode.{Mode}
 use Rattle.vdcp_auto.specs.declared.phase.Mode.TheVariants.{Plain, Confirming}
 use Rattle.vdcp_auto.specs.declared.phase.Phase.{Phase}
-use Rattle.vdcp_auto.specs.State.{Stage}
-use Rattle.vdcp_auto.specs.State.{Ready, Awaiting, Ended}
-use Rattle.vdcp_auto.specs.State.{State}
+use Rattle.vdcp_auto.specs.State.{Stage, Ready, Awaiting, State}
 use Rattle.vdcp_world.specs.Channel.{state_hearing, log_hearing, state_straying, log_straying}
 use Rattle.vdcp_world.specs.LateLine.Damage.{can_become, can_become_up, is_junk_down, is_junk_up, is_no_answer}
 use Rattle.vdcp_world.specs.LateLine.LateHeadline.{log_so_far}
@@ -40,12 +39,13 @@ use Rattle.vdcp_world.proofs.LateLine.Carrying.{carries_pushed, carries_same, Le
 use Rattle.vdcp_world.proofs.LateLine.Closing.{Ages, ready_ages, same_ages, anew_ages}
 use Rattle.vdcp_world.proofs.LateLine.Claims.{Claim, Closed, Comes, Exactly, Steady, exactly}
 use Rattle.vdcp_world.proofs.LateLine.Exactness.{came_may, exact_sends, is_exact_at, is_exact_in, may_in, no_arm, sent_may}
-use Rattle.vdcp_world.proofs.LateLine.Kept.{IsJunkDown, IsCommand, IsJunkUp, IsAnswer, DownCarries, UpCarries, StandsAt, IsKept, writable}
-use Rattle.vdcp_world.proofs.LateLine.Kept.{Delivered, delivered_nothing, delivered_command, with_state, with_port, with_down, with_up, with_delivery}
+use Rattle.vdcp_world.proofs.LateLine.Kept.{IsJunkDown, IsCommand, IsJunkUp, IsAnswer, DownCarries, UpCarries, StandsAt, IsKept, writable, Delivered, delivered_nothing, delivered_command, with_state, with_port, with_down, with_up, with_delivery}
 use Rattle.vdcp_world.proofs.LateLine.Places.{Answer, Exact, plays}
 use Rattle.vdcp_world.proofs.OnTheWay.{ReadsCommand}
 use Rattle.vdcp_world.proofs.WayLemmas.{reads_nothing, reads_command}
 use Rattle.vdcp_world.proofs.LateLine.Thinning.{Thins, all_left}
+use Rattle.vdcp_world.proofs.Kept.{clips_frame}
+use Rattle.vdcp_world.proofs.WayKept.{front_of_none}
 
 -- ---- a tick
 
@@ -150,9 +150,7 @@ ticked_kept mode S closed below c k =
         (sending (phase_to_send c.state.stop q)
         (closed.sends c.plan.list c.port.clips c.state.settled (is_selected c.port.state) c.port.state.cued c.aired
         k.ups k.downs c.state.stop q h.stands) h.exact)
-    at (Awaiting q) h =
-        (k.downs, carries_same IsJunkDown (IsCommand c.plan.list c.plan.port unit) c.down k.downs k.down_is, k.stands)
-    at (Ended o) h =
+    at _ h =
         (k.downs, carries_same IsJunkDown (IsCommand c.plan.list c.plan.port unit) c.down k.downs k.down_is, k.stands)
 
 -- ---- the port reads the oldest burst
@@ -364,13 +362,9 @@ up_kept mode S closed below c k r =
 
 -- ---- damage and junk
 
-no_front : (ms others : List Content) → [] ≡ ms ++ others → ms ≡ []
-no_front [] others e = refl
-no_front (m ∷ ms) others e = cc
-
 one_front : (ms others : List Content) (m : Content) → m ∷ [] ≡ ms ++ others → (ms ≡ m ∷ []) ⊎ (ms ≡ [])
 one_front [] others m e = inr refl
-one_front (x ∷ ms) others m e = inl (ap (λ (front : List Content). x ∷ front) (no_front ms others (rest e)) ∙ ap
+one_front (x ∷ ms) others m e = inl (ap (λ (front : List Content). x ∷ front) (front_of_none ms others (rest e)) ∙ ap
     (λ (y : Content). y ∷ []) (sym (first e)))
   where
     first : m ∷ [] ≡ x ∷ (ms ++ others) → m ≡ x
@@ -386,7 +380,7 @@ damages_down list port unit bytes = record { of_junk = junk; of_one = one }
     junk : (was : List ℕ) → can_become was bytes ≡ true → messages_of was ≡ [] → messages_of bytes ≡ []
     junk was can none =
         let (others, is) = is_beginning_of (messages_of bytes) (messages_of was) can in
-        no_front (messages_of bytes) others (sym none ∙ is)
+        front_of_none (messages_of bytes) others (sym none ∙ is)
 
     one : (was : List ℕ) (d : Phase) → can_become was bytes ≡ true → IsCommand list port unit was d
         → IsCommand list port unit bytes d ⊎ IsJunkDown bytes
@@ -418,10 +412,6 @@ hears_front unit was bytes can =
     by others is (inl same) = inl (same ∙ ap (heard_first unit) (sym is))
     by others is (inr none) = inr none
 
-or_either : (a b : Bool) → (a || b) ≡ true → (a ≡ true) ⊎ (b ≡ true)
-or_either true b e = inl refl
-or_either false b e = inr e
-
 damages_up : (mode : Mode) (unit : ℕ) (bytes : List ℕ)
     → Damages (IsJunkUp mode unit) (IsAnswer unit) (λ was. can_become_up mode unit was bytes) bytes
 damages_up mode unit bytes = record { of_junk = junk; of_one = one }
@@ -430,7 +420,7 @@ damages_up mode unit bytes = record { of_junk = junk; of_one = one }
     none_is_junk none = ap (is_no_answer mode) none
 
     junk : (was : List ℕ) → can_become_up mode unit was bytes ≡ true → IsJunkUp mode unit was → IsJunkUp mode unit bytes
-    junk was can j = by (or_either (can_become was bytes) (is_junk_up mode unit bytes) can)
+    junk was can j = by (or_cases (can_become was bytes) (is_junk_up mode unit bytes) can)
       where
         heard_same : (heard_in unit bytes ≡ heard_in unit was) ⊎ (heard_in unit bytes ≡ None) → IsJunkUp mode unit bytes
         heard_same (inl same) = ap (is_no_answer mode) same ∙ j
@@ -442,7 +432,7 @@ damages_up mode unit bytes = record { of_junk = junk; of_one = one }
 
     one : (was : List ℕ) (x : Answer) → can_become_up mode unit was bytes ≡ true → IsAnswer unit was x
         → IsAnswer unit bytes x ⊎ IsJunkUp mode unit bytes
-    one was x can i = by (or_either (can_become was bytes) (is_junk_up mode unit bytes) can)
+    one was x can i = by (or_cases (can_become was bytes) (is_junk_up mode unit bytes) can)
       where
         heard_same : (heard_in unit bytes ≡ heard_in unit was) ⊎ (heard_in unit bytes ≡ None)
             → IsAnswer unit bytes x ⊎ IsJunkUp mode unit bytes
@@ -457,7 +447,7 @@ damages_up mode unit bytes = record { of_junk = junk; of_one = one }
 junk_down : (bytes : List ℕ) → is_junk_down bytes ≡ true → IsJunkDown bytes
 junk_down bytes can =
     let (others, is) = is_beginning_of (messages_of bytes) [] can in
-    no_front (messages_of bytes) others is
+    front_of_none (messages_of bytes) others is
 
 -- ---- the port by itself
 
@@ -475,17 +465,6 @@ frame_ages p = by (completes_cue p) (ends_clip p)
     by true false = ready_ages (is_selected p.state) p.state.cued
     by false true = same_ages (is_selected p.state) p.state.cued
     by false false = same_ages (is_selected p.state) p.state.cued
-
-frame_clips : (p : ClockedPort) → (after_frame p).clips ≡ p.clips
-frame_clips p = by (completes_cue p) (ends_clip p)
-  where
-    by : (cue clip : Bool)
-        → (if clip then after_ended (if cue then after_ready (counted_down p) else counted_down p)
-        else (if cue then after_ready (counted_down p) else counted_down p)).clips ≡ p.clips
-    by true true = refl
-    by true false = refl
-    by false true = refl
-    by false false = refl
 
 -- ---- all events
 
@@ -505,51 +484,68 @@ kept_event mode S closed below c event.Tick r k =
       up_is = k.up_is;
       stands = t.stands;
     }
-kept_event mode S closed below c event.Down r k = down_kept mode (ExactlyIn S c) (exactly S (may c) closed.steady) below c k
+kept_event mode S closed below c event.Down r k =
+    down_kept mode (ExactlyIn S c) (exactly S (may c) closed.steady) below c k
 kept_event mode S closed below c event.Up r k = up_kept mode S closed below c k r
-kept_event mode S closed below c event.DownCopy r k = down_copy_kept mode (ExactlyIn S c) (exactly S (may c) closed.steady) below c k
+kept_event mode S closed below c event.DownCopy r k =
+    down_copy_kept mode (ExactlyIn S c) (exactly S (may c) closed.steady) below c k
 kept_event mode S closed below c event.UpCopy r k = up_copy_kept mode S closed below c k r
 kept_event mode S closed below c (event.LoseDown place) r k =
     with_down mode (ExactlyIn S c) (exactly S (may c) closed.steady) c k (remove c.down place) (left_without IsJunkDown
     (IsCommand c.plan.list c.plan.port c.port.state.unit) c.down k.downs place k.down_is)
 kept_event mode S closed below c (event.LoseUp place) r k =
-    with_up mode (ExactlyIn S c) (exactly S (may c) closed.steady) c k (remove c.up place) (left_without (IsJunkUp mode c.port.state.unit)
+    with_up mode (ExactlyIn S c) (exactly S (may c) closed.steady) c k (remove c.up place)
+    (left_without (IsJunkUp mode c.port.state.unit)
     (IsAnswer c.port.state.unit) c.up k.ups place k.up_is)
 kept_event mode S closed below c (event.AlterDown place bytes) r k =
-    with_down mode (ExactlyIn S c) (exactly S (may c) closed.steady) c k _ (left_damaged IsJunkDown (IsCommand c.plan.list c.plan.port c.port.state.unit)
+    with_down mode (ExactlyIn S c) (exactly S (may c) closed.steady) c k _ (left_damaged IsJunkDown
+    (IsCommand c.plan.list c.plan.port c.port.state.unit)
     (λ was. can_become was bytes) bytes place c.down k.downs
     (damages_down c.plan.list c.plan.port c.port.state.unit bytes) k.down_is)
 kept_event mode S closed below c (event.AlterUp place bytes) r k =
-    with_up mode (ExactlyIn S c) (exactly S (may c) closed.steady) c k _ (left_damaged (IsJunkUp mode c.port.state.unit) (IsAnswer c.port.state.unit)
+    with_up mode (ExactlyIn S c) (exactly S (may c) closed.steady) c k _ (left_damaged (IsJunkUp mode c.port.state.unit)
+    (IsAnswer c.port.state.unit)
     (λ was. can_become_up c.plan.mode c.port.state.unit was bytes) bytes
     place c.up k.ups
     (subst (λ (m : Mode). Damages (IsJunkUp mode c.port.state.unit) (IsAnswer c.port.state.unit)
     (λ was. can_become_up m c.port.state.unit was bytes) bytes) (sym k.mode_is)
     (damages_up mode c.port.state.unit bytes)) k.up_is)
 kept_event mode S closed below c (event.JunkDown place bytes) r k =
-    with_down mode (ExactlyIn S c) (exactly S (may c) closed.steady) c k _ (left_same IsJunkDown (IsCommand c.plan.list c.plan.port c.port.state.unit) _ k.downs
+    with_down mode (ExactlyIn S c) (exactly S (may c) closed.steady) c k _ (left_same IsJunkDown (IsCommand c.plan.list
+    c.plan.port c.port.state.unit) _ k.downs
     (carries_junk IsJunkDown (IsCommand c.plan.list c.plan.port c.port.state.unit) c.down k.downs place bytes
     (is_junk_down bytes) (junk_down bytes) k.down_is))
 kept_event mode S closed below c (event.JunkUp place bytes) r k =
-    with_up mode (ExactlyIn S c) (exactly S (may c) closed.steady) c k _ (left_same (IsJunkUp mode c.port.state.unit) (IsAnswer c.port.state.unit) _ k.ups
+    with_up mode (ExactlyIn S c) (exactly S (may c) closed.steady) c k _ (left_same (IsJunkUp mode c.port.state.unit)
+    (IsAnswer c.port.state.unit) _ k.ups
     (carries_junk (IsJunkUp mode c.port.state.unit) (IsAnswer c.port.state.unit) c.up k.ups place bytes
     (is_junk_up c.plan.mode c.port.state.unit bytes)
     (λ e. ap (λ (m : Mode). is_junk_up m c.port.state.unit bytes) (sym k.mode_is) ∙ e) k.up_is))
 kept_event mode S closed below c event.Timeout r k =
-    with_state mode (ExactlyIn S c) (ExactlyIn S (after_late_event c event.Timeout)) c k (came_to c.plan None c.state) _ (came_kept mode S closed below c k r None (inl refl))
+    with_state mode (ExactlyIn S c) (ExactlyIn S (after_late_event c event.Timeout)) c k (came_to c.plan None c.state) _
+    (came_kept mode S closed below c k r None (inl refl))
 kept_event mode S closed below c event.Ready r k =
-    with_port mode (ExactlyIn S c) (exactly S (may c) closed.steady) c k (after_ready c.port) refl refl (ready_ages (is_selected c.port.state) c.port.state.cued)
+    with_port mode (ExactlyIn S c) (exactly S (may c) closed.steady) c k (after_ready c.port) refl refl
+    (ready_ages (is_selected c.port.state) c.port.state.cued)
 kept_event mode S closed below c event.End r k =
-    with_port mode (ExactlyIn S c) (exactly S (may c) closed.steady) c k (after_ended c.port) refl refl (same_ages (is_selected c.port.state) c.port.state.cued)
+    with_port mode (ExactlyIn S c) (exactly S (may c) closed.steady) c k (after_ended c.port) refl refl
+    (same_ages (is_selected c.port.state) c.port.state.cued)
 kept_event mode S closed below c event.Frame r k =
-    with_port mode (ExactlyIn S c) (exactly S (may c) closed.steady) c k (after_frame c.port) (below.unit_frame c.port) (frame_clips c.port) (frame_ages c.port)
-kept_event mode S closed below c event.Take r k = with_state mode (ExactlyIn S c) (ExactlyIn S (after_late_event c event.Take)) c k (taken c.state) c.log k.stands
-kept_event mode S closed below c event.Stop r k = with_state mode (ExactlyIn S c) (ExactlyIn S (after_late_event c event.Stop)) c k (stopped c.state) c.log k.stands
+    with_port mode (ExactlyIn S c) (exactly S (may c) closed.steady) c k (after_frame c.port) (below.unit_frame c.port)
+    (clips_frame c.port) (frame_ages c.port)
+kept_event mode S closed below c event.Take r k =
+    with_state mode (ExactlyIn S c) (ExactlyIn S (after_late_event c event.Take)) c k (taken c.state) c.log k.stands
+kept_event mode S closed below c event.Stop r k =
+    with_state mode (ExactlyIn S c) (ExactlyIn S (after_late_event c event.Stop)) c k (stopped c.state) c.log k.stands
 kept_event mode S closed below c event.ServerAnew r k =
-    with_port mode (ExactlyIn S c) (exactly S (may c) closed.steady) c k (made_anew c.port) refl refl (anew_ages (is_selected c.port.state) c.port.state.cued)
+    with_port mode (ExactlyIn S c) (exactly S (may c) closed.steady) c k (made_anew c.port) refl refl
+    (anew_ages (is_selected c.port.state) c.port.state.cued)
 kept_event mode S closed below c event.AutomationAnew r k =
-    with_state mode (ExactlyIn S c) (ExactlyIn S (after_late_event c event.AutomationAnew)) c k _ _ (came_kept mode S closed below c k r None (inl refl))
+    with_state mode (ExactlyIn S c) (ExactlyIn S (after_late_event c event.AutomationAnew)) c k _ _
+    (came_kept mode S closed below c k r None (inl refl))
 kept_event mode S closed below c event.StrayAck r k =
-    with_state mode (ExactlyIn S c) (ExactlyIn S (after_late_event c event.StrayAck)) c k _ _ (stray_kept mode S closed below c k r Ack refl)
+    with_state mode (ExactlyIn S c) (ExactlyIn S (after_late_event c event.StrayAck)) c k _ _ (stray_kept mode S closed
+    below c k r Ack refl)
 kept_event mode S closed below c (event.StrayNak byte) r k =
-    with_state mode (ExactlyIn S c) (ExactlyIn S (after_late_event c (event.StrayNak byte))) c k _ _ (stray_kept mode S closed below c k r (Nak byte) refl)
+    with_state mode (ExactlyIn S c) (ExactlyIn S (after_late_event c (event.StrayNak byte))) c k _ _
+    (stray_kept mode S closed below c k r (Nak byte) refl)

@@ -1,57 +1,27 @@
 -- The controller of a late channel has had calls alone, and its log is of the exchanges that these ended.
 use Rattle.std.proofs.Common.{List, [], ◌∷◌, sym, subst}
-use Rattle.std.specs.Prelude.{Option, None, Some}
+use Rattle.std.specs.Prelude.{None}
 use Rattle.vdcp_auto.specs.Course as call
 use Rattle.vdcp_auto.specs.Course.{Reached, begun, called, Receive}
 use Rattle.vdcp_auto.specs.Heard.{heard_in}
-use Rattle.vdcp_auto.specs.Plan.{Plan}
-use Rattle.vdcp_auto.specs.State.{State}
-use Rattle.vdcp_auto.specs.declared.exchange.Exchange.{Exchange}
-use Rattle.vdcp_auto.specs.declared.exchange.Heard.{Heard}
-use Rattle.vdcp_words.specs.declared.reply.Reply.{Reply}
 use Rattle.vdcp_words.specs.declared.reply.Reply.TheVariants.{Ack, Nak}
-use Rattle.vdcp_auto.specs.declared.exchange.Heard.TheVariants as heard
-use Rattle.vdcp_auto.specs.declared.phase.Mode.{Mode}
-use Rattle.vdcp_auto.specs.declared.phase.Mode.TheVariants.{Plain, Confirming}
-use Rattle.vdcp_world.specs.Channel.{state_hearing, log_hearing, state_straying, log_straying}
 use Rattle.vdcp_world.specs.LateLine.LateChannel.{LateChannel, new_late_channel, after_late_event, after_late_events, IsLateReached, oldest}
 use Rattle.vdcp_world.specs.declared.late.event.LateEvent.{LateEvent}
 use Rattle.vdcp_world.specs.declared.late.event.LateEvent.TheVariants as event
-
-hears_reached : (plan : Plan) (state : State) (log : List Exchange) (h : Option Heard) → Reached plan state log
-    → Reached plan (state_hearing plan h state) (log_hearing plan h state log)
-hears_reached plan state log None r = r
-hears_reached plan state log (Some h) r = called r (Receive (Some h))
-
-strays_reached : (mode : Mode) (plan : Plan) (state : State) (log : List Exchange) (receipt : Reply)
-    → Reached plan state log
-    → Reached plan (state_straying mode plan receipt state) (log_straying mode plan receipt state log)
-strays_reached Plain plan state log receipt r = r
-strays_reached Confirming plan state log receipt r = called r (Receive (Some (heard.Reply receipt)))
+use Rattle.vdcp_world.proofs.HeadlineProof.{hears_reached, strays_reached}
 
 pub controller_event : (c : LateChannel) (e : LateEvent) → Reached c.plan c.state c.log
     → Reached (after_late_event c e).plan (after_late_event c e).state (after_late_event c e).log
 controller_event c event.Tick r = called r call.Tick
-controller_event c event.Down r = r
 controller_event c event.Up r = hears_reached c.plan c.state c.log (heard_in c.port.state.unit (oldest c.up)) r
-controller_event c event.DownCopy r = r
 controller_event c event.UpCopy r = hears_reached c.plan c.state c.log (heard_in c.port.state.unit (oldest c.up)) r
-controller_event c (event.LoseDown place) r = r
-controller_event c (event.LoseUp place) r = r
-controller_event c (event.AlterDown place bytes) r = r
-controller_event c (event.AlterUp place bytes) r = r
-controller_event c (event.JunkDown place bytes) r = r
-controller_event c (event.JunkUp place bytes) r = r
 controller_event c event.Timeout r = called r (Receive None)
-controller_event c event.Ready r = r
-controller_event c event.End r = r
-controller_event c event.Frame r = r
 controller_event c event.Take r = called r call.Take
 controller_event c event.Stop r = called r call.Stop
-controller_event c event.ServerAnew r = r
 controller_event c event.AutomationAnew r = called (called r (Receive None)) call.Forget
 controller_event c event.StrayAck r = strays_reached c.plan.mode c.plan c.state c.log Ack r
 controller_event c (event.StrayNak byte) r = strays_reached c.plan.mode c.plan c.state c.log (Nak byte) r
+controller_event c _ r = r
 
 controller_events : (c : LateChannel) (es : List LateEvent) → Reached c.plan c.state c.log
     → Reached (after_late_events c es).plan (after_late_events c es).state (after_late_events c es).log

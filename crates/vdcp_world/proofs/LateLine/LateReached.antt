@@ -4,7 +4,7 @@ use Rattle.vdcp_port.specs.Clock.{ClockedPort}
 use Rattle.vdcp_port.specs.Port.{is_selected}
 use Rattle.vdcp_auto.specs.Course.{Reached, begun}
 use Rattle.vdcp_auto.specs.Plan.{Plan}
-use Rattle.vdcp_auto.specs.State.{Stage, Ready, Awaiting, Ended}
+use Rattle.vdcp_auto.specs.State.{Stage, Ready, Ended}
 use Rattle.vdcp_auto.specs.declared.phase.Mode.{Mode}
 use Rattle.vdcp_auto.specs.declared.phase.Mode.TheVariants.{Plain, Confirming}
 use Rattle.vdcp_auto.specs.declared.phase.Phase.TheVariants as phase
@@ -72,10 +72,9 @@ airs mode S covers c k =
   where
     by : (stage : Stage) → S c.plan.list c.port.clips c.state.settled (is_selected c.port.state) c.port.state.cued
         c.aired k.ups k.downs stage → EndHoldsAt mode c.plan.list c.port.clips c.aired c.state.settled stage
-    by (Ready q) h = tt
-    by (Awaiting q) h = tt
     by (Ended o) h = covers.ends c.plan.list c.port.clips c.state.settled (is_selected c.port.state) c.port.state.cued
         c.aired k.ups k.downs o h
+    by _ h = tt
 
 pub reached_airs : Below → (c : LateChannel) → IsLateReached c → AirsIn c
 reached_airs below c r = by r.plan.mode refl

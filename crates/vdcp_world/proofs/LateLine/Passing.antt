@@ -1,7 +1,8 @@
 -- A reply that answers the phase's command was sent for a command of the phase's own stretch, and so all that is older
 -- has
 -- passed. The one exception is a status that was asked for in Wait and is heard in Probe.
-use Rattle.std.proofs.Common.{◌≡◌, ℕ, ◌+◌, ◌*◌, ◌<◌, ◌⊎◌, inl, inr, Bool, true, false, not, ◌||◌, ◌&&◌, List, ◌∷◌, length, refl, arith, sym, ap, subst, ◌∙◌}
+use Rattle.std.proofs.Common.{◌≡◌, ℕ, ◌+◌, ◌*◌, ◌<◌, ◌⊎◌, inl, inr, Bool, true, false, ◌||◌, ◌&&◌, List, ◌∷◌, length, arith, sym, ap, subst, ◌∙◌}
+use Rattle.std.proofs.lemmas.Bool.{not-false}
 use Rattle.std.specs.List.{list_any}
 use Rattle.vdcp_words.specs.declared.reply.Reply.{Reply}
 use Rattle.vdcp_words.specs.declared.reply.Reply.TheVariants as reply
@@ -62,18 +63,13 @@ active_kind r e = grind arith
 
 asked_kind : (q : Phase) (r : Reply) → is_asked q r ≡ true → kind_of r ≡ wanted q
 asked_kind phase.Open r e = opened_kind r e
-asked_kind phase.Select r e = ack_kind r e
 asked_kind phase.Seen r e = state_kind r e
 asked_kind (phase.Exists k) r e = presence_kind r e
-asked_kind (phase.Cue k) r e = ack_kind r e
 asked_kind (phase.Wait k) r e = state_kind r e
-asked_kind (phase.Play k) r e = ack_kind r e
 asked_kind (phase.Probe k) r e = state_kind r e
 asked_kind (phase.Check k) r e = active_kind r e
 asked_kind phase.Drain r e = state_kind r e
-asked_kind phase.Close r e = ack_kind r e
-asked_kind phase.Halt r e = ack_kind r e
-asked_kind phase.HaltClose r e = ack_kind r e
+asked_kind _ r e = ack_kind r e
 
 -- an answer that the phase asks for was sent for a command that wants it
 pub same_wanted : (q d : Phase) (r : Reply) → is_refusal r ≡ false → fits_phase d r ≡ true → is_asked q r ≡ true
@@ -139,12 +135,8 @@ own_wait : (n k : ℕ) (d : Phase) → k < n → Lies Plain n (5 * k + 4) (5 * k
 own_wait n k (phase.Wait j) below l = let e : j ≡ k = omega arith in ap phase.Wait e
 own_wait n k d below l = absurd (omega arith)
 
-pub fitting : (b : Bool) → not b ≡ false → b ≡ true
-fitting true e = refl
-fitting false e = cc
-
 pub fits_as : (a : Answer) (q : Phase) → a.to ≡ q → misfits a ≡ false → fits_phase q a.reply ≡ true
-fits_as a q is m = subst (λ (p : Phase). fits_phase p a.reply ≡ true) is (fitting (fits_phase a.to a.reply) m)
+fits_as a q is m = subst (λ (p : Phase). fits_phase p a.reply ≡ true) is (not-false (fits_phase a.to a.reply) m)
 
 pub exists_no_ack : (n k : ℕ) (ups : List Answer) (downs : List Phase) → k < n → list_any misfits ups ≡ false
     → Climbs (5 * k + 2) (5 * k + 2) (stretches Plain n (pipe_of ups downs)) → list_any says_ack ups ≡ false

@@ -1,14 +1,14 @@
 -- Where the port is in each phase of the controller, in plain mode, and what the answers on the way up tell of it.
-use Rattle.std.proofs.Common.{◌≡◌, ℕ, ◌+◌, ◌<◌, ◌≤◌, ◌⊎◌, Bool, true, false, not, ◌&&◌, ◌||◌, List, [], ◌∷◌, length, take, Option, Some, None}
+use Rattle.std.proofs.Common.{◌≡◌, ℕ, ◌+◌, ◌<◌, ◌≤◌, ◌⊎◌, Bool, true, false, not, ◌&&◌, ◌||◌, List, [], ◌∷◌, length, take}
 use Rattle.std.specs.List.{list_any}
 use Rattle.std.specs.Prelude.{slice_get}
 use Rattle.vdcp_value.specs.declared.part.Item.{Item}
 use Rattle.vdcp_words.specs.declared.reply.Reply.{Reply}
-use Rattle.vdcp_port.specs.Port.{Cued, empty, cueing, done, is_done as is_done_cue}
+use Rattle.vdcp_port.specs.Port.{Cued, empty, is_done as is_done_cue}
 use Rattle.vdcp_auto.specs.Replies.{is_ack, is_refusal, is_done, is_empty}
 use Rattle.vdcp_auto.specs.declared.phase.Phase.{Phase}
 use Rattle.vdcp_auto.specs.declared.phase.Phase.TheVariants as phase
-use Rattle.vdcp_world.proofs.PhaseTable.{is_asked}
+use Rattle.vdcp_world.proofs.PhaseTable.{is_asked, Near, cued_item}
 
 -- ---- the pipe
 
@@ -57,12 +57,6 @@ abbrev pub shows_no_cue : Answer → Bool
 shows_no_cue a = waits a.to && is_empty a.reply
 
 -- ---- the port
-
--- what is cued or being cued
-abbrev pub cued_item : Cued → Option Item
-cued_item empty = None
-cued_item (cueing item) = Some item
-cued_item (done item) = Some item
 
 -- of a port that can be made to play: it has the item of this event in its cued slot; that cue is done; it has none
 abbrev pub HasItem : List Item → Bool → Cued → ℕ → Type 0
@@ -127,13 +121,6 @@ pub record Checking (list : List Item) (settled : ℕ) (selected : Bool) (cued :
   pub has_none : HasNone selected cued
 
 -- ---- in the halt, and after an end
-
--- what was aired is a beginning of the list, and all of it is settled but one event at most
-pub record Near (list aired : List Item) (settled : ℕ) : Type 0 where
-  pub aired_is : aired ≡ take (length aired) list
-  pub within : length aired ≤ length list
-  pub low : settled ≤ length aired
-  pub high : length aired ≤ settled + 1
 
 -- nothing is cued, or the first event that isn't settled
 abbrev pub LastCue : List Item → ℕ → Bool → Cued → List Item → Type 0

@@ -19,9 +19,10 @@ use Rattle.vdcp_world.proofs.LateLine.Coming.{came_stands}
 use Rattle.vdcp_world.proofs.LateLine.Endings.{ended_either, ended_settles, settled_at}
 use Rattle.vdcp_world.proofs.LateLine.ExactPlaces.{exact_in}
 use Rattle.vdcp_world.proofs.LateLine.Exactness.{is_exact_at, is_exact_in, none_taken}
-use Rattle.vdcp_world.proofs.LateLine.Places.{Answer, At, Exact, Near, Place, Safe, pipe_of}
+use Rattle.vdcp_world.proofs.LateLine.Places.{Answer, At, Exact, Place, Safe, pipe_of}
 use Rattle.vdcp_world.proofs.LateLine.Safety.{calm_in, near_at}
 use Rattle.vdcp_world.proofs.LateLine.Standing.{PlaceAt, Stands, stands_thins, stands_copied, stands_reads, stands_ages, sends}
+use Rattle.vdcp_world.proofs.PhaseTable.{Near}
 
 -- in which phases how many events are aired and settled
 at_in : (list : List Item) (settled : ℕ) (s : Bool) (a : Cued) (aired : List Item) (ups : List Answer)

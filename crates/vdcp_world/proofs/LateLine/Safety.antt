@@ -1,5 +1,6 @@
 -- In the halt and after an end: what is still on the way airs at most one event more, and that in order.
-use Rattle.std.proofs.Common.{◌≡◌, ℕ, ◌+◌, ◌*◌, ◌≤◌, ◌⊎◌, inl, inr, Bool, true, false, ◌||◌, List, [], ◌∷◌, ◌++◌, length, take, refl, arith, sym, ap, subst, ◌∙◌, length-take}
+use Rattle.std.proofs.Common.{◌≡◌, ℕ, ◌+◌, ◌*◌, ◌≤◌, ◌⊎◌, inl, inr, Bool, true, false, List, [], ◌∷◌, ◌++◌, length, take, refl, arith, sym, ap, subst, ◌∙◌}
+use Rattle.std.proofs.lemmas.Bool.{or_parts}
 use Rattle.std.specs.List.{list_any}
 use Rattle.vdcp_value.specs.declared.part.Item.{Item}
 use Rattle.vdcp_words.specs.declared.reply.Reply.{Reply}
@@ -13,24 +14,10 @@ use Rattle.vdcp_world.specs.LateLine.Pipe.{Climbs, stretches, IsPipe}
 use Rattle.vdcp_world.proofs.LateLine.Delivering.{aired_same, item_same, none_same, no_more, airs_none}
 use Rattle.vdcp_world.proofs.LateLine.DeliveringPlay.{airs_item, airs_nothing}
 use Rattle.vdcp_world.proofs.LateLine.Executed.{Does, Executed, left_cued, put_on_air}
-use Rattle.vdcp_world.proofs.LateLine.Places.{Answer, pipe_of, plays, arms, HasItem, At, ToAir, OnAir, Playing}
-use Rattle.vdcp_world.proofs.LateLine.Places.{Near, LastCue, Unarmed, Safe, Place}
+use Rattle.vdcp_world.proofs.LateLine.Places.{Answer, pipe_of, plays, arms, HasItem, At, ToAir, OnAir, Playing, LastCue, Unarmed, Safe, Place}
 use Rattle.vdcp_world.proofs.LateLine.Stretches.{Lies, downs_climb, none_within}
-
-pub taken : (list : List Item) (k : ℕ) → k ≤ length list → length (take k list) ≡ k
-taken list k l = simp length-take (omega arith)
-
--- the first k events were aired, and all of them are settled but one at most
-pub near_of : (list aired : List Item) (settled k : ℕ) → aired ≡ take k list → k ≤ length list → settled ≤ k
-    → k ≤ settled + 1 → Near list aired settled
-near_of list aired settled k is within low high =
-    let size : length aired ≡ k = ap length is ∙ taken list k within in
-    record {
-      aired_is = is ∙ sym (ap (λ (n : ℕ). take n list) size);
-      within = omega (arith, size, within);
-      low = omega (arith, size, low);
-      high = omega (arith, size, high);
-    }
+use Rattle.vdcp_world.proofs.Exchanges.{near_of}
+use Rattle.vdcp_world.proofs.PhaseTable.{Near}
 
 pub near_at : (list aired : List Item) (settled k : ℕ) → At list aired settled k → Near list aired settled
 near_at list aired settled k h =
@@ -39,12 +26,6 @@ near_at list aired settled k h =
 pub near_same : (list aired airs : List Item) (settled : ℕ) → airs ≡ [] → Near list aired settled
     → Near list (aired ++ airs) settled
 near_same list aired airs settled e h = subst (λ (a : List Item). Near list a settled) (sym (aired_same aired airs e)) h
-
-first_of_two : (x y : Bool) → (x || y) ≡ false → x ≡ false
-first_of_two x y e = grind arith
-
-second_of_two : (x y : Bool) → (x || y) ≡ false → y ≡ false
-second_of_two x y e = grind arith
 
 -- ---- the port reads the oldest command
 
@@ -85,22 +66,7 @@ unarmed_does : (list : List Item) (settled : ℕ) (s : Bool) (a : Cued) (aired :
     (t : Bool) (b : Cued) (airs : List Item)
     → arms d ≡ false → Near list aired settled → LastCue list settled s a aired → Does list d s a r t b airs
     → Near list (aired ++ airs) settled × LastCue list settled t b (aired ++ airs)
-unarmed_does list settled s a aired phase.Open r t b airs e near h x = (
-  near_same list aired airs settled x.2 near,
-  last_same list settled s a aired t b airs (no_more s t x.0)
-      (inr x.1) x.2 h,
-)
 unarmed_does list settled s a aired phase.Select r t b airs e near h x = cc
-unarmed_does list settled s a aired phase.Seen r t b airs e near h x = (
-  near_same list aired airs settled x.2 near,
-  last_same list settled s a aired t b airs (no_more s t x.0)
-      (inr x.1) x.2 h,
-)
-unarmed_does list settled s a aired (phase.Exists k) r t b airs e near h x = (
-  near_same list aired airs settled x.2 near,
-  last_same list settled s a aired t b airs (no_more s t x.0)
-      (inr x.1) x.2 h,
-)
 unarmed_does list settled s a aired (phase.Cue k) r t b airs e near h x = cc
 unarmed_does list settled s a aired (phase.Wait k) r t b airs e near h x = (
   near_same list aired airs settled x.0.2 near,
@@ -123,22 +89,17 @@ unarmed_does list settled s a aired (phase.Probe k) r t b airs e near h x = (
   last_same list settled s a aired t b airs (no_more s t x.0.0)
       (inr x.0.1) x.0.2 h,
 )
-unarmed_does list settled s a aired (phase.Check k) r t b airs e near h x = (
-  near_same list aired airs settled x.2 near,
-  last_same list settled s a aired t b airs (no_more s t x.0)
-      (inr x.1) x.2 h,
-)
-unarmed_does list settled s a aired phase.Drain r t b airs e near h x = (
-  near_same list aired airs settled x.2 near,
-  last_same list settled s a aired t b airs (no_more s t x.0)
-      (inr x.1) x.2 h,
-)
 unarmed_does list settled s a aired phase.Close r t b airs e near h x =
     (near_same list aired airs settled x.1 near, last_same list settled s a aired t b airs x.0 x.2 x.1 h)
 unarmed_does list settled s a aired phase.Halt r t b airs e near h x =
     (near_same list aired airs settled x.1 near, last_same list settled s a aired t b airs x.0 x.2 x.1 h)
 unarmed_does list settled s a aired phase.HaltClose r t b airs e near h x =
     (near_same list aired airs settled x.1 near, last_same list settled s a aired t b airs x.0 x.2 x.1 h)
+unarmed_does list settled s a aired _ r t b airs e near h x = (
+  near_same list aired airs settled x.2 near,
+  last_same list settled s a aired t b airs (no_more s t x.0) (inr x.1)
+      x.2 h,
+)
 
 pub safe_keeps : (list : List Item) (settled : ℕ) (s : Bool) (a : Cued) (aired : List Item) (d : Phase)
     (downs : List Phase) (r : Reply) (t : Bool) (b : Cued)
@@ -151,15 +112,15 @@ safe_keeps list settled s a aired d downs r t b airs h x = by h.calm
         → Safe list settled t b (aired ++ airs) downs
     by (inl none) = record {
       near = near_same list aired airs settled
-          (airs_none list d s a r t b airs (first_of_two (plays d) (list_any plays downs) none) x.does) h.near;
-      calm = inl (second_of_two (plays d) (list_any plays downs) none);
+          (airs_none list d s a r t b airs (or_parts (plays d) (list_any plays downs) none).0 x.does) h.near;
+      calm = inl (or_parts (plays d) (list_any plays downs) none).1;
     }
     by (inr u) =
         let after = unarmed_does list settled s a aired d r t b airs
-        (first_of_two (arms d) (list_any arms downs) u.none_arms) h.near u.last x.does in
+        (or_parts (arms d) (list_any arms downs) u.none_arms).0 h.near u.last x.does in
         record {
           near = after.0;
-          calm = inr (record { none_arms = second_of_two (arms d) (list_any arms downs) u.none_arms; last = after.1 });
+          calm = inr (record { none_arms = (or_parts (arms d) (list_any arms downs) u.none_arms).1; last = after.1 });
         }
 
 -- ---- from each phase
@@ -279,12 +240,6 @@ pub calm_in : (list : List Item) (settled : ℕ) (s : Bool) (a : Cued) (aired : 
     (downs : List Phase) (q : Phase)
     → Place list settled s a aired ups downs q → IsPipe Plain (length list) q (pipe_of ups downs)
     → Safe list settled s a aired downs
-calm_in list settled s a aired ups downs phase.Open h c =
-    safe_calm list settled s a aired downs 0 h (none_plays Plain (length list) ups downs phase.Open refl c)
-calm_in list settled s a aired ups downs phase.Select h c =
-    safe_calm list settled s a aired downs 0 h (none_plays Plain (length list) ups downs phase.Select refl c)
-calm_in list settled s a aired ups downs phase.Seen h c =
-    safe_calm list settled s a aired downs 0 h (none_plays Plain (length list) ups downs phase.Seen refl c)
 calm_in list settled s a aired ups downs (phase.Exists k) h c =
     safe_calm list settled s a aired downs k h.0 (none_plays Plain (length list) ups downs (phase.Exists k) refl c)
 calm_in list settled s a aired ups downs (phase.Cue k) h c =
@@ -307,3 +262,5 @@ calm_in list settled s a aired ups downs phase.Close h c =
     safe_calm list settled s a aired downs (length list) h (none_plays Plain (length list) ups downs phase.Close refl c)
 calm_in list settled s a aired ups downs phase.Halt h c = h
 calm_in list settled s a aired ups downs phase.HaltClose h c = h
+calm_in list settled s a aired ups downs q h c =
+    safe_calm list settled s a aired downs 0 h (none_plays Plain (length list) ups downs q refl c)

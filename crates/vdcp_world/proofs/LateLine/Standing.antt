@@ -16,20 +16,19 @@ use Rattle.vdcp_auto.specs.declared.outcome.Outcome.{Outcome}
 use Rattle.vdcp_auto.specs.declared.phase.Mode.TheVariants.{Plain}
 use Rattle.vdcp_auto.specs.declared.phase.Phase.{Phase}
 use Rattle.vdcp_auto.specs.declared.phase.Phase.TheVariants as phase
-use Rattle.vdcp_auto.specs.State.{Stage}
-use Rattle.vdcp_auto.specs.State.{Ready, Awaiting, Ended}
+use Rattle.vdcp_auto.specs.State.{Stage, Ready, Awaiting, Ended}
 use Rattle.vdcp_world.specs.LateLine.Pipe.{IsPipe}
 use Rattle.vdcp_world.proofs.LateLine.Closing.{Ages, flow_copied, flow_thins, place_ages, place_thins, pushed, safe_ages, safe_thins}
 use Rattle.vdcp_world.proofs.LateLine.ConfirmedPlaces.{none_copied, none_sent}
 use Rattle.vdcp_world.proofs.LateLine.Delivering.{at_same, airs_none, none_pushed, cueing_keeps, waiting_keeps}
 use Rattle.vdcp_world.proofs.LateLine.DeliveringPlay.{playing_keeps, checking_keeps}
-use Rattle.vdcp_world.proofs.LateLine.Endings.{EndedAt, Misses, ended_ages, ended_copied, ended_reads, ended_thins, knows, settled_at}
+use Rattle.vdcp_world.proofs.LateLine.Endings.{EndedAt, Misses, ended_ages, ended_copied, ended_reads, ended_thins, settled_at}
 use Rattle.vdcp_world.proofs.LateLine.Executed.{Executed}
-use Rattle.vdcp_world.proofs.LateLine.Places.{Answer, pipe_of, plays, waits, arms, misfits}
-use Rattle.vdcp_world.proofs.LateLine.Places.{At, ToAir, OnAir, Playing, Unarmed, Safe, Place}
+use Rattle.vdcp_world.proofs.LateLine.Places.{Answer, pipe_of, plays, waits, arms, misfits, At, ToAir, OnAir, Playing, Unarmed, Safe, Place}
 use Rattle.vdcp_world.proofs.LateLine.Safety.{safe_keeps, calm_in, quiet, quiet_first}
 use Rattle.vdcp_world.proofs.LateLine.Stretches.{lies_at, pipe_delivered}
 use Rattle.vdcp_world.proofs.LateLine.Thinning.{Thins, none_thins}
+use Rattle.vdcp_world.proofs.PhaseTable.{knows}
 
 -- a presence that is said wrongly
 abbrev pub differs : Bool → Bool → Bool
@@ -150,12 +149,6 @@ own_sends : (list : List Item) (settled : ℕ) (s : Bool) (a : Cued) (aired : Li
     → Place list settled s a aired ups downs q × IsPipe Plain (length list) q (pipe_of ups downs)
     → Place list settled s a aired ups (downs ++ q ∷ []) q × IsPipe Plain (length list) q
     (pipe_of ups (downs ++ q ∷ []))
-own_sends list settled s a aired ups downs phase.Open h =
-    (h.0, pushed Plain (length list) 1 ups downs phase.Open (omega arith) h.1)
-own_sends list settled s a aired ups downs phase.Select h =
-    (h.0, pushed Plain (length list) 1 ups downs phase.Select (omega arith) h.1)
-own_sends list settled s a aired ups downs phase.Seen h =
-    (h.0, pushed Plain (length list) 1 ups downs phase.Seen (omega arith) h.1)
 own_sends list settled s a aired ups downs (phase.Exists k) h =
     (h.0, pushed Plain (length list) (5 * k + 1) ups downs (phase.Exists k) (omega arith) h.1)
 own_sends list settled s a aired ups downs (phase.Cue k) h =
@@ -182,6 +175,7 @@ own_sends list settled s a aired ups downs phase.Halt h =
     (safe_sends list settled s a aired downs phase.Halt refl refl h.0, tt)
 own_sends list settled s a aired ups downs phase.HaltClose h =
     (safe_sends list settled s a aired downs phase.HaltClose refl refl h.0, tt)
+own_sends list settled s a aired ups downs q h = (h.0, pushed Plain (length list) 1 ups downs q (omega arith) h.1)
 
 pub sends : (list : List Item) (clips : List (ClipId × Timecode)) (settled : ℕ) (s : Bool) (a : Cued)
     (aired : List Item) (ups : List Answer) (downs : List Phase)
@@ -206,7 +200,8 @@ pub record Reads (list : List Item) (clips : List (ClipId × Timecode)) (d : Pha
   pub executed : Executed list d s a r t b airs
   pub true_told : misleads_at list clips d r ≡ false
 
-pub quiet_keeps : (list : List Item) (settled : ℕ) (s : Bool) (a : Cued) (aired : List Item) (d : Phase) (k : ℕ) (r : Reply)
+pub quiet_keeps : (list : List Item) (settled : ℕ) (s : Bool) (a : Cued) (aired : List Item) (d : Phase) (k : ℕ)
+    (r : Reply)
     (t : Bool) (b : Cued) (airs : List Item)
     → plays d ≡ false → At list aired settled k → Executed list d s a r t b airs → At list (aired ++ airs) settled k
 quiet_keeps list settled s a aired d k r t b airs silent h x =
@@ -218,15 +213,6 @@ place_keeps : (list : List Item) (settled : ℕ) (s : Bool) (a : Cued) (aired : 
     → Place list settled s a aired ups (d ∷ downs) q → IsPipe Plain (length list) q (pipe_of ups (d ∷ downs))
     → Executed list d s a r t b airs
     → Place list settled t b (aired ++ airs) (ups ++ record { to = d; reply = r } ∷ []) downs q
-place_keeps list settled s a aired ups d downs phase.Open r t b airs fit h c x =
-    quiet_keeps list settled s a aired d 0 r t b airs (quiet_first Plain (length list) d
-    (lies_at Plain (length list) 1 1 ups d downs c)) h x
-place_keeps list settled s a aired ups d downs phase.Select r t b airs fit h c x =
-    quiet_keeps list settled s a aired d 0 r t b airs (quiet_first Plain (length list) d
-    (lies_at Plain (length list) 1 1 ups d downs c)) h x
-place_keeps list settled s a aired ups d downs phase.Seen r t b airs fit h c x =
-    quiet_keeps list settled s a aired d 0 r t b airs (quiet_first Plain (length list) d
-    (lies_at Plain (length list) 1 1 ups d downs c)) h x
 place_keeps list settled s a aired ups d downs (phase.Exists k) r t b airs fit h c x = (
   quiet_keeps list settled s a aired d k r t b airs
       (quiet Plain (length list) k (5 * k + 1) (5 * k + 2) (omega arith) (omega arith) d
@@ -260,6 +246,9 @@ place_keeps list settled s a aired ups d downs phase.Halt r t b airs fit h c x =
     safe_keeps list settled s a aired d downs r t b airs h x
 place_keeps list settled s a aired ups d downs phase.HaltClose r t b airs fit h c x =
     safe_keeps list settled s a aired d downs r t b airs h x
+place_keeps list settled s a aired ups d downs _ r t b airs fit h c x =
+    quiet_keeps list settled s a aired d 0 r t b airs (quiet_first Plain (length list) d (lies_at Plain (length list) 1
+    1 ups d downs c)) h x
 
 pub stands_reads : (list : List Item) (clips : List (ClipId × Timecode)) (settled : ℕ) (s : Bool) (a : Cued)
     (aired : List Item) (ups : List Answer) (d : Phase)
@@ -285,7 +274,8 @@ stands_reads list clips settled s a aired ups d downs stage r t b airs h x = rec
     by (Awaiting q) g =
         (place_keeps list settled s a aired ups d downs q r t b airs h.fit g.0 g.1 x.executed, pipe q g.1)
     by (Ended o) g = (
-      ended_reads (λ k. safe_keeps list settled s a aired d downs r t b airs k x.executed) list settled s a aired d downs
+      ended_reads (λ k. safe_keeps list settled s a aired d downs r t b airs k x.executed) list settled s a aired d
+          downs
           (settled_at Plain (length list) o) r t b airs x.executed g.0,
       g.1,
     )
@@ -325,20 +315,12 @@ playing_copied list settled s a aired ups d downs k h = record {
 place_copied : (list : List Item) (settled : ℕ) (s : Bool) (a : Cued) (aired : List Item) (ups : List Answer)
     (d : Phase) (downs : List Phase) (q : Phase)
     → Place list settled s a aired ups (d ∷ downs) q → Place list settled s a aired ups (d ∷ d ∷ downs) q
-place_copied list settled s a aired ups d downs phase.Open h = h
-place_copied list settled s a aired ups d downs phase.Select h = h
-place_copied list settled s a aired ups d downs phase.Seen h = h
-place_copied list settled s a aired ups d downs (phase.Exists k) h = h
-place_copied list settled s a aired ups d downs (phase.Cue k) h = h
-place_copied list settled s a aired ups d downs (phase.Wait k) h = h
 place_copied list settled s a aired ups d downs (phase.Play k) h = playing_copied list settled s a aired ups d downs k h
 place_copied list settled s a aired ups d downs (phase.Probe k) h =
     playing_copied list settled s a aired ups d downs k h
-place_copied list settled s a aired ups d downs (phase.Check k) h = h
-place_copied list settled s a aired ups d downs phase.Drain h = h
-place_copied list settled s a aired ups d downs phase.Close h = h
 place_copied list settled s a aired ups d downs phase.Halt h = safe_copied list settled s a aired d downs h
 place_copied list settled s a aired ups d downs phase.HaltClose h = safe_copied list settled s a aired d downs h
+place_copied list settled s a aired ups d downs _ h = h
 
 pub stands_copied : (list : List Item) (clips : List (ClipId × Timecode)) (settled : ℕ) (s : Bool) (a : Cued)
     (aired : List Item) (ups : List Answer) (d : Phase)

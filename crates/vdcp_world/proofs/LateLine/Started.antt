@@ -1,5 +1,6 @@
 -- What a late channel begins with: what is on the way has asked the port, or answers that.
 use Rattle.std.proofs.Common.{◌≡◌, ℕ, inl, inr, Bool, true, false, not, ◌||◌, List, [], ◌∷◌, All, Option, Some, None, refl, arith, sym, ap, if◌then◌else◌}
+use Rattle.std.proofs.lemmas.Bool.{or_from}
 use Rattle.std.proofs.lemmas.List.Elements.{All-head, All-tail}
 use Rattle.std.specs.List.{list_any}
 use Rattle.std.specs.Prelude.{IsSome}
@@ -84,21 +85,17 @@ pub record Ups (mode : Mode) (n : ℕ) (clips : List (ClipId × Timecode)) (plan
 -- what answers a command is its refusal, or a reply that fits it
 answered : (c : Command) (h : Option Heard) → IsSome (answer_to c h)
     → (r : Reply) × (h ≡ Some (heard.Reply r)) × ((is_refusal r || fits c r) ≡ true)
-answered c None e = cc
-answered c (Some heard.Other) e = cc
 answered c (Some (heard.Reply r)) e = (r, refl, by (is_refusal r || fits c r) e)
   where
     by : (b : Bool) → IsSome (if b then Some r else None) → b ≡ true
     by true e = refl
     by false e = cc
+answered c _ e = cc
 
 fitting : (refuses fit asked : Bool) → (fit ≡ true → asked ≡ true) → (refuses || fit) ≡ true
     → not (refuses || asked) ≡ false
 fitting true fit asked f e = refl
 fitting false fit asked f e = ap not (f e)
-
-neither : (a b : Bool) → a ≡ false → b ≡ false → (a || b) ≡ false
-neither a b e f = grind arith
 
 pub answered_up : (mode : Mode) (n : ℕ) (clips : List (ClipId × Timecode)) (plan : Plan) (unit : ℕ)
     (up : List (List ℕ)) (downs : List Phase) → All (AnswersOnly plan unit) up
@@ -125,8 +122,9 @@ answered_up mode n clips plan unit (b ∷ bs) downs h climbs =
           ups = x ∷ rest.ups;
           up_is = inr (x, rest.ups, refl, hears, rest.up_is);
           climbs = climbs_first mode n q.by (pipe_of rest.ups downs) q.is_first rest.climbs;
-          fit = neither (misfits x) (list_any misfits rest.ups) (fitting (is_refusal r) (fits c r) (is_asked q.by r)
+          fit = or_from (misfits x) (list_any misfits rest.ups) (fitting (is_refusal r) (fits c r) (is_asked q.by r)
               (fits_asked plan.list plan.port q.by c r q.sends) fit) rest.fit;
-          true_told = neither (misleads plan.list clips x) (list_any (misleads plan.list clips) rest.ups)
-              (q.never_misleads r) rest.true_told;
+          true_told =
+              or_from (misleads plan.list clips x) (list_any (misleads plan.list clips) rest.ups) (q.never_misleads r)
+              rest.true_told;
         }

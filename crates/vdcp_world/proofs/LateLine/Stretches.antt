@@ -1,5 +1,6 @@
 -- Which phases are in the stretches that a pipe can have.
-use Rattle.std.proofs.Common.{◌≡◌, ℕ, ◌+◌, ◌*◌, ◌<◌, ◌≤◌, ◌⊎◌, inl, inr, Bool, true, false, ◌||◌, List, [], ◌∷◌, ◌++◌, refl, arith, ap}
+use Rattle.std.proofs.Common.{◌≡◌, ℕ, ◌+◌, ◌*◌, ◌<◌, ◌≤◌, ◌⊎◌, inl, inr, Bool, false, List, [], ◌∷◌, ◌++◌, refl, arith, ap}
+use Rattle.std.proofs.lemmas.Bool.{or_parts}
 use Rattle.std.specs.List.{list_any}
 use Rattle.vdcp_auto.specs.declared.phase.Mode.{Mode}
 use Rattle.vdcp_auto.specs.declared.phase.Mode.TheVariants.{Plain, Confirming}
@@ -88,17 +89,6 @@ climbs_before mode n low high (a ∷ ups) d downs c = (
       (stretch mode n a.to) high ups d downs c.2,
 )
 
-false_left : (a b : Bool) → (a || b) ≡ false → a ≡ false
-false_left true b e = e
-false_left false b e = refl
-
-false_right : (a b : Bool) → (a || b) ≡ false → b ≡ false
-false_right true b e = absurd (impossible e)
-  where
-    impossible : true ≡ false → ⊥
-    impossible e = cc
-false_right false b e = e
-
 -- the answers climb as the pipe does
 pub ups_climb : (mode : Mode) (n low high : ℕ) (ups : List Answer) (downs : List Phase)
     → Climbs low high (stretches mode n (pipe_of ups downs))
@@ -112,10 +102,10 @@ pub none_answers : (mode : Mode) (n low high : ℕ) (given test : Answer → Boo
     → Climbs low high (stretches mode n (pipe_of ups [])) → list_any given ups ≡ false → list_any test ups ≡ false
 none_answers mode n low high given test [] f c m = refl
 none_answers mode n low high given test (a ∷ ups) f c m =
-    let here = f a (c.0, c.1) (false_left (given a) (list_any given ups) m) in
+    let here = f a (c.0, c.1) (or_parts (given a) (list_any given ups) m).0 in
     let rest = none_answers mode n low high given test ups f
     (climbs_within (stretch mode n a.to) high low high (stretches mode n (pipe_of ups [])) c.0 (omega arith) c.2)
-    (false_right (given a) (list_any given ups) m) in
+    (or_parts (given a) (list_any given ups) m).1 in
     rw here rest
 
 -- one on the way down lies between the bounds

@@ -1,5 +1,6 @@
 -- Lists of which some elements are left out.
 use Rattle.std.proofs.Common.{◌≡◌, ◌⊎◌, inl, inr, Bool, true, false, ◌||◌, List, [], ◌∷◌, ◌++◌, refl, sym, subst, ◌∙◌}
+use Rattle.std.proofs.lemmas.Bool.{or_right}
 use Rattle.std.specs.List.{list_any}
 
 -- the first list with some elements left out is the second one
@@ -11,10 +12,6 @@ Thins {A = A} (x ∷ xs) ys = Thins xs ys ⊎ ((rest : List A) × (ys ≡ x ∷ 
 pub all_left : {A : Type 0} → (xs : List A) → Thins xs xs
 all_left [] = refl
 all_left (x ∷ xs) = inr (xs, refl, all_left xs)
-
-or_right : (a b : Bool) → b ≡ true → (a || b) ≡ true
-or_right true b e = refl
-or_right false b e = e
 
 or_both : (a b c : Bool) → (b ≡ true → c ≡ true) → (a || b) ≡ true → (a || c) ≡ true
 or_both true b c f e = refl
