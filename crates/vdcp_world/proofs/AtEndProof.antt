@@ -22,10 +22,11 @@ use Rattle.vdcp_world.specs.AtEnd.{AreSlotsEmpty, IsAtRest, LeavesPort}
 use Rattle.vdcp_world.specs.Channel.{Channel, Make, IsReached, after_events, new_channel}
 use Rattle.vdcp_world.specs.declared.event.Event.{Event}
 use Rattle.vdcp_world.specs.Below.{Below}
-use Rattle.vdcp_world.proofs.Claims.{Closed, Takes, claim_events}
+use Rattle.vdcp_world.proofs.Claims.{Closed}
 use Rattle.vdcp_world.proofs.HeadlineProof.{kept_new}
 use Rattle.vdcp_world.proofs.Reached.{make_after_all}
 use Rattle.vdcp_world.proofs.PhaseTable.{is_asked, port_after, answer_after}
+use Rattle.vdcp_world.proofs.Kept.{claim_events}
 
 -- a status showed both slots to be empty before the CLOSE went out
 abbrev Closing : PortState → Phase → Type 0
@@ -181,26 +182,22 @@ silent_rest Confirming limit unanswered counts p q h = grind arith
 -- ---- all of it
 
 closed_rest : (mode : Mode) (list : List Item) (port limit : ℕ) (clips : List (ClipId × Timecode))
-    → Closed mode list port limit clips (λ take p aired stage. Rests mode p stage) (TellsRest mode)
+    → Closed mode list port limit clips (λ take p aired settled stage. Rests mode p stage) (λ p aired. TellsRest mode p)
 closed_rest mode list port limit clips = record {
-  naks = naks_rest mode;
-  ready = λ take p aired stage h. keeps_rests mode p (ready_state p) stage (keeps_ready p) h;
-  ready_tells = λ p q r t. keeps_tells mode p (ready_state p) q r (keeps_ready p) t;
-  ended = λ take p aired stage h. keeps_rests mode p (ended_state p) stage (keeps_ended p) h;
-  ended_tells = λ p q r t. keeps_tells mode p (ended_state p) q r (keeps_ended p) t;
-  sends = λ take stop p aired q h. sends_rest stop p q h;
-  reads = λ take p aired settled q n place h. reads_rest list clips p port q n h;
-  reads_tell = λ take p aired settled q r n place h a. reads_tell_rest mode list clips p port q r n a;
-  refused = λ take p aired q r plain e t h.
+  naks = λ p aired q byte e. naks_rest mode p q byte e;
+  ready = λ take p aired settled stage h. keeps_rests mode p (ready_state p) stage (keeps_ready p) h;
+  ready_tells = λ p aired q r t. keeps_tells mode p (ready_state p) q r (keeps_ready p) t;
+  ended = λ take p aired settled stage h. keeps_rests mode p (ended_state p) stage (keeps_ended p) h;
+  ended_tells = λ p aired q r t. keeps_tells mode p (ended_state p) q r (keeps_ended p) t;
+  sends = λ take stop p aired settled q h. sends_rest stop p q h;
+  reads = λ take p aired settled q n h. reads_rest list clips p port q n h;
+  reads_tell = λ take p aired settled q r n h a. reads_tell_rest mode list clips p port q r n a;
+  refused = λ take p aired settled q r plain e t h.
       subst (λ (m : Mode). Rests m p (stage_after (on_refusal (length list) q))) (sym plain)
       (refused_rest list p q r e (subst (λ (m : Mode). TellsRest m p q r) plain t));
-  replied = λ take p aired tries q r asked receipt t h. replied_rest mode list limit tries take p q r asked t h;
-  silent = λ take p aired unanswered counts q h. silent_rest mode limit unanswered counts p q h;
+  replied = λ take p aired settled tries q r asked receipt t h. replied_rest mode list limit tries take p q r asked t h;
+  silent = λ take p aired settled unanswered counts q h. silent_rest mode limit unanswered counts p q h;
 }
-
--- what is claimed is kept where the operator takes
-takes_rest : (mode : Mode) → Takes (λ take p aired stage. Rests mode p stage)
-takes_rest mode = λ take p aired stage h. h
 
 reached_rests : Below → (c : Channel) → IsReached c → Rests c.plan.mode c.port.state c.state.stage
 reached_rests below c r = subst (λ (x : Channel). Rests x.plan.mode x.port.state x.state.stage) (sym r.led)
@@ -213,9 +210,11 @@ reached_rests below c r = subst (λ (x : Channel). Rests x.plan.mode x.port.stat
         (after_events new es).state.stage
     rests es = subst (λ (mode : Mode). Rests mode (after_events new es).port.state (after_events new es).state.stage)
         (sym (ap (λ (m : Make). m.plan.mode) (make_after_all new es)))
-        (claim_events below (λ take p aired stage. Rests r.plan.mode p stage) (TellsRest r.plan.mode) new es
+        (claim_events below (λ take p aired settled stage. Rests r.plan.mode p stage)
+        (λ p aired. TellsRest r.plan.mode p) new es
         (closed_rest r.plan.mode r.plan.list r.plan.port r.plan.limit r.clips)
-        (kept_new r.plan r.clips r.unit r.cue_frames r.unit_fits r.port_fits r.of_bytes) (λ _. takes_rest r.plan.mode)
+        (kept_new r.plan r.clips r.unit r.cue_frames r.unit_fits r.port_fits r.of_bytes)
+        (λ _ take p aired settled stage h. h)
         (record { stands = tt; told = tt })).stands
 
 pub leaves : Below → (c : Channel) → IsReached c → IfSome (outcome_of c.state.stage)

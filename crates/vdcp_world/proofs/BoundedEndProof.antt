@@ -41,11 +41,12 @@ use Rattle.vdcp_world.proofs.ConfirmedRounds.{left_before, left_behind, left_fro
 use Rattle.vdcp_world.proofs.Exchanges.{sent_place, turn_by}
 use Rattle.vdcp_world.proofs.GoodRound.{Exchanged, exchanged, exchange, waits_still, hears_still, waits_over, ticks_on, gives_own, turns_on}
 use Rattle.vdcp_world.proofs.HeadlineProof.{reached_kept, controller_reached}
-use Rattle.vdcp_world.proofs.Kept.{IsKept, kept_event}
-use Rattle.vdcp_world.proofs.PhaseTable.{PlaceAt, PlaceReady, Firm, FirmIn, answer_after, port_after}
+use Rattle.vdcp_world.proofs.Claims.{IsKept}
+use Rattle.vdcp_world.proofs.Kept.{kept_event}
+use Rattle.vdcp_world.proofs.PhaseTable.{PlaceAt, PlaceReady, Firm, FirmAt, answer_after, port_after}
 use Rattle.vdcp_world.proofs.Reached.{events_reached, make_after_all}
 use Rattle.vdcp_world.proofs.RoundsLeft.{left, left_at, Goes, Nears, answer_at, plays, plain_nears, left_most}
-use Rattle.vdcp_world.proofs.TableKept.{gives_some, turn_same}
+use Rattle.vdcp_world.proofs.Exchanges.{gives_some, turn_same}
 
 -- ---- where it ends
 
@@ -116,8 +117,7 @@ plain_round below c q k plain all idle ready e none on = by (command_in c.plan.l
 
     firm : Firm c.plan.list c.port.clips c.port.state q
     firm =
-        subst (FirmIn Plain c.plan.list c.port.clips c.port.state) e
-        (subst (λ (mode : Mode). FirmIn mode c.plan.list c.port.clips c.port.state c.state.stage) plain k.stands.firm)
+        subst (FirmAt c.plan.list c.port.clips c.port.state) e (k.stands.firm plain)
 
     go : (d : Command) → command_in c.plan.list c.plan.port q ≡ Some d
         → Onwards (left (length c.plan.list - c.state.settled) q) (after_events c round)
@@ -180,8 +180,8 @@ ready_slot (done item) = refl
 
 pub waited_kept : Below → (c : Channel) → IsKept c → IsKept
     (after_events c (event.Timeout ∷ event.Ready ∷ event.End ∷ []))
-waited_kept below c k = kept_event below _ event.End
-    (kept_event below _ event.Ready (kept_event below c event.Timeout k))
+waited_kept below c k =
+    kept_event below _ (kept_event below _ (kept_event below c k event.Timeout) event.Ready) event.End
 
 plain_good_round : Below → (c : Channel) (q : Phase) → IsKept c → c.plan.mode ≡ Plain → IsAllPlayable c
     → c.state.stage ≡ Ready q → c.state.stop ≡ false → is_halting q ≡ false

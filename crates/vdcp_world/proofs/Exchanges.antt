@@ -1,7 +1,8 @@
 -- A tick and the end of an exchange, in the phase table.
-use Rattle.std.proofs.Common.{◌≡◌, ℕ, ◌+◌, ◌≤◌, ◌⊎◌, inl, inr, Bool, true, false, ◌||◌, ◌&&◌, not, List, length, take, Option, Some, None, refl, ap, sym, subst, arith, ◌∙◌, length-take}
+use Rattle.std.proofs.Common.{◌≡◌, ℕ, ◌+◌, ◌≤◌, ◌⊎◌, inl, inr, Bool, true, false, ◌||◌, ◌&&◌, not, List, length, take, Option, Some, None, refl, ap, sym, arith, ◌∙◌, length-take, ◌<◌}
 use Rattle.std.specs.Option.{option_map}
-use Rattle.std.specs.Prelude.{slice_get, if◌then◌else◌}
+use Rattle.std.specs.Prelude.{slice_get, if◌then◌else◌, get_or}
+use Rattle.std.proofs.lemmas.Option.{slice_get_cases}
 use Rattle.vdcp_value.specs.declared.clip_id.ClipId.{ClipId}
 use Rattle.vdcp_value.specs.declared.part.Item.{Item}
 use Rattle.vdcp_value.specs.declared.part.Part.{Part}
@@ -11,19 +12,17 @@ use Rattle.vdcp_words.specs.declared.command.Command.TheVariants as command
 use Rattle.vdcp_words.specs.declared.reply.Reply.{Reply}
 use Rattle.vdcp_port.specs.Port.{PortState, Cued}
 use Rattle.vdcp_auto.specs.Commands.{cue_for, cue_of, is_presence, is_sense, fits}
-use Rattle.vdcp_auto.specs.Log.{answer_to}
 use Rattle.vdcp_auto.specs.Replies.{is_ack, is_empty, is_receipt, is_refusal}
 use Rattle.vdcp_auto.specs.Table.{command_in, on_reply, on_refusal}
-use Rattle.vdcp_auto.specs.Turn.{is_end, on_answer, on_unanswered, stage_after, settled_after, phase_to_send}
+use Rattle.vdcp_auto.specs.Turn.{is_end, on_answer, on_unanswered, stage_after, settled_after, phase_to_send, transition_on}
 use Rattle.vdcp_auto.specs.declared.phase.Mode.{Mode}
 use Rattle.vdcp_auto.specs.declared.phase.Mode.TheVariants.{Plain, Confirming}
-use Rattle.vdcp_auto.specs.State.{Awaiting}
 use Rattle.vdcp_auto.specs.declared.phase.Phase.{Phase}
 use Rattle.vdcp_auto.specs.declared.phase.Transition.{Transition}
-use Rattle.vdcp_auto.specs.declared.exchange.Heard.{Heard}
 use Rattle.vdcp_auto.specs.declared.exchange.Heard.TheVariants as heard
 use Rattle.vdcp_auto.specs.declared.phase.Phase.TheVariants as phase
-use Rattle.vdcp_world.proofs.PhaseTable.{Near, Place, PlaceReady, PlaceAt, Tells, Firm, FirmAt, FirmIn, FirmTells, TellsIn, Told, is_asked}
+use Rattle.vdcp_world.proofs.PhaseTable.{Near, Place, PlaceReady, PlaceAt, Tells, Firm, FirmAt, FirmTells, is_asked}
+use Rattle.vdcp_auto.specs.Plan.{Plan}
 
 pub taken : (list : List Item) (k : ℕ) → k ≤ length list → length (take k list) ≡ k
 taken list k l = simp length-take (omega arith)
@@ -152,12 +151,6 @@ abbrev pub turn_by : Mode → List Item → ℕ → Bool → ℕ → ℕ → Boo
 turn_by mode list limit take tries unanswered counts q (Some r) = on_answer mode list limit take tries q r
 turn_by mode list limit take tries unanswered counts q None = on_unanswered mode limit unanswered counts q
 
-pub record Behind (mode : Mode) (list : List Item) (clips : List (ClipId × Timecode)) (p : PortState)
-    (aired : List Item) (settled : ℕ)
-    (transition : Transition) : Type 0 where
-  pub place : PlaceAt list clips p.cued aired (settled_after transition settled) (stage_after transition)
-  pub firm : FirmIn mode list clips p (stage_after transition)
-
 pub either : (a b : Bool) → (a || b) ≡ true → (a ≡ true) ⊎ ((a ≡ false) × (b ≡ true))
 either true b e = inl refl
 either false b e = inr (refl, e)
@@ -174,56 +167,10 @@ pub on_replied : (mode : Mode) (list : List Item) (limit tries : ℕ) (take : Bo
 on_replied mode list limit tries take q r e =
     ap (λ b. if b then on_refusal (length list) q else on_reply mode list limit take tries q r) e
 
-hears_cue : (list : List Item) (clips : List (ClipId × Timecode)) (p : PortState) (q : Phase) (r : Reply)
-    → FirmTells list clips p q r → HearsCue Plain q r
-hears_cue list clips p q r t = grind arith
-
-answered_plain : (list : List Item) (clips : List (ClipId × Timecode)) (p : PortState) (aired : List Item)
-    (settled limit tries : ℕ) (take : Bool) (q : Phase)
-    (r : Reply)
-    → Place list p.cued aired settled q → Firm list clips p q → Tells list clips p.cued aired q r
-    → FirmTells list clips p q r
-    → (is_refusal r ≡ true) ⊎ ((is_refusal r ≡ false) × (is_asked q r ≡ true))
-    → Behind Plain list clips p aired settled (on_answer Plain list limit take tries q r)
-answered_plain list clips p aired settled limit tries take q r h firm t u (inl e) =
-    subst (λ transition. Behind Plain list clips p aired settled transition)
-    (sym (on_refused Plain list limit tries take q r e)) (record {
-      place = refused_place list clips p aired settled q r h firm u e;
-      firm = refused_firm list clips p q r firm u e;
-    })
-answered_plain list clips p aired settled limit tries take q r h firm t u (inr (e, asked)) =
-    subst (λ transition. Behind Plain list clips p aired settled transition)
-    (sym (on_replied Plain list limit tries take q r e)) (record {
-      place = replied_place list clips p.cued aired Plain settled limit tries take q r h t
-          (hears_cue list clips p q r u) asked;
-      firm = replied_firm list clips p aired limit tries take q r firm t u asked;
-    })
-
-answered_confirming : (list : List Item) (clips : List (ClipId × Timecode)) (p : PortState) (aired : List Item)
-    (settled limit tries : ℕ) (take : Bool)
-    (q : Phase) (r : Reply)
-    → Place list p.cued aired settled q → Tells list clips p.cued aired q r → is_refusal r ≡ false → is_asked q r ≡ true
-    → Behind Confirming list clips p aired settled (on_answer Confirming list limit take tries q r)
-answered_confirming list clips p aired settled limit tries take q r h t e asked =
-    subst (λ transition. Behind Confirming list clips p aired settled transition)
-    (sym (on_replied Confirming list limit tries take q r e)) (record {
-      place = replied_place list clips p.cued aired Confirming settled limit tries take q r h t tt asked;
-      firm = tt;
-    })
-
-unanswered_place : (mode : Mode) (list : List Item) (clips : List (ClipId × Timecode)) (p : PortState)
-    (aired : List Item) (settled limit unanswered : ℕ)
-    (counts : Bool) (q : Phase)
-    → Place list p.cued aired settled q → FirmIn mode list clips p (Awaiting q)
-    → Behind mode list clips p aired settled (on_unanswered mode limit unanswered counts q)
-unanswered_place Plain list clips p aired settled limit unanswered counts q h firm = record {
-  place = silence_place list clips p.cued aired Plain settled limit unanswered counts q h;
-  firm = silence_firm list clips p limit unanswered counts q firm;
-}
-unanswered_place Confirming list clips p aired settled limit unanswered counts q h firm = record {
-  place = silence_place list clips p.cued aired Confirming settled limit unanswered counts q h;
-  firm = tt;
-}
+pub hears_cue : (mode : Mode) (list : List Item) (clips : List (ClipId × Timecode)) (p : PortState) (q : Phase)
+    (r : Reply) → (mode ≡ Plain → FirmTells list clips p q r) → HearsCue mode q r
+hears_cue Plain list clips p q r t = let u : FirmTells list clips p q r = t refl in grind arith
+hears_cue Confirming list clips p q r t = tt
 
 -- a reply that ends an exchange in confirm mode is no receipt
 pub no_receipt : (c : Command) (r : Reply) → is_end Confirming c (Some (heard.Reply r)) ≡ true → is_receipt r ≡ false
@@ -235,40 +182,34 @@ no_receipt c r e = of (is_sense c) (is_receipt r) e
 pub no_refusal : (r : Reply) → is_receipt r ≡ false → is_refusal r ≡ false
 no_refusal r e = grind arith
 
--- where what came leads, if it ends the exchange of the awaited command
-pub turn_place : (mode : Mode) (list : List Item) (clips : List (ClipId × Timecode)) (p : PortState) (aired : List Item)
-    (settled port limit tries unanswered : ℕ) (take counts : Bool)
-    (q : Phase) (c : Command) (came : Option Heard) → command_in list port q ≡ Some c → is_end mode c came ≡ true
-    → Place list p.cued aired settled q → FirmIn mode list clips p (Awaiting q) → Told mode list clips p aired q came
-    → Behind mode list clips p aired settled (turn_by mode list limit take tries unanswered counts q (answer_to c came))
-turn_place mode list clips p aired settled port limit tries unanswered take counts q c (Some (heard.Reply r)) e ends h
-    firm told =
-    by (is_refusal r || fits c r) refl
+-- there is an event for each phase that asks for one
+pub no_item : (list : List Item) (k : ℕ) → k < length list → slice_get list k ≡ None → ⊥
+no_item list k below none = at (slice_get_cases list k).1
   where
-    answered : (mode : Mode) → is_end mode c (Some (heard.Reply r)) ≡ true → FirmIn mode list clips p (Awaiting q)
-        → TellsIn mode list clips p aired q r
-        → (is_refusal r ≡ true) ⊎ ((is_refusal r ≡ false) × (is_asked q r ≡ true))
-        → Behind mode list clips p aired settled (on_answer mode list limit take tries q r)
-    answered Plain ends firm t which =
-        answered_plain list clips p aired settled limit tries take q r h firm t.0 t.1 which
-    answered Confirming ends firm t (inl refused) =
-        let none = no_refusal r (no_receipt c r ends) in
-        absurd (impossible (sym refused ∙ none))
-      where
-        impossible : true ≡ false → ⊥
-        impossible e = cc
-    answered Confirming ends firm t (inr (none, asked)) =
-        answered_confirming list clips p aired settled limit tries take q r h (t (no_receipt c r ends)) none asked
+    impossible : (x : Item) → slice_get list k ≡ Some x → ⊥
+    impossible x is = cc
 
-    asked_of : (is_refusal r ≡ true) ⊎ ((is_refusal r ≡ false) × (fits c r ≡ true))
-        → (is_refusal r ≡ true) ⊎ ((is_refusal r ≡ false) × (is_asked q r ≡ true))
-    asked_of (inl e) = inl e
-    asked_of (inr (none, f)) = inr (none, fits_asked list port q c r e f)
+    at : (((x : Item) × (k < length list) × (slice_get list k ≡ Some x) × (get_or list k x ≡ x))
+        ⊎ ((length list ≤ k) × (slice_get list k ≡ None))) → ⊥
+    at (inl (x, within, is, here)) = impossible x is
+    at (inr (past, is)) = absurd (omega arith)
 
-    by : (b : Bool) → (is_refusal r || fits c r) ≡ b
-        → Behind mode list clips p aired settled (turn_by mode list limit take tries unanswered counts q
-        (if b then Some r else None))
-    by true f = answered mode ends firm (told r refl) (asked_of (either (is_refusal r) (fits c r) f))
-    by false f = unanswered_place mode list clips p aired settled limit unanswered counts q h firm
-turn_place mode list clips p aired settled port limit tries unanswered take counts q c _ e ends h firm told =
-    unanswered_place mode list clips p aired settled limit unanswered counts q h firm
+none_of : (f : Item → Command) (o : Option Item) → option_map f o ≡ None → o ≡ None
+none_of f None e = refl
+none_of f (Some item) e = cc
+
+some_at : (list : List Item) (k : ℕ) (f : Item → Command) → k < length list → option_map f (slice_get list k) ≡ None → ⊥
+some_at list k f below none = no_item list k below (none_of f (slice_get list k) none)
+
+pub gives_some : (list : List Item) (port : ℕ) (cued : Cued) (aired : List Item) (settled : ℕ) (q : Phase)
+    → Place list cued aired settled q
+    → command_in list port q ≡ None → ⊥
+gives_some list port cued aired settled (phase.Exists k) h e = some_at list k (λ item. command.IdRequest item.id) h.2 e
+gives_some list port cued aired settled (phase.Cue k) h e = some_at list k cue_of h.2 e
+gives_some list port cued aired settled _ h e = cc
+
+pub turn_same : (plan : Plan) (take : Bool) (tries unanswered : ℕ) (counts : Bool) (q : Phase) (o : Option Reply)
+    → turn_by plan.mode plan.list plan.limit take tries unanswered counts q o
+    ≡ transition_on plan take tries unanswered counts q o
+turn_same plan take tries unanswered counts q None = refl
+turn_same plan take tries unanswered counts q (Some r) = refl

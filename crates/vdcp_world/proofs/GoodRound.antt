@@ -26,13 +26,14 @@ use Rattle.vdcp_auto.specs.declared.phase.Phase.{Phase}
 use Rattle.vdcp_auto.specs.State.{Stage, Ready, Awaiting, State}
 use Rattle.vdcp_auto.specs.declared.phase.Transition.{Transition}
 use Rattle.vdcp_auto.specs.declared.phase.Transition.TheVariants.{Ends}
-use Rattle.vdcp_world.specs.Channel.{Channel, after_events, down_behind, up_behind, answered, state_hearing, state_waiting}
+use Rattle.vdcp_world.specs.Channel.{Channel, after_events, down_behind, up_behind, answered, state_hearing, state_waiting, Make}
 use Rattle.vdcp_world.specs.Rounds.{round}
 use Rattle.vdcp_world.specs.declared.event.Event.TheVariants as event
 use Rattle.vdcp_world.specs.Below.{Below}
-use Rattle.vdcp_world.proofs.Kept.{IsKept, keeps_unit}
+use Rattle.vdcp_world.proofs.Claims.{IsKept}
 use Rattle.vdcp_world.proofs.OnTheWay.{ReadsCommand}
 use Rattle.vdcp_world.proofs.WayLemmas.{reads_command}
+use Rattle.vdcp_world.proofs.Reached.{make_change}
 
 -- ---- a command goes down, and its answer comes up
 
@@ -86,7 +87,7 @@ exchanged below c d k g =
 
     same_unit : (after_burst c.port bytes).state.unit ≡ c.port.state.unit
     same_unit = ap (λ (p : ClockedPort). p.state.unit) read.leaves
-        ∙ keeps_unit (command_row c.port.clips c.port.state d).change c.port
+        ∙ ap (λ (m : Make). m.unit) (make_change c.plan (command_row c.port.clips c.port.state d).change c.port)
 
     hears : heard_in (after_burst c.port bytes).state.unit (answered c.port bytes []) ≡ Some (heard.Reply read.answer)
     hears =

@@ -23,7 +23,6 @@ use Rattle.vdcp_auto.specs.declared.outcome.Outcome.{Outcome}
 use Rattle.vdcp_auto.specs.declared.outcome.Outcome.TheVariants as outcome
 use Rattle.vdcp_auto.specs.declared.phase.Mode.{Mode}
 use Rattle.vdcp_auto.specs.declared.phase.Mode.TheVariants.{Plain, Confirming}
-use Rattle.vdcp_auto.specs.declared.phase.Phase.TheVariants.{Open}
 use Rattle.vdcp_auto.specs.State.{Stage, Ready, Awaiting, Ended, State}
 use Rattle.vdcp_words.specs.declared.reply.Reply.{Reply}
 use Rattle.vdcp_words.specs.declared.reply.Reply.TheVariants as reply
@@ -33,18 +32,13 @@ use Rattle.vdcp_world.specs.Headline.{IsUnknownAt, IsOutside, IsRefusedIn, AreRe
 use Rattle.vdcp_world.specs.declared.event.Event.{Event}
 use Rattle.vdcp_world.specs.declared.event.Event.TheVariants as event
 use Rattle.vdcp_world.specs.Below.{Below}
-use Rattle.vdcp_world.proofs.Exchanges.{near, taken, sent_place, near_of}
-use Rattle.vdcp_world.proofs.Kept.{IsKept, kept_event}
+use Rattle.vdcp_world.proofs.Exchanges.{near, taken, sent_place, near_of, no_item}
+use Rattle.vdcp_world.proofs.Kept.{kept_event}
+use Rattle.vdcp_world.proofs.Claims.{IsKept, Stands}
 use Rattle.vdcp_world.proofs.PhaseTable.{Aired, Near, PlaceAt, PlaceEnded, FirmIn, knows, refuses}
-use Rattle.vdcp_world.proofs.TableKept.{Stands, no_item}
 use Rattle.vdcp_world.proofs.LateLine.Exactness.{none_taken}
 
 -- ---- channels that events have led to
-
-firm_new : (mode : Mode) (list : List Item) (clips : List (ClipId × Timecode)) (p : PortState)
-    → FirmIn mode list clips p (Ready Open)
-firm_new Plain list clips p = tt
-firm_new Confirming list clips p = tt
 
 pub kept_new : (plan : Plan) (clips : List (ClipId × Timecode)) (unit cue_frames : ℕ) → unit ≤ 15 → plan.port < 256
     → All IsItem plan.list
@@ -58,14 +52,14 @@ kept_new plan clips unit cue_frames u h items = record {
     numbered = refl;
     plays = tt;
     place = (record { aired_is = none_taken plan.list; within = omega arith; cued_is = refl }, refl);
-    firm = firm_new plan.mode plan.list clips (new_channel plan clips unit cue_frames).port.state;
+    firm = λ _. tt;
   };
   told = tt;
 }
 
 pub kept_events : Below → (c : Channel) (es : List Event) → IsKept c → IsKept (after_events c es)
 kept_events below c [] k = k
-kept_events below c (e ∷ es) k = kept_events below (after_event c e) es (kept_event below c e k)
+kept_events below c (e ∷ es) k = kept_events below (after_event c e) es (kept_event below c k e)
 
 pub reached_kept : Below → (c : Channel) → IsReached c → IsKept c
 reached_kept below c r = subst IsKept (sym r.led) (kept_events below _ r.events
@@ -242,7 +236,7 @@ refused_in : (mode : Mode) (clips : List (ClipId × Timecode)) (plan : Plan) (lo
     (k : ℕ)
     → FirmIn mode plan.list clips p (Ended (outcome.Refused k))
     → (mode ≡ Confirming → IsRefused plan.list plan.limit log k) → IsRefusedIn mode clips plan log k
-refused_in Plain clips plan log p k firm by_log = outside_at clips plan.list k (slice_get plan.list k) refl firm
+refused_in Plain clips plan log p k firm by_log = outside_at clips plan.list k (slice_get plan.list k) refl (firm refl)
 refused_in Confirming clips plan log p k firm by_log = by_log refl
 
 means : (c : Channel) (o : Outcome) → PlaceEnded c.plan.list c.port.clips c.aired c.state.settled o

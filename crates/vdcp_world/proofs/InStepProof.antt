@@ -34,11 +34,11 @@ use Rattle.vdcp_world.proofs.ConfirmedRounds.{left_from, left_before, Steps, slo
 use Rattle.vdcp_world.proofs.Exchanges.{turn_by}
 use Rattle.vdcp_world.proofs.GoodRound.{exchanged, exchange, waits_still, ticks_on, gives_own}
 use Rattle.vdcp_world.proofs.HeadlineProof.{reached_kept, controller_reached}
-use Rattle.vdcp_world.proofs.Kept.{IsKept}
 use Rattle.vdcp_world.proofs.Opened.{Opened, OpenedAt, reached_opened}
 use Rattle.vdcp_world.proofs.PhaseTable.{answer_after, port_after}
 use Rattle.vdcp_world.proofs.Reached.{events_reached}
 use Rattle.vdcp_world.proofs.RoundsLeft.{answer_at}
+use Rattle.vdcp_world.proofs.Claims.{IsKept}
 
 -- ---- in step
 

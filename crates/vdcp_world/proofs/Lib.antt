@@ -9,6 +9,7 @@ pub mod Slots
 pub mod OnTheWay
 pub mod WayLemmas
 pub mod WayKept
+pub mod Claims
 pub mod TableKept
 pub mod Kept
 pub mod HeadlineProof
@@ -16,7 +17,6 @@ pub mod GoodRound
 pub mod RoundsLeft
 pub mod ConfirmedRounds
 pub mod BoundedEndProof
-pub mod Claims
 pub mod AtEndProof
 pub mod Opened
 pub mod InStepProof

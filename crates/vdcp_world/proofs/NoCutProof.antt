@@ -29,15 +29,15 @@ use Rattle.vdcp_world.specs.NoCut.{is_take, Cuts, CutsUnasked, NoCut}
 use Rattle.vdcp_world.specs.declared.event.Event.{Event}
 use Rattle.vdcp_world.specs.declared.event.Event.TheVariants as event
 use Rattle.vdcp_world.specs.Below.{Below}
-use Rattle.vdcp_world.proofs.Claims.{Closed, Holds, ToldOf, told_none, claim_events}
+use Rattle.vdcp_world.proofs.Claims.{Closed, Holds, ToldOf, told_none, IsKept, Claim, Telling}
 use Rattle.vdcp_world.proofs.ConfirmedRounds.{slot_stays}
 use Rattle.vdcp_world.proofs.HeadlineProof.{reached_kept}
-use Rattle.vdcp_world.proofs.Kept.{IsKept}
 use Rattle.vdcp_world.proofs.OnTheWay.{Way}
 use Rattle.vdcp_world.proofs.PhaseTable.{PlaysLast, is_asked, port_after, aired_after, answer_after}
 use Rattle.vdcp_world.proofs.Reached.{events_reached}
 use Rattle.vdcp_world.proofs.WayLemmas.{reads_nothing, reads_command}
 use Rattle.vdcp_world.proofs.Readings.{none_more}
+use Rattle.vdcp_world.proofs.Kept.{claim_events}
 
 -- once more than n items were aired, a PLAY goes out to a cue only where nothing plays
 abbrev Over : ℕ → PortState → List Item → Phase → Type 0
@@ -51,16 +51,16 @@ OverAt n p aired (Awaiting q) = Over n p aired q
 OverAt n p aired (Ended outcome) = Unit {0}
 
 -- and nobody wishes to take
-abbrev Untaken : ℕ → Bool → PortState → List Item → Stage → Type 0
-Untaken n take p aired stage = (take ≡ false) × OverAt n p aired stage
+abbrev Untaken : ℕ → Claim
+Untaken n take p aired settled stage = (take ≡ false) × OverAt n p aired stage
 
-abbrev TellsIdle : PortState → Phase → Reply → Type 0
-TellsIdle p (phase.Wait k) r = is_done r ≡ true → is_playing r ≡ false → p.playing ≡ None
-TellsIdle p _ r = Unit {0}
+abbrev TellsIdle : Telling
+TellsIdle p aired (phase.Wait k) r = is_done r ≡ true → is_playing r ≡ false → p.playing ≡ None
+TellsIdle p aired _ r = Unit {0}
 
-naks_idle : (p : PortState) (q : Phase) (byte : ℕ) → is_refusal (reply.Nak byte) ≡ false
-    → TellsIdle p q (reply.Nak byte)
-naks_idle p q byte e = grind arith
+naks_idle : (p : PortState) (aired : List Item) (q : Phase) (byte : ℕ) → is_refusal (reply.Nak byte) ≡ false
+    → TellsIdle p aired q (reply.Nak byte)
+naks_idle p aired q byte e = grind arith
 
 -- ---- the cue is done, the clip has ended
 
@@ -77,22 +77,24 @@ ended_over_at : (n : ℕ) (p : PortState) (aired : List Item) (stage : Stage) �
     → OverAt n (ended_state p) aired stage
 ended_over_at n p aired stage h = grind arith
 
-ready_idle : (p : PortState) (q : Phase) (r : Reply) → TellsIdle p q r → TellsIdle (ready_state p) q r
-ready_idle p q r t = grind arith
+ready_idle : (p : PortState) (aired : List Item) (q : Phase) (r : Reply) → TellsIdle p aired q r
+    → TellsIdle (ready_state p) aired q r
+ready_idle p aired q r t = grind arith
 
-ended_idle : (p : PortState) (q : Phase) (r : Reply) → TellsIdle p q r → TellsIdle (ended_state p) q r
-ended_idle p q r t = grind arith
+ended_idle : (p : PortState) (aired : List Item) (q : Phase) (r : Reply) → TellsIdle p aired q r
+    → TellsIdle (ended_state p) aired q r
+ended_idle p aired q r t = grind arith
 
 -- ---- the controller sends
 
 still_untaken : (q : Phase) (take : Bool) → take ≡ false → take_after_sending q take ≡ false
 still_untaken q take e = grind arith
 
-sends_over : (n : ℕ) (take stop : Bool) (p : PortState) (aired : List Item) (q : Phase) → Untaken n take p aired
-    (Ready q)
-    → Untaken n (take_after_sending (phase_to_send stop q) take) p aired (Awaiting (phase_to_send stop q))
-sends_over n take true p aired q h = (h.0, tt)
-sends_over n take false p aired q h = (still_untaken q take h.0, h.1)
+sends_over : (n : ℕ) (take stop : Bool) (p : PortState) (aired : List Item) (settled : ℕ) (q : Phase)
+    → Untaken n take p aired settled (Ready q)
+    → Untaken n (take_after_sending (phase_to_send stop q) take) p aired settled (Awaiting (phase_to_send stop q))
+sends_over n take true p aired settled q h = (h.0, tt)
+sends_over n take false p aired settled q h = (still_untaken q take h.0, h.1)
 
 -- ---- the port reads
 
@@ -123,12 +125,11 @@ status_idle clips p (cueing item) (Some clip) r x y a ready idle = grind arith
 status_idle clips p (done item) None r x y a ready idle = grind arith
 status_idle clips p (done item) (Some clip) r x y a ready idle = grind arith
 
-reads_tell_idle : (list : List Item) (clips : List (ClipId × Timecode)) (p : PortState) (port : ℕ) (q : Phase)
-    (r : Reply)
-    → answer_after clips p (command_in list port q) ≡ Some r → TellsIdle (port_after clips p (command_in list port q)) q
-    r
-reads_tell_idle list clips p port (phase.Wait k) r a = status_idle clips p p.cued p.playing r refl refl a
-reads_tell_idle list clips p port _ r a = tt
+reads_tell_idle : (list : List Item) (clips : List (ClipId × Timecode)) (p : PortState) (aired : List Item) (port : ℕ)
+    (q : Phase) (r : Reply) → answer_after clips p (command_in list port q) ≡ Some r
+    → TellsIdle (port_after clips p (command_in list port q)) aired q r
+reads_tell_idle list clips p aired port (phase.Wait k) r a = status_idle clips p p.cued p.playing r refl refl a
+reads_tell_idle list clips p aired port _ r a = tt
 
 -- ---- the controller hears an answer, or none
 
@@ -138,7 +139,7 @@ refused_over n size p aired q = grind arith
 
 replied_over : (n : ℕ) (mode : Mode) (list : List Item) (limit tries : ℕ) (take : Bool) (p : PortState)
     (aired : List Item) (q : Phase) (r : Reply)
-    → is_asked q r ≡ true → take ≡ false → TellsIdle p q r → Over n p aired q
+    → is_asked q r ≡ true → take ≡ false → TellsIdle p aired q r → Over n p aired q
     → OverAt n p aired (stage_after (on_reply mode list limit take tries q r))
 replied_over n Plain list limit tries take p aired q r e none t h = grind arith
 replied_over n Confirming list limit tries take p aired q r e none t h = grind arith
@@ -153,20 +154,19 @@ closed_over : (n : ℕ) (mode : Mode) (list : List Item) (port limit : ℕ) (cli
     → Closed mode list port limit clips (Untaken n) TellsIdle
 closed_over n mode list port limit clips = record {
   naks = naks_idle;
-  ready = λ take p aired stage h. (h.0, ready_over_at n p aired stage h.1);
+  ready = λ take p aired settled stage h. (h.0, ready_over_at n p aired stage h.1);
   ready_tells = ready_idle;
-  ended = λ take p aired stage h. (h.0, ended_over_at n p aired stage h.1);
+  ended = λ take p aired settled stage h. (h.0, ended_over_at n p aired stage h.1);
   ended_tells = ended_idle;
-  sends = λ take stop p aired q h. sends_over n take stop p aired q h;
-  reads = λ take p aired settled q numbered place h. (h.0, reads_over n list clips p aired port q h.1);
-  reads_tell = λ take p aired settled q r numbered place h a. reads_tell_idle list clips p port q r a;
-  refused = λ take p aired q r plain e t h. (h.0, refused_over n (length list) p aired q);
-  replied = λ take p aired tries q r asked receipt t h. (
-    h.0,
-    replied_over n mode list limit tries take p aired q r
-        asked h.0 t h.1,
-  );
-  silent = λ take p aired unanswered counts q h. (h.0, silent_over n mode limit unanswered counts p aired q h.1);
+  sends = sends_over n;
+  reads = λ take p aired settled q numbered h. (h.0, reads_over n list clips p aired port q h.1);
+  reads_tell = λ take p aired settled q r numbered h a. reads_tell_idle list clips p
+      (aired ++ aired_after clips p (command_in list port q)) port q r a;
+  refused = λ take p aired settled q r plain e t h. (h.0, refused_over n (length list) p aired q);
+  replied = λ take p aired settled tries q r asked receipt t h.
+      (h.0, replied_over n mode list limit tries take p aired q r asked h.0 t h.1);
+  silent =
+      λ take p aired settled unanswered counts q h. (h.0, silent_over n mode limit unanswered counts p aired q h.1);
 }
 
 -- ---- where a clip would be cut short
@@ -294,11 +294,13 @@ gives_play list port (phase.Play k) take e = refl
 gives_play list port _ take e = cc
 
 sent_untaken : (c : Channel) → given c.plan c.state ≡ Some command.Play
-    → Untaken (length c.aired) (ticked c.state).take c.port.state c.aired (ticked c.state).stage
+    → Untaken (length c.aired) (ticked c.state).take c.port.state c.aired (ticked c.state).settled
+    (ticked c.state).stage
 sent_untaken c e = by c.state.stage e
   where
     by : (stage : Stage) → given_in c.plan c.state.stop stage ≡ Some command.Play
-        → Untaken (length c.aired) (tick_in stage c.state).take c.port.state c.aired (tick_in stage c.state).stage
+        → Untaken (length c.aired) (tick_in stage c.state).take c.port.state c.aired
+        (tick_in stage c.state).settled (tick_in stage c.state).stage
     by (Ready q) e = (
       gives_play c.plan.list c.plan.port (phase_to_send c.state.stop q) c.state.take e,
       over_none c.port.state
@@ -320,9 +322,9 @@ not_since below c r gives events e more cut =
     at_first = record {
       stands = sent_untaken c gives;
       told = subst
-          (λ (g : Option Command). ToldOf c.plan.mode TellsIdle c.port.state (ticked c.state).stage
+          (λ (g : Option Command). ToldOf c.plan.mode TellsIdle c.port.state c.aired (ticked c.state).stage
           (heard_in c.port.state.unit (up_behind g c.up)))
-          (sym gives) (told_none c.plan.mode TellsIdle c.port.state (ticked c.state).stage);
+          (sym gives) (told_none c.plan.mode TellsIdle c.port.state c.aired (ticked c.state).stage);
     }
 
 pub no_cut : Below → (c : Channel) → IsReached c → NoCut c

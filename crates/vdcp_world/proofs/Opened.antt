@@ -18,10 +18,11 @@ use Rattle.vdcp_auto.specs.declared.phase.Phase.TheVariants as phase
 use Rattle.vdcp_auto.specs.State.{Stage, Ready, Awaiting, Ended}
 use Rattle.vdcp_world.specs.Channel.{Channel, IsReached, new_channel}
 use Rattle.vdcp_world.specs.Below.{Below}
-use Rattle.vdcp_world.proofs.Claims.{Closed, claim_events}
+use Rattle.vdcp_world.proofs.Claims.{Closed}
 use Rattle.vdcp_world.proofs.HeadlineProof.{kept_new}
 use Rattle.vdcp_world.proofs.PhaseTable.{is_asked, port_after, answer_after}
 use Rattle.vdcp_world.proofs.Readings.{firm_cue_at, firm_request}
+use Rattle.vdcp_world.proofs.Kept.{claim_events}
 
 abbrev pub Opened : PortState → Phase → Type 0
 Opened p phase.Open = Unit {0}
@@ -100,27 +101,29 @@ same_tells : (p now : PortState) (q : Phase) (r : Reply) → p.access ≡ now.ac
 same_tells p now q r e t = grind arith
 
 closed_opened : (mode : Mode) (list : List Item) (port limit : ℕ) (clips : List (ClipId × Timecode))
-    → Closed mode list port limit clips (λ take p aired stage. OpenedAt p stage) TellsOpened
+    → Closed mode list port limit clips (λ take p aired settled stage. OpenedAt p stage) (λ p aired. TellsOpened p)
 closed_opened mode list port limit clips = record {
-  naks = naks_opened;
-  ready = λ take p aired stage h. same_opened p (ready_state p) stage refl h;
-  ready_tells = λ p q r t. same_tells p (ready_state p) q r refl t;
-  ended = λ take p aired stage h. same_opened p (ended_state p) stage refl h;
-  ended_tells = λ p q r t. same_tells p (ended_state p) q r refl t;
-  sends = λ take stop p aired q h. sends_opened stop p q h;
-  reads = λ take p aired settled q n place h. reads_opened list clips p port q n h;
-  reads_tell = λ take p aired settled q r n place h a. reads_tell_opened list clips p port q r n a;
-  refused = λ take p aired q r plain e t h. refused_opened (length list) p q;
-  replied = λ take p aired tries q r asked receipt t h. replied_opened mode list limit tries take p q r asked t h;
-  silent = λ take p aired unanswered counts q h. silent_opened mode limit unanswered counts p q h;
+  naks = λ p aired q byte e. naks_opened p q byte e;
+  ready = λ take p aired settled stage h. same_opened p (ready_state p) stage refl h;
+  ready_tells = λ p aired q r t. same_tells p (ready_state p) q r refl t;
+  ended = λ take p aired settled stage h. same_opened p (ended_state p) stage refl h;
+  ended_tells = λ p aired q r t. same_tells p (ended_state p) q r refl t;
+  sends = λ take stop p aired settled q h. sends_opened stop p q h;
+  reads = λ take p aired settled q n h. reads_opened list clips p port q n h;
+  reads_tell = λ take p aired settled q r n h a. reads_tell_opened list clips p port q r n a;
+  refused = λ take p aired settled q r plain e t h. refused_opened (length list) p q;
+  replied =
+      λ take p aired settled tries q r asked receipt t h. replied_opened mode list limit tries take p q r asked t h;
+  silent = λ take p aired settled unanswered counts q h. silent_opened mode limit unanswered counts p q h;
 }
 
 pub reached_opened : Below → (c : Channel) → IsReached c → OpenedAt c.port.state c.state.stage
 reached_opened below c r =
     subst (λ (x : Channel). OpenedAt x.port.state x.state.stage) (sym r.led)
-    (claim_events below (λ take p aired stage. OpenedAt p stage) TellsOpened new r.events
+    (claim_events below (λ take p aired settled stage. OpenedAt p stage) (λ p aired. TellsOpened p) new r.events
     (closed_opened r.plan.mode r.plan.list r.plan.port r.plan.limit r.clips)
-    (kept_new r.plan r.clips r.unit r.cue_frames r.unit_fits r.port_fits r.of_bytes) (λ some take p aired stage h. h)
+    (kept_new r.plan r.clips r.unit r.cue_frames r.unit_fits r.port_fits r.of_bytes)
+    (λ some take p aired settled stage h. h)
     (record { stands = tt; told = tt })).stands
   where
     new : Channel

@@ -11,12 +11,10 @@ use Rattle.vdcp_port.specs.Clips.{is_known, is_playable}
 use Rattle.vdcp_port.specs.Port.{PortState, Cued, empty, cueing, done, is_selected, is_open, is_empty as is_empty_slot, is_done as is_done_cue}
 use Rattle.vdcp_port.specs.Row.{command_row, changed, on_air}
 use Rattle.vdcp_auto.specs.Commands.{is_opened, is_state, is_active, is_presence}
-use Rattle.vdcp_auto.specs.Replies.{is_ack, is_receipt, is_refusal, is_granted, is_present, is_done, is_cueing, is_empty}
+use Rattle.vdcp_auto.specs.Replies.{is_ack, is_refusal, is_granted, is_present, is_done, is_cueing, is_empty}
 use Rattle.vdcp_auto.specs.Table.{names_other}
-use Rattle.vdcp_auto.specs.declared.exchange.Heard.{Heard}
-use Rattle.vdcp_auto.specs.declared.exchange.Heard.TheVariants as heard
 use Rattle.vdcp_auto.specs.declared.phase.Mode.{Mode}
-use Rattle.vdcp_auto.specs.declared.phase.Mode.TheVariants.{Plain, Confirming}
+use Rattle.vdcp_auto.specs.declared.phase.Mode.TheVariants.{Plain}
 use Rattle.vdcp_auto.specs.declared.outcome.Outcome.{Outcome}
 use Rattle.vdcp_auto.specs.declared.outcome.Outcome.TheVariants as outcome
 use Rattle.vdcp_auto.specs.declared.phase.Phase.{Phase}
@@ -200,22 +198,6 @@ abbrev pub answer_after : List (ClipId × Timecode) → PortState → Option Com
 answer_after clips p None = None
 answer_after clips p (Some c) = (command_row clips p c).answer
 
--- ---- by the mode
-
+-- in plain mode alone
 abbrev pub FirmIn : Mode → List Item → List (ClipId × Timecode) → PortState → Stage → Type 0
-FirmIn Plain list clips p stage = FirmAt list clips p stage
-FirmIn Confirming list clips p stage = Unit {0}
-
--- in confirm mode receipts tell nothing
-abbrev pub TellsIn : Mode → List Item → List (ClipId × Timecode) → PortState → List Item → Phase → Reply → Type 0
-TellsIn Plain list clips p aired q r = Tells list clips p.cued aired q r × FirmTells list clips p q r
-TellsIn Confirming list clips p aired q r = is_receipt r ≡ false → Tells list clips p.cued aired q r
-
--- what is heard while a command is awaited tells this
-abbrev pub Told : Mode → List Item → List (ClipId × Timecode) → PortState → List Item → Phase → Option Heard → Type 0
-Told mode list clips p aired q h = (r : Reply) → h ≡ Some (heard.Reply r) → TellsIn mode list clips p aired q r
-
-abbrev pub ToldAt : Mode → List Item → List (ClipId × Timecode) → PortState → List Item → Stage → Option Heard → Type 0
-ToldAt mode list clips p aired (Ready q) h = Unit {0}
-ToldAt mode list clips p aired (Awaiting q) h = Told mode list clips p aired q h
-ToldAt mode list clips p aired (Ended outcome) h = Unit {0}
+FirmIn mode list clips p stage = mode ≡ Plain → FirmAt list clips p stage

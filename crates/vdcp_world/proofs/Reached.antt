@@ -109,7 +109,7 @@ abbrev pub port_make : Plan → ClockedPort → Make
 port_make plan p =
     record { plan = plan; clips = p.clips; unit = p.state.unit; number = p.state.number; cue_frames = p.cue_frames }
 
-make_change : (plan : Plan) (change : Change) (p : ClockedPort)
+pub make_change : (plan : Plan) (change : Change) (p : ClockedPort)
     → port_make plan (after_change change p) ≡ port_make plan p
 make_change plan keeps p = refl
 make_change plan opens p = refl

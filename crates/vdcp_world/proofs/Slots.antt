@@ -1,16 +1,13 @@
 -- A cue gets done, a clip ends, and frames pass, in the phase table.
-use Rattle.std.proofs.Common.{◌≡◌, ℕ, List, Option, refl, arith}
+use Rattle.std.proofs.Common.{◌≡◌, ℕ, List, refl, arith}
 use Rattle.vdcp_value.specs.declared.clip_id.ClipId.{ClipId}
 use Rattle.vdcp_value.specs.declared.part.Item.{Item}
 use Rattle.vdcp_value.specs.declared.timecode.Timecode.{Timecode}
 use Rattle.vdcp_words.specs.declared.reply.Reply.{Reply}
 use Rattle.vdcp_port.specs.Port.{PortState, Cued, empty, cueing, done, made_ready, ready_state, ended_state}
-use Rattle.vdcp_auto.specs.declared.exchange.Heard.{Heard}
-use Rattle.vdcp_auto.specs.declared.phase.Mode.{Mode}
-use Rattle.vdcp_auto.specs.declared.phase.Mode.TheVariants.{Plain, Confirming}
 use Rattle.vdcp_auto.specs.declared.phase.Phase.{Phase}
 use Rattle.vdcp_auto.specs.State.{Stage, Ready, Awaiting, Ended}
-use Rattle.vdcp_world.proofs.PhaseTable.{Place, PlaceAt, Tells, Firm, FirmAt, FirmIn, FirmTells, TellsIn, ToldAt}
+use Rattle.vdcp_world.proofs.PhaseTable.{Place, PlaceAt, Tells, Firm, FirmAt, FirmTells}
 
 -- ---- the cue is done
 
@@ -30,7 +27,7 @@ ready_place_at list clips (cueing item) aired settled (Awaiting q) h = ready_pla
 ready_place_at list clips (cueing item) aired settled (Ended outcome) h = h
 ready_place_at list clips (done item) aired settled stage h = h
 
-ready_tells : (list : List Item) (clips : List (ClipId × Timecode)) (cued : Cued) (aired : List Item) (q : Phase)
+pub ready_tells : (list : List Item) (clips : List (ClipId × Timecode)) (cued : Cued) (aired : List Item) (q : Phase)
     (r : Reply)
     → Tells list clips cued aired q r → Tells list clips (made_ready cued) aired q r
 ready_tells list clips empty aired q r h = h
@@ -44,37 +41,18 @@ ready_firm list clips p empty q e h = grind arith
 ready_firm list clips p (cueing item) q e h = grind arith
 ready_firm list clips p (done item) q e h = grind arith
 
-ready_firm_at : (list : List Item) (clips : List (ClipId × Timecode)) (p : PortState) (stage : Stage)
+pub ready_firm_at : (list : List Item) (clips : List (ClipId × Timecode)) (p : PortState) (stage : Stage)
     → FirmAt list clips p stage → FirmAt list clips (ready_state p) stage
 ready_firm_at list clips p (Ready q) h = ready_firm list clips p p.cued q refl h
 ready_firm_at list clips p (Awaiting q) h = ready_firm list clips p p.cued q refl h
 ready_firm_at list clips p (Ended outcome) h = h
 
-pub ready_firm_in : (mode : Mode) (list : List Item) (clips : List (ClipId × Timecode)) (p : PortState) (stage : Stage)
-    → FirmIn mode list clips p stage → FirmIn mode list clips (ready_state p) stage
-ready_firm_in Plain list clips p stage h = ready_firm_at list clips p stage h
-ready_firm_in Confirming list clips p stage h = tt
-
-ready_firm_tells : (list : List Item) (clips : List (ClipId × Timecode)) (p : PortState) (cued : Cued) (q : Phase)
+pub ready_firm_tells : (list : List Item) (clips : List (ClipId × Timecode)) (p : PortState) (cued : Cued) (q : Phase)
     (r : Reply) → p.cued ≡ cued
     → FirmTells list clips p q r → FirmTells list clips (ready_state p) q r
 ready_firm_tells list clips p empty q r e h = grind arith
 ready_firm_tells list clips p (cueing item) q r e h = grind arith
 ready_firm_tells list clips p (done item) q r e h = grind arith
-
-ready_tells_in : (mode : Mode) (list : List Item) (clips : List (ClipId × Timecode)) (p : PortState) (aired : List Item)
-    (q : Phase) (r : Reply)
-    → TellsIn mode list clips p aired q r → TellsIn mode list clips (ready_state p) aired q r
-ready_tells_in Plain list clips p aired q r h =
-    (ready_tells list clips p.cued aired q r h.0, ready_firm_tells list clips p p.cued q r refl h.1)
-ready_tells_in Confirming list clips p aired q r h =
-    λ no_receipt. ready_tells list clips p.cued aired q r (h no_receipt)
-
-pub ready_told : (mode : Mode) (list : List Item) (clips : List (ClipId × Timecode)) (p : PortState) (aired : List Item)
-    (stage : Stage) (h : Option Heard)
-    → ToldAt mode list clips p aired stage h → ToldAt mode list clips (ready_state p) aired stage h
-ready_told mode list clips p aired (Awaiting q) h told = λ r e. ready_tells_in mode list clips p aired q r (told r e)
-ready_told mode list clips p aired _ h told = tt
 
 -- ---- the clip has ended
 
@@ -82,29 +60,12 @@ ended_firm : (list : List Item) (clips : List (ClipId × Timecode)) (p : PortSta
     → Firm list clips (ended_state p) q
 ended_firm list clips p q h = grind arith
 
-ended_firm_at : (list : List Item) (clips : List (ClipId × Timecode)) (p : PortState) (stage : Stage)
+pub ended_firm_at : (list : List Item) (clips : List (ClipId × Timecode)) (p : PortState) (stage : Stage)
     → FirmAt list clips p stage → FirmAt list clips (ended_state p) stage
 ended_firm_at list clips p (Ready q) h = ended_firm list clips p q h
 ended_firm_at list clips p (Awaiting q) h = ended_firm list clips p q h
 ended_firm_at list clips p (Ended outcome) h = h
 
-pub ended_firm_in : (mode : Mode) (list : List Item) (clips : List (ClipId × Timecode)) (p : PortState) (stage : Stage)
-    → FirmIn mode list clips p stage → FirmIn mode list clips (ended_state p) stage
-ended_firm_in Plain list clips p stage h = ended_firm_at list clips p stage h
-ended_firm_in Confirming list clips p stage h = tt
-
-ended_firm_tells : (list : List Item) (clips : List (ClipId × Timecode)) (p : PortState) (q : Phase) (r : Reply)
+pub ended_firm_tells : (list : List Item) (clips : List (ClipId × Timecode)) (p : PortState) (q : Phase) (r : Reply)
     → FirmTells list clips p q r → FirmTells list clips (ended_state p) q r
 ended_firm_tells list clips p q r h = grind arith
-
-ended_tells_in : (mode : Mode) (list : List Item) (clips : List (ClipId × Timecode)) (p : PortState) (aired : List Item)
-    (q : Phase) (r : Reply)
-    → TellsIn mode list clips p aired q r → TellsIn mode list clips (ended_state p) aired q r
-ended_tells_in Plain list clips p aired q r h = (h.0, ended_firm_tells list clips p q r h.1)
-ended_tells_in Confirming list clips p aired q r h = h
-
-pub ended_told : (mode : Mode) (list : List Item) (clips : List (ClipId × Timecode)) (p : PortState) (aired : List Item)
-    (stage : Stage) (h : Option Heard)
-    → ToldAt mode list clips p aired stage h → ToldAt mode list clips (ended_state p) aired stage h
-ended_told mode list clips p aired (Awaiting q) h told = λ r e. ended_tells_in mode list clips p aired q r (told r e)
-ended_told mode list clips p aired _ h told = tt

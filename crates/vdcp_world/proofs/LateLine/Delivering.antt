@@ -16,8 +16,8 @@ use Rattle.vdcp_world.proofs.LateLine.Executed.{Does, Executed, Shows}
 use Rattle.vdcp_world.proofs.LateLine.Places.{Answer, pipe_of, plays, misfits, fits_phase, says_ack, says_done, shows_no_cue, HasItem, HasDone, HasNone, At, Cueing, Waiting}
 use Rattle.vdcp_world.proofs.LateLine.Stretches.{Lies, cue_or_before, wait_or_before, climbs_before, none_answers}
 use Rattle.vdcp_world.proofs.LateLine.Thinning.{any_push}
-use Rattle.vdcp_world.proofs.TableKept.{no_item}
 use Rattle.vdcp_world.proofs.PhaseTable.{cued_item}
+use Rattle.vdcp_world.proofs.Exchanges.{no_item}
 
 -- ---- what stays
 

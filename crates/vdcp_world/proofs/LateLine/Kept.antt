@@ -1,5 +1,5 @@
 -- What holds of a late channel over bytes, where a claim holds of what they carry.
-use Rattle.std.proofs.Common.{ℕ, ◌<◌, ◌≡◌, ◌≢◌, ◌⊎◌, inl, inr, true, false, List, [], ◌∷◌, ◌++◌, All, refl, sym, ap, subst, ◌∙◌}
+use Rattle.std.proofs.Common.{ℕ, ◌<◌, ◌≡◌, ◌≢◌, ◌⊎◌, inl, inr, true, false, List, [], ◌∷◌, ◌++◌, All, refl, sym, subst}
 use Rattle.std.specs.Option.{option_to_list}
 use Rattle.std.specs.Prelude.{Option, Some, IfSome}
 use Rattle.vdcp_value.specs.Parts.{IsItem}
@@ -35,7 +35,7 @@ use Rattle.vdcp_world.proofs.LateLine.Executing.{reads}
 use Rattle.vdcp_world.proofs.LateLine.Places.{Answer}
 use Rattle.vdcp_world.proofs.OnTheWay.{ReadsNothing, ReadsCommand}
 use Rattle.vdcp_world.proofs.LateLine.Thinning.{all_left}
-use Rattle.vdcp_world.proofs.Kept.{keeps_unit}
+use Rattle.vdcp_world.proofs.Claims.{burst_unit}
 
 -- ---- what bursts carry
 
@@ -131,7 +131,7 @@ pub delivered_nothing : (mode : Mode) (S : Claim) → Steady S
     → StandsAt S plan.list p state.settled state.stage aired ups downs
     → Delivered mode S plan state p up aired down downs
 delivered_nothing mode S steady plan state p up aired down ups downs r u h = record {
-  unit_same = ap (λ (q : ClockedPort). q.state.unit) r.stays;
+  unit_same = burst_unit plan p down;
   ups = ups;
   up_is = junk_joins mode p.state.unit up ups (sent_for p down) (says_junk mode p down r) u;
   stands = subst (λ (q : ClockedPort). StandsAt S plan.list q state.settled state.stage
@@ -155,7 +155,7 @@ delivered_command mode S steady plan state p up aired down ups d downs c is r u 
     (is_selected (changed change p.state)) (changed change p.state).cued (option_to_list (on_air change)) h
     (reads plan.list p.clips p.state plan.port d c is r.answer r.answers) in
     record {
-      unit_same = ap (λ (q : ClockedPort). q.state.unit) r.leaves ∙ keeps_unit change p;
+      unit_same = burst_unit plan p down;
       ups = ups ++ x ∷ [];
       up_is = answer_joins mode p.state.unit up ups (sent_for p down) x r.heard u;
       stands = subst (λ (q : ClockedPort). StandsAt S plan.list q state.settled state.stage (aired ++ aired_for p down)

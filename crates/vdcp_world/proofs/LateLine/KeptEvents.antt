@@ -27,7 +27,7 @@ use Rattle.vdcp_auto.specs.declared.phase.Mode.{Mode}
 use Rattle.vdcp_auto.specs.declared.phase.Mode.TheVariants.{Plain, Confirming}
 use Rattle.vdcp_auto.specs.declared.phase.Phase.{Phase}
 use Rattle.vdcp_auto.specs.State.{Stage, Ready, Awaiting, State}
-use Rattle.vdcp_world.specs.Channel.{state_hearing, log_hearing, state_straying, log_straying}
+use Rattle.vdcp_world.specs.Channel.{state_hearing, log_hearing, state_straying, log_straying, Make}
 use Rattle.vdcp_world.specs.LateLine.Damage.{can_become, can_become_up, is_junk_down, is_junk_up, is_no_answer}
 use Rattle.vdcp_world.specs.LateLine.LateHeadline.{log_so_far}
 use Rattle.vdcp_world.specs.LateLine.LateChannel.{LateChannel, after_late_event, without_oldest, oldest, command_bursts, bursts_of, made_anew}
@@ -44,8 +44,8 @@ use Rattle.vdcp_world.proofs.LateLine.Places.{Answer, Exact, plays}
 use Rattle.vdcp_world.proofs.OnTheWay.{ReadsCommand}
 use Rattle.vdcp_world.proofs.WayLemmas.{reads_nothing, reads_command}
 use Rattle.vdcp_world.proofs.LateLine.Thinning.{Thins, all_left}
-use Rattle.vdcp_world.proofs.Kept.{clips_frame}
 use Rattle.vdcp_world.proofs.WayKept.{front_of_none}
+use Rattle.vdcp_world.proofs.Reached.{make_frame}
 
 -- ---- a tick
 
@@ -532,7 +532,7 @@ kept_event mode S closed below c event.End r k =
     (same_ages (is_selected c.port.state) c.port.state.cued)
 kept_event mode S closed below c event.Frame r k =
     with_port mode (ExactlyIn S c) (exactly S (may c) closed.steady) c k (after_frame c.port) (below.unit_frame c.port)
-    (clips_frame c.port) (frame_ages c.port)
+    (ap (λ (m : Make). m.clips) (make_frame c.plan c.port)) (frame_ages c.port)
 kept_event mode S closed below c event.Take r k =
     with_state mode (ExactlyIn S c) (ExactlyIn S (after_late_event c event.Take)) c k (taken c.state) c.log k.stands
 kept_event mode S closed below c event.Stop r k =
