@@ -8,6 +8,8 @@ pub mod Delivering
 pub mod DeliveringPlay
 pub mod Safety
 pub mod Closing
+pub mod Reads
+pub mod Held
 pub mod Standing
 pub mod Exactness
 pub mod ExactPlaces
@@ -17,7 +19,6 @@ pub mod Hearing
 pub mod Executing
 pub mod Carrying
 pub mod Claims
-pub mod Coming
 pub mod Kept
 pub mod KeptEvents
 pub mod HeadlineProof
@@ -26,7 +27,6 @@ pub mod ConfirmedPlaces
 pub mod ConfirmedReads
 pub mod ConfirmedStanding
 pub mod ConfirmedHearing
-pub mod ConfirmedComing
 pub mod ConfirmedCovers
 pub mod Started
 pub mod LateReached

@@ -23,9 +23,9 @@ use Rattle.vdcp_world.proofs.LateLine.Closing.{Ages}
 use Rattle.vdcp_world.proofs.LateLine.Endings.{Misses, settled_at}
 use Rattle.vdcp_world.proofs.LateLine.Exactness.{exact_ages, exact_copied, exact_reads, exact_thins, is_exact_at}
 use Rattle.vdcp_world.proofs.LateLine.Places.{Answer, At, Exact, misfits, pipe_of}
-use Rattle.vdcp_world.proofs.LateLine.Standing.{Reads, misleads}
 use Rattle.vdcp_world.proofs.LateLine.Thinning.{Thins}
 use Rattle.vdcp_world.proofs.PhaseTable.{Near}
+use Rattle.vdcp_world.proofs.LateLine.Reads.{Reads, misleads}
 
 -- of the playlist, the catalogue, how many events are settled, whether the port is selected, its cued slot, what was
 -- aired, the

@@ -1,17 +1,18 @@
 -- Each phase keeps its place where something on the way is left out, and where the port changes by itself.
-use Rattle.std.proofs.Common.{◌≡◌, ℕ, ◌⊎◌, inl, inr, Bool, true, false, List, [], ◌∷◌, ◌++◌, ◌≤◌, refl, sym, ap, subst, ◌∙◌}
+use Rattle.std.proofs.Common.{◌≡◌, ℕ, ◌⊎◌, inl, inr, Bool, true, false, List, [], ◌∷◌, ◌++◌, ◌≤◌, refl, sym, ap, subst, ◌∙◌, ◌+◌, ◌*◌, arith}
 use Rattle.std.specs.List.{list_any}
 use Rattle.vdcp_value.specs.declared.part.Item.{Item}
 use Rattle.vdcp_port.specs.Port.{Cued, empty, cueing, done, made_ready, is_done as is_done_cue}
 use Rattle.vdcp_auto.specs.declared.phase.Mode.{Mode}
 use Rattle.vdcp_auto.specs.declared.phase.Phase.{Phase}
 use Rattle.vdcp_auto.specs.declared.phase.Phase.TheVariants as phase
-use Rattle.vdcp_world.specs.LateLine.Pipe.{Climbs, IsPipe, stretch, stretches}
+use Rattle.vdcp_world.specs.LateLine.Pipe.{Climbs, IsPipe, stretch, stretches, oldest_stretch}
 use Rattle.vdcp_world.proofs.LateLine.Pipes.{climbs_pushed, climbs_thins}
 use Rattle.vdcp_world.proofs.LateLine.Stretches.{pipe_copied, pipe_pushed}
 use Rattle.vdcp_world.proofs.LateLine.Places.{Answer, pipe_of, plays, arms, waits, says_ack, says_done, says_empty, shows_no_cue, HasItem, HasDone, HasNone, ToAir, OnAir, Playing, LastCue, Unarmed, Safe, Place}
 use Rattle.vdcp_world.proofs.LateLine.Thinning.{Thins, any_thins, none_thins}
 use Rattle.vdcp_world.proofs.PhaseTable.{cued_item}
+use Rattle.vdcp_auto.specs.declared.phase.Mode.TheVariants.{Plain, Confirming}
 
 -- ---- something is left out
 
@@ -121,12 +122,24 @@ flow_copied mode n ups d downs q =
     (λ low high. pipe_copied mode n low high ups d downs)
 
 -- the pipe with one more of the greatest
-pub pushed : (mode : Mode) (n low : ℕ) (ups : List Answer) (downs : List Phase) (q : Phase) → low ≤ stretch mode n q
+pushed : (mode : Mode) (n low : ℕ) (ups : List Answer) (downs : List Phase) (q : Phase) → low ≤ stretch mode n q
     → Climbs low (stretch mode n q) (stretches mode n (pipe_of ups downs))
     → Climbs low (stretch mode n q) (stretches mode n (pipe_of ups (downs ++ q ∷ [])))
 pushed mode n low ups downs q l c =
     subst (Climbs low (stretch mode n q)) (sym (pipe_pushed mode n ups downs q))
     (climbs_pushed low (stretch mode n q) (stretches mode n (pipe_of ups downs)) l c)
+
+pub flow_pushed : (mode : Mode) (n : ℕ) (ups : List Answer) (downs : List Phase) (q : Phase)
+    → IsPipe mode n q (pipe_of ups downs) → IsPipe mode n q (pipe_of ups (downs ++ q ∷ []))
+flow_pushed mode n ups downs phase.Halt c = tt
+flow_pushed mode n ups downs phase.HaltClose c = tt
+flow_pushed Plain n ups downs (phase.Cue k) c = pushed Plain n (5 * k + 2) ups downs (phase.Cue k) (omega arith) c
+flow_pushed Confirming n ups downs (phase.Cue k) c =
+    pushed Confirming n (5 * k + 2) ups downs (phase.Cue k) (omega arith) c
+flow_pushed Plain n ups downs (phase.Wait k) c = pushed Plain n (5 * k + 3) ups downs (phase.Wait k) (omega arith) c
+flow_pushed Confirming n ups downs (phase.Wait k) c =
+    pushed Confirming n (5 * k + 2) ups downs (phase.Wait k) (omega arith) c
+flow_pushed mode n ups downs q c = pushed mode n (oldest_stretch mode n q) ups downs q (omega arith) c
 
 -- ---- the port changes by itself: its cue gets done, or it is made anew
 

@@ -1,29 +1,29 @@
--- What holds of a late channel in confirm mode: every event keeps it, and it says what went to air.
-use Rattle.std.proofs.Common.{ℕ, ◌+◌, ◌≡◌, Bool, true, length, List, refl, arith, sym, subst}
-use Rattle.std.specs.Prelude.{Option}
+-- Confirm mode tends its places: so what holds of a late channel in it is kept by every event.
+use Rattle.std.proofs.Common.{ℕ, ◌+◌, ◌≡◌, Bool, true, false, ◌||◌, List, ◌∷◌, length, Some, refl, arith, if◌then◌else◌}
 use Rattle.vdcp_value.specs.declared.clip_id.ClipId.{ClipId}
 use Rattle.vdcp_value.specs.declared.part.Item.{Item}
 use Rattle.vdcp_value.specs.declared.timecode.Timecode.{Timecode}
+use Rattle.vdcp_words.specs.declared.command.Command.{Command}
 use Rattle.vdcp_port.specs.Port.{Cued}
-use Rattle.vdcp_auto.specs.Plan.{Plan}
-use Rattle.vdcp_auto.specs.State.{Stage, State, Ready, Awaiting, Ended}
-use Rattle.vdcp_auto.specs.Turn.{came_to}
-use Rattle.vdcp_auto.specs.declared.exchange.Heard.{Heard}
-use Rattle.vdcp_auto.specs.declared.phase.Mode.{Mode}
+use Rattle.vdcp_auto.specs.Commands.{fits}
+use Rattle.vdcp_auto.specs.Replies.{is_receipt, is_refusal}
+use Rattle.vdcp_auto.specs.State.{State, Awaiting}
+use Rattle.vdcp_auto.specs.Table.{command_in, on_reply, on_refusal}
+use Rattle.vdcp_auto.specs.Turn.{is_end}
+use Rattle.vdcp_auto.specs.declared.exchange.Heard.TheVariants as heard
 use Rattle.vdcp_auto.specs.declared.phase.Mode.TheVariants.{Confirming}
 use Rattle.vdcp_auto.specs.declared.phase.Phase.{Phase}
 use Rattle.vdcp_auto.specs.declared.phase.Phase.TheVariants as phase
-use Rattle.vdcp_world.specs.LateLine.Pipe.{IsPipe}
-use Rattle.vdcp_world.proofs.LateLine.Claims.{Closed, Comes, Covers}
-use Rattle.vdcp_world.proofs.LateLine.ConfirmedComing.{came_holds}
-use Rattle.vdcp_world.proofs.LateLine.ConfirmedPlaces.{Secure, Spot}
-use Rattle.vdcp_world.proofs.LateLine.ConfirmedStanding.{SpotAt, Holds, holds_thins, holds_copied, holds_reads, holds_ages, holds_sends, secure_in}
-use Rattle.vdcp_world.proofs.LateLine.Endings.{ended_either, ended_settles, settled_at}
-use Rattle.vdcp_world.proofs.LateLine.ExactPlaces.{exact_in}
-use Rattle.vdcp_world.proofs.LateLine.Exactness.{is_exact_at, is_exact_in, none_taken}
-use Rattle.vdcp_world.proofs.LateLine.Places.{Answer, At, Exact, pipe_of}
-use Rattle.vdcp_world.proofs.LateLine.Safety.{near_at}
-use Rattle.vdcp_world.proofs.PhaseTable.{Near}
+use Rattle.vdcp_world.proofs.Exchanges.{fits_asked, no_receipt, no_refusal}
+use Rattle.vdcp_world.proofs.LateLine.ConfirmedHearing.{Leads, goes_on, replied}
+use Rattle.vdcp_world.proofs.LateLine.ConfirmedPlaces.{Secured, Spot, secure_ages, secure_copied, secure_thins, spot_ages, spot_copied, spot_thins}
+use Rattle.vdcp_world.proofs.LateLine.ConfirmedReads.{secure_keeps}
+use Rattle.vdcp_world.proofs.LateLine.ConfirmedStanding.{secure_in, spot_keeps, spot_sends}
+use Rattle.vdcp_world.proofs.LateLine.Delivering.{clash}
+use Rattle.vdcp_world.proofs.LateLine.Exactness.{is_exact_in, none_taken}
+use Rattle.vdcp_world.proofs.LateLine.Held.{Holds, LeadsBy, Tended}
+use Rattle.vdcp_world.proofs.LateLine.Places.{Answer, At}
+use Rattle.vdcp_world.proofs.LateLine.PlainCovers.{either}
 
 -- in which phases how many events are aired and settled
 at_in : (list : List Item) (settled : ℕ) (s : Bool) (a : Cued) (aired : List Item) (ups : List Answer)
@@ -40,66 +40,49 @@ at_in list settled s a aired ups downs phase.Drain e h = (length list, h)
 at_in list settled s a aired ups downs phase.Close e h = (length list, h)
 at_in list settled s a aired ups downs q e h = cc
 
-exact_on : (list : List Item) (settled : ℕ) (s : Bool) (a : Cued) (aired : List Item) (ups : List Answer)
-    (downs : List Phase) (q : Phase) → is_exact_in q ≡ true
-    → Spot list settled s a aired ups downs q × IsPipe Confirming (length list) q (pipe_of ups downs)
-    → Exact list settled s a aired downs
-exact_on list settled s a aired ups downs q e h =
-    let (n, at) = at_in list settled s a aired ups downs q e h.0 in
-    exact_in Confirming list settled s a aired ups downs q e n at
-    (λ k is _. (subst (Spot list settled s a aired ups downs) is h.0).0.1) h.1
+answers : (list : List Item) (clips : List (ClipId × Timecode)) (port limit : ℕ) (s : Bool) (a : Cued)
+    (aired : List Item) (x : Answer) (ups : List Answer) (downs : List Phase) (state : State) (counts : Bool)
+    (q : Phase) (c : Command) → command_in list port q ≡ Some c
+    → is_end Confirming c (Some (heard.Reply x.reply)) ≡ true → (is_refusal x.reply || fits c x.reply) ≡ true
+    → Holds Confirming Spot Secured list clips state.settled s a aired (x ∷ ups) downs (Awaiting q)
+    → LeadsBy Confirming Spot Secured list clips state.settled s a aired (x ∷ ups) downs limit state port counts q
+    (Some x.reply)
+answers list clips port limit s a aired x ups downs state counts q c is ends f h =
+    by (is_refusal x.reply) refl (no_refusal x.reply (no_receipt c x.reply ends))
+  where
+    by : (b : Bool) → is_refusal x.reply ≡ b → b ≡ false → Leads list clips state.settled s a aired (x ∷ ups) downs
+        (if b then on_refusal (length list) q else on_reply Confirming list limit state.take state.tries q x.reply)
+    by true r none = cc
+    by false r none = replied list clips state.settled s a aired x ups downs limit state.tries state.take q
+        (record {
+          no_receipt = no_receipt c x.reply ends;
+          asked = fits_asked list port q c x.reply is (either (is_refusal x.reply) (fits c x.reply) f r);
+          fit = h.fit;
+          true_told = h.true_told;
+        }) h.place
 
-exact : (list : List Item) (clips : List (ClipId × Timecode)) (settled : ℕ) (s : Bool) (a : Cued)
-    (aired : List Item) (ups : List Answer) (downs : List Phase) (stage : Stage)
-    → is_exact_at stage ≡ true → Holds list clips settled s a aired ups downs stage
-    → Exact list settled s a aired downs
-exact list clips settled s a aired ups downs (Ready q) e h = exact_on list settled s a aired ups downs q e h.spot
-exact list clips settled s a aired ups downs (Awaiting q) e h = exact_on list settled s a aired ups downs q e h.spot
-exact list clips settled s a aired ups downs (Ended o) e h = cc
-
-comes : (plan : Plan) (clips : List (ClipId × Timecode)) (s : Bool) (a : Cued) (aired : List Item) (ups : List Answer)
-    (downs : List Phase)
-    (state : State) (came : Option Heard) → plan.mode ≡ Confirming → Comes Confirming ups came
-    → Holds plan.list clips state.settled s a aired ups downs state.stage
-    → Holds plan.list clips (came_to plan came state).settled s a aired ups downs (came_to plan came state).stage
-comes plan clips s a aired ups downs state came confirms h k =
-    subst (λ (m : Mode). Holds plan.list clips
-    (came_to (record { mode = m; list = plan.list; port = plan.port; limit = plan.limit }) came state).settled s a aired
-    ups downs
-    (came_to (record { mode = m; list = plan.list; port = plan.port; limit = plan.limit }) came state).stage)
-    (sym confirms)
-    (came_holds plan.list clips plan.port plan.limit s a aired ups downs state came h k)
-
-closed : Closed Confirming Holds
-closed = record {
-  steady = record { thins = holds_thins; copied = holds_copied; reads = holds_reads; ages = holds_ages };
-  sends = holds_sends;
-  comes = comes;
-  exact = exact;
-}
-
-near : (list : List Item) (clips : List (ClipId × Timecode)) (settled : ℕ) (s : Bool) (a : Cued) (aired : List Item)
-    (ups : List Answer) (downs : List Phase) (stage : Stage)
-    → SpotAt list clips settled s a aired ups downs stage → Near list aired settled
-near list clips settled s a aired ups downs (Ready q) h = (secure_in list settled s a aired ups downs q h.0 h.1).near
-near list clips settled s a aired ups downs (Awaiting q) h = (secure_in list settled s a aired ups downs q h.0 h.1).near
-near list clips settled s a aired ups downs (Ended o) h =
-    ended_either (Secure list settled a aired downs) (Near list aired settled) list settled s a aired downs
-    (settled_at Confirming (length list) o) (λ x. x.near) (λ x. near_at list aired settled settled x.at) h.0
-
-pub confirming_covers : Covers Confirming Holds
-confirming_covers = record {
-  closed = closed;
-  begins = λ list clips s a ups downs none fit told pipe.
-      record {
-        spot = ((record { aired_is = none_taken list; within = omega arith; settled_is = refl }, none refl), pipe);
-        fit = fit;
-        true_told = told;
-      };
-  near = λ list clips settled s a aired ups downs stage h. near list clips settled s a aired ups downs stage h.spot;
-  ends = λ list clips settled s a aired ups downs o h. (
-    ended_settles (Secure list settled a aired downs) list settled s a aired downs
-        (settled_at Confirming (length list) o) h.spot.0,
-    h.spot.1,
-  );
+pub confirming_tended : Tended Confirming Spot Secured
+confirming_tended = record {
+  thins = spot_thins;
+  calm_thins = λ list settled s a aired downs left d h. secure_thins list settled a aired downs left d h;
+  copied = spot_copied;
+  calm_copied = λ list settled s a aired d downs h. secure_copied list settled a aired d downs h;
+  ages = spot_ages;
+  calm_ages = secure_ages;
+  reads = λ list settled s a aired ups d downs q r t b airs fit h x.
+      spot_keeps list settled s a aired ups d downs q r t b airs h.0 h.1 x;
+  calm_reads = secure_keeps;
+  sends = spot_sends;
+  calm_in = λ list settled s a aired ups downs q h. secure_in list settled s a aired ups downs q h.0 h.1;
+  halts = λ list settled s a aired ups downs h. h;
+  near = λ list settled s a aired downs h. h.near;
+  at_in = at_in;
+  checks = λ list settled s a aired ups downs k h _. h.0.1;
+  begins = λ list s a ups downs none.
+      (record { aired_is = none_taken list; within = omega arith; settled_is = refl }, none refl);
+  goes_on = goes_on;
+  -- what is no answer and ends an exchange is no receipt, and so no reply
+  strays = λ list clips port limit s a aired ups downs state counts q c r none ends f h.
+      clash (is_receipt r) none (no_receipt c r ends);
+  answers = answers;
 }

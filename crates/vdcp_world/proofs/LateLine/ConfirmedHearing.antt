@@ -2,7 +2,7 @@
 use Rattle.std.proofs.Common.{◌≡◌, ℕ, ◌+◌, ◌*◌, ◌<◌, ◌≤◌, ◌⊎◌, inl, inr, Bool, true, false, not, ◌||◌, ◌&&◌, List, [], ◌∷◌, length, Some, refl, arith, ap, subst, ◌∙◌, if◌then◌else◌}
 use Rattle.std.proofs.lemmas.Bool.{and_right, or_from, or_left, or_parts, not-false}
 use Rattle.std.specs.List.{list_any}
-use Rattle.std.specs.Prelude.{slice_get, nat_le, nat_lt}
+use Rattle.std.specs.Prelude.{slice_get, nat_lt}
 use Rattle.vdcp_value.specs.declared.clip_id.ClipId.{ClipId}
 use Rattle.vdcp_value.specs.declared.part.Item.{Item}
 use Rattle.vdcp_value.specs.declared.timecode.Timecode.{Timecode}
@@ -12,7 +12,6 @@ use Rattle.vdcp_port.specs.Port.{Cued}
 use Rattle.vdcp_auto.specs.Commands.{is_presence}
 use Rattle.vdcp_auto.specs.Replies.{is_ack, is_receipt, is_granted, is_present, is_done, is_playing, is_empty, is_cueing}
 use Rattle.vdcp_auto.specs.Table.{next, names_other, on_lost_cue, on_reply, on_no_answer}
-use Rattle.vdcp_auto.specs.Turn.{on_unanswered, stage_after, settled_after}
 use Rattle.vdcp_auto.specs.declared.outcome.Outcome.TheVariants as outcome
 use Rattle.vdcp_auto.specs.declared.phase.Mode.TheVariants.{Confirming}
 use Rattle.vdcp_auto.specs.declared.phase.Phase.{Phase}
@@ -22,29 +21,25 @@ use Rattle.vdcp_auto.specs.declared.phase.Transition.{Transition}
 use Rattle.vdcp_auto.specs.declared.phase.Transition.TheVariants.{Goes, Settles, Retries, Ends}
 use Rattle.vdcp_world.specs.LateLine.Pipe.{stretch, Climbs, stretches, IsPipe}
 use Rattle.vdcp_world.proofs.PhaseTable.{is_asked, knows}
-use Rattle.vdcp_world.proofs.LateLine.ConfirmedPlaces.{ToSound, Sounded, Idle, Secure, Spot, full_none}
+use Rattle.vdcp_world.proofs.LateLine.ConfirmedPlaces.{ToSound, Sounded, Idle, Secure, Spot, full_none, Secured}
 use Rattle.vdcp_world.proofs.LateLine.ConfirmedReads.{presence_no_state}
-use Rattle.vdcp_world.proofs.LateLine.ConfirmedStanding.{SpotAt, secure_in}
 use Rattle.vdcp_world.proofs.LateLine.Endings.{EndedAt, settles_at, silent_end}
 use Rattle.vdcp_world.proofs.LateLine.Delivering.{clash}
 use Rattle.vdcp_world.proofs.LateLine.Passing.{wanted, same_wanted, all_own, fits_as}
 use Rattle.vdcp_world.proofs.LateLine.Pipes.{climbs_within}
 use Rattle.vdcp_world.proofs.LateLine.Places.{Answer, pipe_of, waits, misfits, fits_phase, says_done, says_empty, shows_no_cue, At}
 use Rattle.vdcp_world.proofs.LateLine.Safety.{is_silent, none_arms_in}
-use Rattle.vdcp_world.proofs.LateLine.Standing.{differs, misleads, misleads_at}
 use Rattle.vdcp_world.proofs.LateLine.Stretches.{Lies, ups_climb, none_answers}
 use Rattle.vdcp_world.proofs.Exchanges.{no_refusal}
+use Rattle.vdcp_world.proofs.LateLine.Reads.{differs, misleads, misleads_at}
+use Rattle.vdcp_world.proofs.LateLine.Held.{HeldAt, Here as HereIn, Leads as LeadsIn}
 
--- where a turn leads
+abbrev pub Here : List Item → ℕ → Bool → Cued → List Item → List Answer → List Phase → Phase → Type 0
+Here = HereIn Confirming Spot Secured
+
 abbrev pub Leads : List Item → List (ClipId × Timecode) → ℕ → Bool → Cued → List Item → List Answer → List Phase
     → Transition → Type 0
-Leads list clips settled s a aired ups downs turn =
-    SpotAt list clips (settled_after turn settled) s a aired ups downs (stage_after turn)
-
--- the spot of a phase, with its pipe
-abbrev pub Here : List Item → ℕ → Bool → Cued → List Item → List Answer → List Phase → Phase → Type 0
-Here list settled s a aired ups downs q =
-    Spot list settled s a aired ups downs q × IsPipe Confirming (length list) q (pipe_of ups downs)
+Leads = LeadsIn Confirming Spot Secured
 
 -- ---- silence
 
@@ -56,7 +51,8 @@ over : (list : List Item) (settled : ℕ) (s : Bool) (a : Cued) (aired : List It
 over list settled s a aired ups downs k q e c h =
     silent_end (Secure list settled a aired downs) Confirming list settled s a aired ups downs k q e c h
 
-goes_on : (list : List Item) (clips : List (ClipId × Timecode)) (settled : ℕ) (s : Bool) (a : Cued) (aired : List Item)
+pub goes_on : (list : List Item) (clips : List (ClipId × Timecode)) (settled : ℕ) (s : Bool) (a : Cued)
+    (aired : List Item)
     (ups : List Answer) (downs : List Phase)
     (q : Phase) → Here list settled s a aired ups downs q
     → Leads list clips settled s a aired ups downs (on_no_answer Confirming q)
@@ -64,18 +60,6 @@ goes_on list clips settled s a aired ups downs phase.Close h =
     (over list settled s a aired ups downs (length list) phase.Close refl h.1 h.0, tt)
 goes_on list clips settled s a aired ups downs phase.HaltClose h = (h.0, tt)
 goes_on list clips settled s a aired ups downs _ h = h
-
-pub silent : (list : List Item) (clips : List (ClipId × Timecode)) (settled : ℕ) (s : Bool) (a : Cued)
-    (aired : List Item) (ups : List Answer) (downs : List Phase)
-    (q : Phase) (limit unanswered : ℕ) (counts : Bool)
-    → Here list settled s a aired ups downs q
-    → Leads list clips settled s a aired ups downs (on_unanswered Confirming limit unanswered counts q)
-silent list clips settled s a aired ups downs q limit unanswered counts h = by (counts && nat_le limit (unanswered + 1))
-  where
-    by : (b : Bool) → Leads list clips settled s a aired ups downs
-        (if b then Ends outcome.Lost else on_no_answer Confirming q)
-    by true = (secure_in list settled s a aired ups downs q h.0 h.1, tt)
-    by false = goes_on list clips settled s a aired ups downs q h
 
 -- ---- what a reply was sent for
 
@@ -118,11 +102,12 @@ next_spot : (list : List Item) (clips : List (ClipId × Timecode)) (settled : �
     (aired : List Item) (ups : List Answer) (downs : List Phase)
     (k : ℕ) → Idle list settled a aired k → Climbs (5 * k + 1) (5 * k + 1)
     (stretches Confirming (length list) (pipe_of ups downs))
-    → SpotAt list clips settled s a aired ups downs (Ready (next list k))
+    → HeldAt Confirming Spot Secured list clips settled s a aired ups downs (Ready (next list k))
 next_spot list clips settled s a aired ups downs k h c = by (nat_lt k (length list)) refl
   where
     by : (b : Bool) → nat_lt k (length list) ≡ b
-        → SpotAt list clips settled s a aired ups downs (Ready (if b then phase.Exists k else phase.Drain))
+        → HeldAt Confirming Spot Secured list clips settled s a aired ups downs
+        (Ready (if b then phase.Exists k else phase.Drain))
     by true e =
         let below : k < length list = grind arith in (
           (h, below),

@@ -94,6 +94,10 @@ pub record Secure (list : List Item) (settled : ℕ) (a : Cued) (aired : List It
   pub near : Near list aired settled
   pub calm : (list_any plays downs ≡ false) ⊎ Spent a downs ⊎ Last list settled a aired downs
 
+-- whatever is selected
+abbrev pub Secured : List Item → ℕ → Bool → Cued → List Item → List Phase → Type 0
+Secured list settled s a aired downs = Secure list settled a aired downs
+
 -- the first k events were aired and are settled, and nothing is cued
 abbrev pub Idle : List Item → ℕ → Cued → List Item → ℕ → Type 0
 Idle list settled a aired k = At list aired settled k × (a ≡ empty)

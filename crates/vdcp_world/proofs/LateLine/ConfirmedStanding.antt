@@ -1,57 +1,24 @@
--- What holds of a late channel in confirm mode, said of the phases that sent what is on the way; and that it stays so
--- while the
--- controller hears nothing.
-use Rattle.std.proofs.Common.{◌≡◌, ℕ, ◌+◌, ◌*◌, ◌≤◌, ◌⊎◌, inl, inr, Bool, true, false, not, List, [], ◌∷◌, ◌++◌, length, take, refl, arith, sym, ap, subst, ◌∙◌}
+-- What is on the way in confirm mode is secure in each phase; and what the controller sends keeps the places, as what
+-- the port reads does.
+use Rattle.std.proofs.Common.{◌≡◌, ℕ, ◌+◌, ◌*◌, ◌≤◌, ◌⊎◌, inl, inr, Bool, true, false, List, [], ◌∷◌, ◌++◌, length, take, refl, arith, sym, ap, subst, ◌∙◌}
 use Rattle.std.proofs.lemmas.Bool.{or_parts}
 use Rattle.std.specs.List.{list_any}
-use Rattle.vdcp_value.specs.declared.clip_id.ClipId.{ClipId}
 use Rattle.vdcp_value.specs.declared.part.Item.{Item}
-use Rattle.vdcp_value.specs.declared.timecode.Timecode.{Timecode}
 use Rattle.vdcp_words.specs.declared.reply.Reply.{Reply}
 use Rattle.vdcp_port.specs.Port.{Cued}
-use Rattle.vdcp_auto.specs.Turn.{phase_to_send}
-use Rattle.vdcp_auto.specs.declared.outcome.Outcome.{Outcome}
 use Rattle.vdcp_auto.specs.declared.phase.Mode.TheVariants.{Confirming}
 use Rattle.vdcp_auto.specs.declared.phase.Phase.{Phase}
 use Rattle.vdcp_auto.specs.declared.phase.Phase.TheVariants as phase
-use Rattle.vdcp_auto.specs.State.{Stage, Ready, Awaiting, Ended}
 use Rattle.vdcp_world.specs.LateLine.Pipe.{stretch, Climbs, stretches, IsPipe}
-use Rattle.vdcp_world.proofs.LateLine.Closing.{Ages, flow_copied, flow_thins, pushed}
-use Rattle.vdcp_world.proofs.LateLine.ConfirmedPlaces.{cues, tries, cues_other, LastOf, Owns, ToSound, Sounded, Sounding, Spent, Last, Secure, Spot, none_sent, last_sent, spot_ages, secure_ages, spot_thins, secure_thins, spot_copied, secure_copied}
+use Rattle.vdcp_world.proofs.LateLine.ConfirmedPlaces.{cues, tries, cues_other, LastOf, Owns, ToSound, Sounded, Sounding, Spent, Last, Secure, Spot, none_sent, last_sent}
 use Rattle.vdcp_world.proofs.LateLine.ConfirmedReads.{cue_free, idle_keeps, trying_keeps, sounding_keeps, secure_keeps, tries_not_cues}
-use Rattle.vdcp_world.proofs.LateLine.Delivering.{none_pushed}
-use Rattle.vdcp_world.proofs.LateLine.Endings.{EndedAt, Misses, ended_ages, ended_copied, ended_reads, ended_thins, settled_at}
 use Rattle.vdcp_world.proofs.LateLine.Executed.{Executed}
 use Rattle.vdcp_world.proofs.LateLine.Pipes.{climbs_within}
-use Rattle.vdcp_world.proofs.LateLine.Places.{Answer, pipe_of, plays, misfits, At}
+use Rattle.vdcp_world.proofs.LateLine.Places.{Answer, pipe_of, plays, At}
 use Rattle.vdcp_world.proofs.LateLine.Safety.{near_at, none_plays, quiet}
-use Rattle.vdcp_world.proofs.LateLine.Standing.{Reads, misleads, quiet_keeps}
-use Rattle.vdcp_world.proofs.LateLine.Stretches.{Lies, lies_at, downs_climb, none_within, pipe_delivered}
-use Rattle.vdcp_world.proofs.LateLine.Thinning.{Thins, none_thins}
+use Rattle.vdcp_world.proofs.LateLine.Standing.{quiet_keeps}
+use Rattle.vdcp_world.proofs.LateLine.Stretches.{Lies, lies_at, downs_climb, none_within}
 use Rattle.vdcp_world.proofs.Exchanges.{near_of}
-
--- after an end
-abbrev pub SpotEnded : List Item → List (ClipId × Timecode) → ℕ → Bool → Cued → List Item → List Phase → Outcome
-    → Type 0
-SpotEnded list clips settled s a aired downs o =
-    EndedAt (Secure list settled a aired downs) list settled s a aired downs (settled_at Confirming (length list) o)
-    × Misses list clips o
-
-abbrev pub SpotAt : List Item → List (ClipId × Timecode) → ℕ → Bool → Cued → List Item → List Answer → List Phase
-    → Stage → Type 0
-SpotAt list clips settled s a aired ups downs (Ready q) =
-    Spot list settled s a aired ups downs q × IsPipe Confirming (length list) q (pipe_of ups downs)
-SpotAt list clips settled s a aired ups downs (Awaiting q) =
-    Spot list settled s a aired ups downs q × IsPipe Confirming (length list) q (pipe_of ups downs)
-SpotAt list clips settled s a aired ups downs (Ended o) = SpotEnded list clips settled s a aired downs o
-
--- all that holds
-pub record Holds (list : List Item) (clips : List (ClipId × Timecode)) (settled : ℕ) (s : Bool) (a : Cued)
-    (aired : List Item) (ups : List Answer)
-    (downs : List Phase) (stage : Stage) : Type 0 where
-  pub spot : SpotAt list clips settled s a aired ups downs stage
-  pub fit : list_any misfits ups ≡ false
-  pub true_told : list_any (misleads list clips) ups ≡ false
 
 -- ---- what is on the way is secure in each phase
 
@@ -153,53 +120,6 @@ secure_in list settled s a aired ups downs phase.HaltClose h c = h
 secure_in list settled s a aired ups downs q h c =
     secure_calm list settled a aired downs 0 h.0 (none_plays Confirming (length list) ups downs q refl c)
 
--- ---- something is left out
-
-pub holds_thins : (list : List Item) (clips : List (ClipId × Timecode)) (settled : ℕ) (s : Bool) (a : Cued)
-    (aired : List Item) (ups others : List Answer)
-    (downs left : List Phase) (stage : Stage) → Thins ups others → Thins downs left
-    → Holds list clips settled s a aired ups downs stage → Holds list clips settled s a aired others left stage
-holds_thins list clips settled s a aired ups others downs left stage u d h = record {
-  spot = by stage h.spot;
-  fit = none_thins misfits ups others u h.fit;
-  true_told = none_thins (misleads list clips) ups others u h.true_told;
-}
-  where
-    by : (stage : Stage) → SpotAt list clips settled s a aired ups downs stage
-        → SpotAt list clips settled s a aired others left stage
-    by (Ready q) h = (
-      spot_thins list settled s a aired ups others downs left q u d h.0,
-      flow_thins Confirming (length list) ups others downs left q u d h.1,
-    )
-    by (Awaiting q) h = (
-      spot_thins list settled s a aired ups others downs left q u d h.0,
-      flow_thins Confirming (length list) ups others downs left q u d h.1,
-    )
-    by (Ended o) h = (
-      ended_thins (secure_thins list settled a aired downs left d) list settled s a aired downs left
-          (settled_at Confirming (length list) o) d h.0,
-      h.1,
-    )
-
--- ---- the port changes by itself
-
-pub holds_ages : (list : List Item) (clips : List (ClipId × Timecode)) (settled : ℕ) (s : Bool) (a : Cued) (t : Bool)
-    (b : Cued) (aired : List Item)
-    (ups : List Answer) (downs : List Phase) (stage : Stage) → Ages s a t b
-    → Holds list clips settled s a aired ups downs stage → Holds list clips settled t b aired ups downs stage
-holds_ages list clips settled s a t b aired ups downs stage g h =
-    record { spot = by stage h.spot; fit = h.fit; true_told = h.true_told }
-  where
-    by : (stage : Stage) → SpotAt list clips settled s a aired ups downs stage
-        → SpotAt list clips settled t b aired ups downs stage
-    by (Ready q) h = (spot_ages list settled s a t b aired ups downs q g h.0, h.1)
-    by (Awaiting q) h = (spot_ages list settled s a t b aired ups downs q g h.0, h.1)
-    by (Ended o) h = (
-      ended_ages (secure_ages list settled s a t b aired downs g) list settled s a t b aired downs
-          (settled_at Confirming (length list) o) g h.0,
-      h.1,
-    )
-
 -- ---- the controller sends
 
 sounding_sends : (list : List Item) (settled : ℕ) (s : Bool) (a : Cued) (aired : List Item) (ups : List Answer)
@@ -243,56 +163,23 @@ secure_sends list settled a aired downs q no_play no_cue no_other h = record { n
               no_cue no_other h.last;
         }))
 
-own_sends : (list : List Item) (settled : ℕ) (s : Bool) (a : Cued) (aired : List Item) (ups : List Answer)
-    (downs : List Phase) (q : Phase)
-    → Spot list settled s a aired ups downs q × IsPipe Confirming (length list) q (pipe_of ups downs)
-    → Spot list settled s a aired ups (downs ++ q ∷ []) q × IsPipe Confirming (length list) q
-    (pipe_of ups (downs ++ q ∷ []))
-own_sends list settled s a aired ups downs (phase.Exists k) h =
-    (h.0, pushed Confirming (length list) (5 * k + 1) ups downs (phase.Exists k) (omega arith) h.1)
-own_sends list settled s a aired ups downs (phase.Cue k) h =
-    (h.0, pushed Confirming (length list) (5 * k + 2) ups downs (phase.Cue k) (omega arith) h.1)
-own_sends list settled s a aired ups downs (phase.Wait k) h =
-    (h.0, pushed Confirming (length list) (5 * k + 2) ups downs (phase.Wait k) (omega arith) h.1)
-own_sends list settled s a aired ups downs (phase.Play k) h = (
-  sounding_sends list settled s a aired ups downs k (phase.Play k) refl h.0,
-  pushed Confirming (length list)
-      (5 * k + 4) ups downs (phase.Play k) (omega arith) h.1,
-)
-own_sends list settled s a aired ups downs (phase.Probe k) h = (
-  sounding_sends list settled s a aired ups downs k (phase.Probe k) refl h.0,
-  pushed Confirming (length list)
-      (5 * k + 4) ups downs (phase.Probe k) (omega arith) h.1,
-)
-own_sends list settled s a aired ups downs (phase.Check k) h =
-    (h.0, pushed Confirming (length list) (5 * k + 5) ups downs (phase.Check k) (omega arith) h.1)
-own_sends list settled s a aired ups downs phase.Drain h =
-    (h.0, pushed Confirming (length list) (5 * length list + 1) ups downs phase.Drain (omega arith) h.1)
-own_sends list settled s a aired ups downs phase.Close h =
-    (h.0, pushed Confirming (length list) (5 * length list + 1) ups downs phase.Close (omega arith) h.1)
-own_sends list settled s a aired ups downs phase.Halt h =
-    (secure_sends list settled a aired downs phase.Halt refl refl refl h.0, tt)
-own_sends list settled s a aired ups downs phase.HaltClose h =
-    (secure_sends list settled a aired downs phase.HaltClose refl refl refl h.0, tt)
-own_sends list settled s a aired ups downs q h = (h.0, pushed Confirming (length list) 1 ups downs q (omega arith) h.1)
-
-pub holds_sends : (list : List Item) (clips : List (ClipId × Timecode)) (settled : ℕ) (s : Bool) (a : Cued)
-    (aired : List Item) (ups : List Answer)
-    (downs : List Phase) (stop : Bool) (q : Phase) → Holds list clips settled s a aired ups downs (Ready q)
-    → Holds list clips settled s a aired ups (downs ++ phase_to_send stop q ∷ []) (Awaiting (phase_to_send stop q))
-holds_sends list clips settled s a aired ups downs false q h =
-    record { spot = own_sends list settled s a aired ups downs q h.spot; fit = h.fit; true_told = h.true_told }
-holds_sends list clips settled s a aired ups downs true q h = record {
-  spot =
-      own_sends list settled s a aired ups downs phase.Halt
-      (secure_in list settled s a aired ups downs q h.spot.0 h.spot.1, tt);
-  fit = h.fit;
-  true_told = h.true_told;
-}
+pub spot_sends : (list : List Item) (settled : ℕ) (s : Bool) (a : Cued) (aired : List Item) (ups : List Answer)
+    (downs : List Phase) (q : Phase) → Spot list settled s a aired ups downs q
+    → Spot list settled s a aired ups (downs ++ q ∷ []) q
+spot_sends list settled s a aired ups downs (phase.Play k) h =
+    sounding_sends list settled s a aired ups downs k (phase.Play k) refl h
+spot_sends list settled s a aired ups downs (phase.Probe k) h =
+    sounding_sends list settled s a aired ups downs k (phase.Probe k) refl h
+spot_sends list settled s a aired ups downs phase.Halt h =
+    secure_sends list settled a aired downs phase.Halt refl refl refl h
+spot_sends list settled s a aired ups downs phase.HaltClose h =
+    secure_sends list settled a aired downs phase.HaltClose refl refl refl h
+spot_sends list settled s a aired ups downs _ h = h
 
 -- ---- the port reads the oldest command
 
-spot_keeps : (list : List Item) (settled : ℕ) (s : Bool) (a : Cued) (aired : List Item) (ups : List Answer) (d : Phase)
+pub spot_keeps : (list : List Item) (settled : ℕ) (s : Bool) (a : Cued) (aired : List Item) (ups : List Answer)
+    (d : Phase)
     (downs : List Phase) (q : Phase) (r : Reply)
     (t : Bool) (b : Cued) (airs : List Item)
     → Spot list settled s a aired ups (d ∷ downs) q → IsPipe Confirming (length list) q (pipe_of ups (d ∷ downs))
@@ -339,53 +226,3 @@ spot_keeps list settled s a aired ups d downs phase.HaltClose r t b airs h c x =
 spot_keeps list settled s a aired ups d downs _ r t b airs h c x =
     let l = lies_at Confirming (length list) 1 1 ups d downs c in idle_keeps list settled s a aired d 0 r t b airs
     (cue_free (length list) 0 1 1 (omega arith) (omega arith) d l) h x
-
-pub holds_reads : (list : List Item) (clips : List (ClipId × Timecode)) (settled : ℕ) (s : Bool) (a : Cued)
-    (aired : List Item) (ups : List Answer) (d : Phase)
-    (downs : List Phase) (stage : Stage) (r : Reply) (t : Bool) (b : Cued) (airs : List Item)
-    → Holds list clips settled s a aired ups (d ∷ downs) stage → Reads list clips d s a r t b airs
-    → Holds list clips settled t b (aired ++ airs) (ups ++ record { to = d; reply = r } ∷ []) downs stage
-holds_reads list clips settled s a aired ups d downs stage r t b airs h x = record {
-  spot = by stage h.spot;
-  fit = none_pushed misfits ups new h.fit (ap not x.executed.fits);
-  true_told = none_pushed (misleads list clips) ups new h.true_told x.true_told;
-}
-  where
-    new : Answer
-    new = record { to = d; reply = r }
-
-    pipe : (q : Phase) → IsPipe Confirming (length list) q (pipe_of ups (d ∷ downs))
-        → IsPipe Confirming (length list) q (pipe_of (ups ++ new ∷ []) downs)
-    pipe q c = subst (IsPipe Confirming (length list) q) (sym (pipe_delivered ups new downs)) c
-
-    by : (stage : Stage) → SpotAt list clips settled s a aired ups (d ∷ downs) stage
-        → SpotAt list clips settled t b (aired ++ airs) (ups ++ new ∷ []) downs stage
-    by (Ready q) g = (spot_keeps list settled s a aired ups d downs q r t b airs g.0 g.1 x.executed, pipe q g.1)
-    by (Awaiting q) g = (spot_keeps list settled s a aired ups d downs q r t b airs g.0 g.1 x.executed, pipe q g.1)
-    by (Ended o) g = (
-      ended_reads (λ k. secure_keeps list settled s a aired d downs r t b airs k x.executed) list settled s a aired d
-          downs (settled_at Confirming (length list) o) r t b airs x.executed g.0,
-      g.1,
-    )
-
--- ---- the oldest command is copied in its place
-
-pub holds_copied : (list : List Item) (clips : List (ClipId × Timecode)) (settled : ℕ) (s : Bool) (a : Cued)
-    (aired : List Item) (ups : List Answer) (d : Phase)
-    (downs : List Phase) (stage : Stage)
-    → Holds list clips settled s a aired ups (d ∷ downs) stage
-    → Holds list clips settled s a aired ups (d ∷ d ∷ downs) stage
-holds_copied list clips settled s a aired ups d downs stage h =
-    record { spot = by stage h.spot; fit = h.fit; true_told = h.true_told }
-  where
-    by : (stage : Stage) → SpotAt list clips settled s a aired ups (d ∷ downs) stage
-        → SpotAt list clips settled s a aired ups (d ∷ d ∷ downs) stage
-    by (Ready q) h =
-        (spot_copied list settled s a aired ups d downs q h.0, flow_copied Confirming (length list) ups d downs q h.1)
-    by (Awaiting q) h =
-        (spot_copied list settled s a aired ups d downs q h.0, flow_copied Confirming (length list) ups d downs q h.1)
-    by (Ended o) h = (
-      ended_copied (secure_copied list settled a aired d downs) list settled s a aired d downs
-          (settled_at Confirming (length list) o) h.0,
-      h.1,
-    )

@@ -19,8 +19,8 @@ use Rattle.vdcp_auto.specs.Table.{command_in}
 use Rattle.vdcp_auto.specs.declared.phase.Phase.{Phase}
 use Rattle.vdcp_auto.specs.declared.phase.Phase.TheVariants as phase
 use Rattle.vdcp_world.proofs.LateLine.Executed.{Shows, left_cued, put_on_air}
-use Rattle.vdcp_world.proofs.LateLine.Standing.{Reads, differs}
 use Rattle.vdcp_world.proofs.PhaseTable.{knows}
+use Rattle.vdcp_world.proofs.LateLine.Reads.{Reads, differs}
 
 -- a row of the table does what the phase's command is to do
 abbrev pub RowReads : List Item → List (ClipId × Timecode) → Phase → PortState → Row → Type 0

@@ -2,7 +2,7 @@
 use Rattle.std.proofs.Common.{◌≡◌, ℕ, ◌+◌, ◌*◌, ◌<◌, ◌≤◌, ◌⊎◌, inl, inr, Bool, true, false, not, ◌||◌, ◌&&◌, List, ◌∷◌, length, take, refl, arith, ap, subst, ◌∙◌, if◌then◌else◌, Some}
 use Rattle.std.proofs.lemmas.Bool.{not-false, or_left, or_parts}
 use Rattle.std.specs.List.{list_any}
-use Rattle.std.specs.Prelude.{slice_get, nat_le, nat_lt}
+use Rattle.std.specs.Prelude.{slice_get, nat_lt}
 use Rattle.vdcp_value.specs.declared.clip_id.ClipId.{ClipId}
 use Rattle.vdcp_value.specs.declared.part.Item.{Item}
 use Rattle.vdcp_value.specs.declared.timecode.Timecode.{Timecode}
@@ -10,7 +10,6 @@ use Rattle.vdcp_port.specs.Port.{Cued}
 use Rattle.vdcp_auto.specs.Commands.{is_presence}
 use Rattle.vdcp_auto.specs.Replies.{is_ack, is_refusal, is_granted, is_present, is_done, is_playing, is_empty, is_cueing}
 use Rattle.vdcp_auto.specs.Table.{next, names_other, on_lost_cue, on_reply, on_refusal, on_no_answer}
-use Rattle.vdcp_auto.specs.Turn.{on_unanswered, stage_after, settled_after}
 use Rattle.vdcp_auto.specs.declared.outcome.Outcome.TheVariants as outcome
 use Rattle.vdcp_auto.specs.declared.phase.Mode.TheVariants.{Plain}
 use Rattle.vdcp_auto.specs.declared.phase.Phase.{Phase}
@@ -26,39 +25,21 @@ use Rattle.vdcp_world.proofs.LateLine.Pipes.{climbs_within}
 use Rattle.vdcp_world.proofs.LateLine.Places.{Answer, pipe_of, waits, misfits, fits_phase, says_ack, says_done, says_empty, shows_no_cue, At, ToAir, OnAir, Place, Safe}
 use Rattle.vdcp_world.proofs.LateLine.Endings.{EndedAt, settles_at, silent_end}
 use Rattle.vdcp_world.proofs.LateLine.Safety.{calm_in, is_silent, none_arms_in}
-use Rattle.vdcp_world.proofs.LateLine.Standing.{differs, misleads, misleads_at, PlaceAt}
+use Rattle.vdcp_world.proofs.LateLine.Reads.{differs, misleads, misleads_at}
+use Rattle.vdcp_world.proofs.LateLine.Held.{HeldAt, Here as HereIn, Leads as LeadsIn}
 
--- where a turn leads
+abbrev pub Here : List Item → ℕ → Bool → Cued → List Item → List Answer → List Phase → Phase → Type 0
+Here = HereIn Plain Place Safe
+
 abbrev pub Leads : List Item → List (ClipId × Timecode) → ℕ → Bool → Cued → List Item → List Answer → List Phase
     → Transition → Type 0
-Leads list clips settled s a aired ups downs turn =
-    PlaceAt list clips (settled_after turn settled) s a aired ups downs (stage_after turn)
+Leads = LeadsIn Plain Place Safe
 
--- the place of a phase, with its pipe
-abbrev pub Here : List Item → ℕ → Bool → Cued → List Item → List Answer → List Phase → Phase → Type 0
-Here list settled s a aired ups downs q =
-    Place list settled s a aired ups downs q × IsPipe Plain (length list) q (pipe_of ups downs)
-
--- ---- silence
-
-goes_on : (list : List Item) (clips : List (ClipId × Timecode)) (settled : ℕ) (s : Bool) (a : Cued) (aired : List Item)
-    (ups : List Answer) (downs : List Phase)
-    (q : Phase) → Here list settled s a aired ups downs q
+pub goes_on : (list : List Item) (clips : List (ClipId × Timecode)) (settled : ℕ) (s : Bool) (a : Cued)
+    (aired : List Item) (ups : List Answer) (downs : List Phase) (q : Phase) → Here list settled s a aired ups downs q
     → Leads list clips settled s a aired ups downs (on_no_answer Plain q)
 goes_on list clips settled s a aired ups downs (phase.Play k) h = h
 goes_on list clips settled s a aired ups downs _ h = h
-
-pub silent : (list : List Item) (clips : List (ClipId × Timecode)) (settled : ℕ) (s : Bool) (a : Cued)
-    (aired : List Item) (ups : List Answer) (downs : List Phase)
-    (q : Phase) (limit unanswered : ℕ) (counts : Bool)
-    → Here list settled s a aired ups downs q
-    → Leads list clips settled s a aired ups downs (on_unanswered Plain limit unanswered counts q)
-silent list clips settled s a aired ups downs q limit unanswered counts h = by (counts && nat_le limit (unanswered + 1))
-  where
-    by : (b : Bool) → Leads list clips settled s a aired ups downs
-        (if b then Ends outcome.Lost else on_no_answer Plain q)
-    by true = (calm_in list settled s a aired ups downs q h.0 h.1, tt)
-    by false = goes_on list clips settled s a aired ups downs q h
 
 -- ---- a refusal
 
@@ -93,11 +74,12 @@ next_place : (list : List Item) (clips : List (ClipId × Timecode)) (settled : �
     (aired : List Item) (ups : List Answer) (downs : List Phase)
     (k : ℕ) → At list aired settled k → Climbs (5 * k + 1) (5 * k + 1)
     (stretches Plain (length list) (pipe_of ups downs))
-    → PlaceAt list clips settled s a aired ups downs (Ready (next list k))
+    → HeldAt Plain Place Safe list clips settled s a aired ups downs (Ready (next list k))
 next_place list clips settled s a aired ups downs k h c = by (nat_lt k (length list)) refl
   where
     by : (b : Bool) → nat_lt k (length list) ≡ b
-        → PlaceAt list clips settled s a aired ups downs (Ready (if b then phase.Exists k else phase.Drain))
+        → HeldAt Plain Place Safe list clips settled s a aired ups downs
+        (Ready (if b then phase.Exists k else phase.Drain))
     by true e =
         let below : k < length list = grind arith in (
           (h, below),

@@ -12,15 +12,16 @@ use Rattle.vdcp_world.specs.LateLine.LateChannel.{LateChannel, CanStart, IsLateR
 use Rattle.vdcp_world.specs.declared.late.event.LateEvent.{LateEvent}
 use Rattle.vdcp_world.specs.Below.{Below}
 use Rattle.vdcp_world.proofs.LateLine.Claims.{Claim, Covers}
-use Rattle.vdcp_world.proofs.LateLine.ConfirmedCovers.{confirming_covers}
-use Rattle.vdcp_world.proofs.LateLine.ConfirmedStanding.{Holds}
 use Rattle.vdcp_world.proofs.LateLine.HeadlineProof.{Airs, AirsIn, EndHoldsAt}
 use Rattle.vdcp_world.proofs.LateLine.Kept.{IsKept, UpCarries}
 use Rattle.vdcp_world.proofs.LateLine.KeptEvents.{ExactlyIn, kept_event, may}
 use Rattle.vdcp_world.proofs.LateLine.LateController.{controller_event}
-use Rattle.vdcp_world.proofs.LateLine.PlainCovers.{plain_covers}
-use Rattle.vdcp_world.proofs.LateLine.Standing.{Stands}
 use Rattle.vdcp_world.proofs.LateLine.Started.{Downs, Ups, answered_up, asked_down}
+use Rattle.vdcp_world.proofs.LateLine.PlainCovers.{plain_tended}
+use Rattle.vdcp_world.proofs.LateLine.ConfirmedCovers.{confirming_tended}
+use Rattle.vdcp_world.proofs.LateLine.Held.{Holds, covers}
+use Rattle.vdcp_world.proofs.LateLine.ConfirmedPlaces.{Secured, Spot}
+use Rattle.vdcp_world.proofs.LateLine.Places.{Place, Safe}
 
 -- a new channel keeps the claim
 kept_new : (mode : Mode) (S : Claim) → Covers mode S → (plan : Plan) (port : ClockedPort) (down up : List (List ℕ))
@@ -86,5 +87,6 @@ reached_airs below c r = by r.plan.mode refl
         (begun r.can_start.some r.can_start.few) (kept_new mode S covers r.plan r.port r.down r.up is r.can_start)))
 
     by : (mode : Mode) → r.plan.mode ≡ mode → AirsIn c
-    by Plain is = of Plain Stands plain_covers is
-    by Confirming is = of Confirming Holds confirming_covers is
+    by Plain is = of Plain (Holds Plain Place Safe) (covers Plain Place Safe plain_tended) is
+    by Confirming is =
+        of Confirming (Holds Confirming Spot Secured) (covers Confirming Spot Secured confirming_tended) is

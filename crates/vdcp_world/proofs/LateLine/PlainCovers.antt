@@ -1,28 +1,32 @@
--- What holds of a late channel in plain mode: every event keeps it, and it says what went to air.
-use Rattle.std.proofs.Common.{ℕ, ◌+◌, ◌≡◌, Bool, true, length, List, refl, arith, sym, subst}
-use Rattle.std.specs.Prelude.{Option}
+-- Plain mode tends its places: so what holds of a late channel in it is kept by every event.
+use Rattle.std.proofs.Common.{ℕ, ◌+◌, ◌≡◌, Bool, true, false, ◌||◌, List, ◌∷◌, length, Some, refl, arith, if◌then◌else◌}
+use Rattle.std.proofs.lemmas.Bool.{or_from}
 use Rattle.vdcp_value.specs.declared.clip_id.ClipId.{ClipId}
 use Rattle.vdcp_value.specs.declared.part.Item.{Item}
 use Rattle.vdcp_value.specs.declared.timecode.Timecode.{Timecode}
+use Rattle.vdcp_words.specs.declared.command.Command.{Command}
+use Rattle.vdcp_words.specs.declared.command.Command.TheVariants as command
+use Rattle.vdcp_words.specs.declared.reply.Reply.{Reply}
+use Rattle.vdcp_words.specs.declared.reply.Reply.TheVariants as reply
 use Rattle.vdcp_port.specs.Port.{Cued}
-use Rattle.vdcp_auto.specs.Plan.{Plan}
-use Rattle.vdcp_auto.specs.State.{Stage, State, Ready, Awaiting, Ended}
-use Rattle.vdcp_auto.specs.Turn.{came_to}
-use Rattle.vdcp_auto.specs.declared.exchange.Heard.{Heard}
-use Rattle.vdcp_auto.specs.declared.phase.Mode.{Mode}
+use Rattle.vdcp_auto.specs.Commands.{fits}
+use Rattle.vdcp_auto.specs.Replies.{is_refusal}
+use Rattle.vdcp_auto.specs.State.{State, Awaiting}
+use Rattle.vdcp_auto.specs.Table.{command_in, on_reply, on_refusal}
+use Rattle.vdcp_auto.specs.declared.exchange.Heard.TheVariants as heard
 use Rattle.vdcp_auto.specs.declared.phase.Mode.TheVariants.{Plain}
 use Rattle.vdcp_auto.specs.declared.phase.Phase.{Phase}
 use Rattle.vdcp_auto.specs.declared.phase.Phase.TheVariants as phase
-use Rattle.vdcp_world.specs.LateLine.Pipe.{IsPipe}
-use Rattle.vdcp_world.proofs.LateLine.Claims.{Closed, Comes, Covers}
-use Rattle.vdcp_world.proofs.LateLine.Coming.{came_stands}
-use Rattle.vdcp_world.proofs.LateLine.Endings.{ended_either, ended_settles, settled_at}
-use Rattle.vdcp_world.proofs.LateLine.ExactPlaces.{exact_in}
-use Rattle.vdcp_world.proofs.LateLine.Exactness.{is_exact_at, is_exact_in, none_taken}
-use Rattle.vdcp_world.proofs.LateLine.Places.{Answer, At, Exact, Place, Safe, pipe_of}
-use Rattle.vdcp_world.proofs.LateLine.Safety.{calm_in, near_at}
-use Rattle.vdcp_world.proofs.LateLine.Standing.{PlaceAt, Stands, stands_thins, stands_copied, stands_reads, stands_ages, sends}
-use Rattle.vdcp_world.proofs.PhaseTable.{Near}
+use Rattle.vdcp_world.specs.LateLine.Damage.{is_no_answer}
+use Rattle.vdcp_world.proofs.Exchanges.{fits_asked}
+use Rattle.vdcp_world.proofs.LateLine.Closing.{place_ages, place_thins, safe_ages, safe_thins}
+use Rattle.vdcp_world.proofs.LateLine.Delivering.{clash}
+use Rattle.vdcp_world.proofs.LateLine.Exactness.{is_exact_in, none_taken}
+use Rattle.vdcp_world.proofs.LateLine.Held.{Holds, LeadsBy, Tended}
+use Rattle.vdcp_world.proofs.LateLine.Hearing.{Here, Leads, goes_on, refused, replied}
+use Rattle.vdcp_world.proofs.LateLine.Places.{Answer, At, Place, Safe}
+use Rattle.vdcp_world.proofs.LateLine.Safety.{calm_in, safe_keeps}
+use Rattle.vdcp_world.proofs.LateLine.Standing.{place_copied, place_keeps, place_sends, safe_copied}
 
 -- in which phases how many events are aired and settled
 at_in : (list : List Item) (settled : ℕ) (s : Bool) (a : Cued) (aired : List Item) (ups : List Answer)
@@ -39,66 +43,74 @@ at_in list settled s a aired ups downs phase.Drain e h = (length list, h)
 at_in list settled s a aired ups downs phase.Close e h = (length list, h)
 at_in list settled s a aired ups downs q e h = cc
 
-exact_on : (list : List Item) (settled : ℕ) (s : Bool) (a : Cued) (aired : List Item) (ups : List Answer)
-    (downs : List Phase) (q : Phase) → is_exact_in q ≡ true
-    → Place list settled s a aired ups downs q × IsPipe Plain (length list) q (pipe_of ups downs)
-    → Exact list settled s a aired downs
-exact_on list settled s a aired ups downs q e h =
-    let (n, at) = at_in list settled s a aired ups downs q e h.0 in
-    exact_in Plain list settled s a aired ups downs q e n at
-    (λ k is. (subst (Place list settled s a aired ups downs) is h.0).has_none) h.1
+-- a NAK fits no command
+nak_fits : (c : Command) (byte : ℕ) → fits c (reply.Nak byte) ≡ false
+nak_fits (command.Open port lock) byte = refl
+nak_fits _ byte = refl
 
-exact : (list : List Item) (clips : List (ClipId × Timecode)) (settled : ℕ) (s : Bool) (a : Cued)
-    (aired : List Item) (ups : List Answer) (downs : List Phase) (stage : Stage)
-    → is_exact_at stage ≡ true → Stands list clips settled s a aired ups downs stage
-    → Exact list settled s a aired downs
-exact list clips settled s a aired ups downs (Ready q) e h = exact_on list settled s a aired ups downs q e h.place
-exact list clips settled s a aired ups downs (Awaiting q) e h = exact_on list settled s a aired ups downs q e h.place
-exact list clips settled s a aired ups downs (Ended o) e h = cc
+-- a forged NAK
+strays : (list : List Item) (clips : List (ClipId × Timecode)) (port limit : ℕ) (s : Bool) (a : Cued)
+    (aired : List Item) (ups : List Answer) (downs : List Phase) (state : State) (counts : Bool) (q : Phase)
+    (c : Command) (r : Reply) → is_no_answer Plain (Some (heard.Reply r)) ≡ true → (is_refusal r || fits c r) ≡ true
+    → Here list state.settled s a aired ups downs q
+    → LeadsBy Plain Place Safe list clips state.settled s a aired ups downs limit state port counts q (Some r)
+strays list clips port limit s a aired ups downs state counts q c (reply.Nak byte) none f h =
+    by (is_refusal (reply.Nak byte)) refl
+  where
+    by : (b : Bool) → is_refusal (reply.Nak byte) ≡ b → Leads list clips state.settled s a aired ups downs
+        (if b then on_refusal (length list) q else on_reply Plain list limit state.take state.tries q (reply.Nak byte))
+    by true e = refused list clips state.settled s a aired ups downs q h
+    by false e = clash (is_refusal (reply.Nak byte) || fits c (reply.Nak byte)) f
+        (or_from (is_refusal (reply.Nak byte)) (fits c (reply.Nak byte)) e (nak_fits c byte))
+strays list clips port limit s a aired ups downs state counts q c _ none f h = cc
 
-comes : (plan : Plan) (clips : List (ClipId × Timecode)) (s : Bool) (a : Cued) (aired : List Item) (ups : List Answer)
-    (downs : List Phase)
-    (state : State) (came : Option Heard) → plan.mode ≡ Plain → Comes Plain ups came
-    → Stands plan.list clips state.settled s a aired ups downs state.stage
-    → Stands plan.list clips (came_to plan came state).settled s a aired ups downs (came_to plan came state).stage
-comes plan clips s a aired ups downs state came plain h k =
-    subst (λ (m : Mode). Stands plan.list clips
-    (came_to (record { mode = m; list = plan.list; port = plan.port; limit = plan.limit }) came state).settled s a aired
-    ups downs
-    (came_to (record { mode = m; list = plan.list; port = plan.port; limit = plan.limit }) came state).stage)
-    (sym plain)
-    (came_stands plan.list clips plan.port plan.limit s a aired ups downs state came h k)
+pub either : (a b : Bool) → (a || b) ≡ true → a ≡ false → b ≡ true
+either a b e f = grind arith
 
-closed : Closed Plain Stands
-closed = record {
-  steady = record { thins = stands_thins; copied = stands_copied; reads = stands_reads; ages = stands_ages };
-  sends = sends;
-  comes = comes;
-  exact = exact;
-}
+answers : (list : List Item) (clips : List (ClipId × Timecode)) (port limit : ℕ) (s : Bool) (a : Cued)
+    (aired : List Item) (x : Answer) (ups : List Answer) (downs : List Phase) (state : State) (counts : Bool)
+    (q : Phase) (c : Command) → command_in list port q ≡ Some c → (is_refusal x.reply || fits c x.reply) ≡ true
+    → Holds Plain Place Safe list clips state.settled s a aired (x ∷ ups) downs (Awaiting q)
+    → LeadsBy Plain Place Safe list clips state.settled s a aired (x ∷ ups) downs limit state port counts q
+    (Some x.reply)
+answers list clips port limit s a aired x ups downs state counts q c is f h = by (is_refusal x.reply) refl
+  where
+    by : (b : Bool) → is_refusal x.reply ≡ b → Leads list clips state.settled s a aired (x ∷ ups) downs
+        (if b then on_refusal (length list) q else on_reply Plain list limit state.take state.tries q x.reply)
+    by true r = refused list clips state.settled s a aired (x ∷ ups) downs q h.place
+    by false r = replied list clips state.settled s a aired x ups downs limit state.tries state.take q
+        (record {
+          no_refusal = r;
+          asked = fits_asked list port q c x.reply is (either (is_refusal x.reply) (fits c x.reply) f r);
+          fit = h.fit;
+          true_told = h.true_told;
+        }) h.place
 
-near : (list : List Item) (clips : List (ClipId × Timecode)) (settled : ℕ) (s : Bool) (a : Cued) (aired : List Item)
-    (ups : List Answer) (downs : List Phase) (stage : Stage)
-    → PlaceAt list clips settled s a aired ups downs stage → Near list aired settled
-near list clips settled s a aired ups downs (Ready q) h = (calm_in list settled s a aired ups downs q h.0 h.1).near
-near list clips settled s a aired ups downs (Awaiting q) h = (calm_in list settled s a aired ups downs q h.0 h.1).near
-near list clips settled s a aired ups downs (Ended o) h =
-    ended_either (Safe list settled s a aired downs) (Near list aired settled) list settled s a aired downs
-    (settled_at Plain (length list) o) (λ x. x.near) (λ x. near_at list aired settled settled x.at) h.0
-
-pub plain_covers : Covers Plain Stands
-plain_covers = record {
-  closed = closed;
-  begins = λ list clips s a ups downs none fit told pipe.
-      record {
-        place = (record { aired_is = none_taken list; within = omega arith; settled_is = refl }, pipe);
-        fit = fit;
-        true_told = told;
-      };
-  near = λ list clips settled s a aired ups downs stage h. near list clips settled s a aired ups downs stage h.place;
-  ends = λ list clips settled s a aired ups downs o h. (
-    ended_settles (Safe list settled s a aired downs) list settled s a aired downs
-        (settled_at Plain (length list) o) h.place.0,
-    h.place.1,
-  );
+pub plain_tended : Tended Plain Place Safe
+plain_tended = record {
+  thins = place_thins;
+  calm_thins = safe_thins;
+  copied = place_copied;
+  calm_copied = safe_copied;
+  ages = place_ages;
+  calm_ages = safe_ages;
+  reads = λ list settled s a aired ups d downs q r t b airs fit h x.
+      place_keeps list settled s a aired ups d downs q r t b airs fit h.0 h.1 x;
+  calm_reads = safe_keeps;
+  sends = place_sends;
+  calm_in = λ list settled s a aired ups downs q h. calm_in list settled s a aired ups downs q h.0 h.1;
+  halts = λ list settled s a aired ups downs h. h;
+  near = λ list settled s a aired downs h. h.near;
+  at_in = at_in;
+  checks = λ list settled s a aired ups downs k h. h.has_none;
+  begins = λ list s a ups downs none. record {
+    aired_is = none_taken list;
+    within = omega arith;
+    settled_is = refl;
+  };
+  goes_on = goes_on;
+  strays = λ list clips port limit s a aired ups downs state counts q c r none ends f h.
+      strays list clips port limit s a aired ups downs state counts q c r none f h;
+  answers = λ list clips port limit s a aired x ups downs state counts q c is ends f h.
+      answers list clips port limit s a aired x ups downs state counts q c is f h;
 }

@@ -26,7 +26,7 @@ use Rattle.vdcp_world.proofs.PhaseTable.{is_asked}
 use Rattle.vdcp_world.proofs.Exchanges.{fits_asked}
 use Rattle.vdcp_world.proofs.LateLine.Kept.{DownCarries, UpCarries}
 use Rattle.vdcp_world.proofs.LateLine.Places.{Answer, misfits, pipe_of}
-use Rattle.vdcp_world.proofs.LateLine.Standing.{misleads, misleads_at}
+use Rattle.vdcp_world.proofs.LateLine.Reads.{misleads, misleads_at}
 
 -- the phase that asks a question
 record Asking (mode : Mode) (n : ℕ) (list : List Item) (clips : List (ClipId × Timecode)) (port : ℕ) (c : Command) :
