@@ -131,20 +131,19 @@ reads_rest list clips p port phase.Close n h =
     { nothing_cued = rest.nothing_cued; nothing_plays = rest.nothing_plays }
 reads_rest list clips p port _ n h = tt
 
-status_tells : (clips : List (ClipId × Timecode)) (p : PortState) (cued : Cued) (playing : Option Item) (r : Reply)
-    → p.cued ≡ cued → p.playing ≡ playing
-    → answer_after clips p (Some (command.Status 1)) ≡ Some r → is_state r ≡ true → (is_cueing r || is_done r) ≡ false
-    → is_playing r ≡ false
-    → AreSlotsEmpty p
-status_tells clips p empty None r x y a state not_cued not_playing = record { nothing_cued = x; nothing_plays = y }
-status_tells clips p empty (Some item) r x y a state not_cued not_playing = grind arith
-status_tells clips p (cueing item) None r x y a state not_cued not_playing = grind arith
-status_tells clips p (cueing item) (Some clip) r x y a state not_cued not_playing = grind arith
-status_tells clips p (done item) None r x y a state not_cued not_playing = grind arith
-status_tells clips p (done item) (Some clip) r x y a state not_cued not_playing = grind arith
+module _ (clips : List (ClipId × Timecode)) where
+  status_tells : (p : PortState) (cued : Cued) (playing : Option Item) (r : Reply) → p.cued ≡ cued → p.playing ≡ playing
+      → answer_after clips p (Some (command.Status 1)) ≡ Some r → is_state r ≡ true → (is_cueing r || is_done r) ≡ false
+      → is_playing r ≡ false → AreSlotsEmpty p
+  status_tells p empty None r x y a state not_cued not_playing = record { nothing_cued = x; nothing_plays = y }
+  status_tells p empty (Some item) r x y a state not_cued not_playing = grind arith
+  status_tells p (cueing item) None r x y a state not_cued not_playing = grind arith
+  status_tells p (cueing item) (Some clip) r x y a state not_cued not_playing = grind arith
+  status_tells p (done item) None r x y a state not_cued not_playing = grind arith
+  status_tells p (done item) (Some clip) r x y a state not_cued not_playing = grind arith
 
-status_leaves : (clips : List (ClipId × Timecode)) (p : PortState) → port_after clips p (Some (command.Status 1)) ≡ p
-status_leaves clips p = grind arith
+  status_leaves : (p : PortState) → port_after clips p (Some (command.Status 1)) ≡ p
+  status_leaves p = grind arith
 
 closes_tell : (mode : Mode) (clips : List (ClipId × Timecode)) (p : PortState) (port : ℕ) (r : Reply) → p.number ≡ port
     → AfterClose mode (port_after clips p (Some (command.Close port))) r

@@ -119,51 +119,43 @@ comes_next list p k old s below = by (nat_lt k (length list))
     by true = (s, below)
     by false = (s, omega (arith, below))
 
-exists_steps : (list : List Item) (clips : List (ClipId × Timecode)) (p : PortState)
-    (settled port limit tries unanswered : ℕ) (take counts : Bool)
-    (k : ℕ) (o : Option Item) (r : Reply)
-    → is_selected p ≡ true → plays clips o ≡ true
-    → answer_after clips p (option_map (λ item. command.IdRequest item.id) o) ≡ Some r
-    → Steps (length list) settled (6 * (length list - settled) + 3)
-    (port_after clips p (option_map (λ item. command.IdRequest item.id) o)) r
-    (turn_by Confirming list limit take tries unanswered counts (phase.Exists k)
-    (answer_at (option_map (λ item. command.IdRequest item.id) o) r))
-exists_steps list clips p settled port limit tries unanswered take counts k None r s f a = cc
-exists_steps list clips p settled port limit tries unanswered take counts k (Some item) r s f a = by known r a
-  where
-    known : is_known clips item.id ≡ true
-    known = known_of (length_of clips item.id) item.part f
+module _ (list : List Item) (clips : List (ClipId × Timecode)) where
+  exists_steps : (p : PortState) (settled port limit tries unanswered : ℕ) (take counts : Bool) (k : ℕ)
+      (o : Option Item) (r : Reply) → is_selected p ≡ true → plays clips o ≡ true
+      → answer_after clips p (option_map (λ item. command.IdRequest item.id) o) ≡ Some r
+      → Steps (length list) settled (6 * (length list - settled) + 3)
+      (port_after clips p (option_map (λ item. command.IdRequest item.id) o)) r (turn_by Confirming list limit take
+      tries unanswered counts (phase.Exists k) (answer_at (option_map (λ item. command.IdRequest item.id) o) r))
+  exists_steps p settled port limit tries unanswered take counts k None r s f a = cc
+  exists_steps p settled port limit tries unanswered take counts k (Some item) r s f a = by known r a
+    where
+      known : is_known clips item.id ≡ true
+      known = known_of (length_of clips item.id) item.part f
 
-    by : is_known clips item.id ≡ true → (r : Reply) → Some (reply.Present (is_known clips item.id)) ≡ Some r
-        → Steps (length list) settled (6 * (length list - settled) + 3) p r
-        (turn_by Confirming list limit take tries unanswered counts (phase.Exists k)
-        (answer_at (Some (command.IdRequest item.id)) r))
-    by known r a = grind arith
+      by : is_known clips item.id ≡ true → (r : Reply) → Some (reply.Present (is_known clips item.id)) ≡ Some r
+          → Steps (length list) settled (6 * (length list - settled) + 3) p r
+          (turn_by Confirming list limit take tries unanswered counts (phase.Exists k)
+          (answer_at (Some (command.IdRequest item.id)) r))
+      by known r a = grind arith
 
-pub sense_steps : (list : List Item) (clips : List (ClipId × Timecode)) (p : PortState) (aired : List Item)
-    (settled port limit tries unanswered : ℕ) (take counts : Bool) (q : Phase) (r : Reply)
-    → p.number ≡ port → p.playing ≡ None → is_cueing_slot p.cued ≡ false
-    → ((k : ℕ) → plays clips (slice_get list k) ≡ true)
-    → PlaceReady list p.cued aired settled q → IsReadyFor p q → senses q ≡ true
-    → answer_after clips p (command_in list port q) ≡ Some r
-    → Steps (length list) settled (left_before (length list - settled) q) (port_after clips p (command_in list port q))
-    r
-    (turn_by Confirming list limit take tries unanswered counts q (answer_at (command_in list port q) r))
-sense_steps list clips p aired settled port limit tries unanswered take counts phase.Open r n i j f h w on a =
-    grind arith
-sense_steps list clips p aired settled port limit tries unanswered take counts phase.Seen r n i j f h w on a =
-    grind (arith, comes_next)
-sense_steps list clips p aired settled port limit tries unanswered take counts (phase.Exists k) r n i j f h w on a =
-    exists_steps list clips p settled port limit tries unanswered take counts k (slice_get list k) r w (f k) a
-sense_steps list clips p aired settled port limit tries unanswered take counts (phase.Wait k) r n i j f h w on a =
-    grind arith
-sense_steps list clips p aired settled port limit tries unanswered take counts (phase.Probe k) r n i j f h w on a =
-    grind arith
-sense_steps list clips p aired settled port limit tries unanswered take counts (phase.Check k) r n i j f h w on a =
-    grind (arith, comes_next)
-sense_steps list clips p aired settled port limit tries unanswered take counts phase.Drain r n i j f h w on a =
-    grind arith
-sense_steps list clips p aired settled port limit tries unanswered take counts _ r n i j f h w on a = cc
+  pub sense_steps : (p : PortState) (aired : List Item) (settled port limit tries unanswered : ℕ) (take counts : Bool)
+      (q : Phase) (r : Reply) → p.number ≡ port → p.playing ≡ None → is_cueing_slot p.cued ≡ false
+      → ((k : ℕ) → plays clips (slice_get list k) ≡ true) → PlaceReady list p.cued aired settled q → IsReadyFor p q
+      → senses q ≡ true → answer_after clips p (command_in list port q) ≡ Some r
+      → Steps (length list) settled (left_before (length list - settled) q)
+      (port_after clips p (command_in list port q)) r (turn_by Confirming list limit take tries unanswered counts q
+      (answer_at (command_in list port q) r))
+  sense_steps p aired settled port limit tries unanswered take counts phase.Open r n i j f h w on a = grind arith
+  sense_steps p aired settled port limit tries unanswered take counts phase.Seen r n i j f h w on a =
+      grind (arith, comes_next)
+  sense_steps p aired settled port limit tries unanswered take counts (phase.Exists k) r n i j f h w on a =
+      exists_steps p settled port limit tries unanswered take counts k (slice_get list k) r w (f k) a
+  sense_steps p aired settled port limit tries unanswered take counts (phase.Wait k) r n i j f h w on a = grind arith
+  sense_steps p aired settled port limit tries unanswered take counts (phase.Probe k) r n i j f h w on a = grind arith
+  sense_steps p aired settled port limit tries unanswered take counts (phase.Check k) r n i j f h w on a =
+      grind (arith, comes_next)
+  sense_steps p aired settled port limit tries unanswered take counts phase.Drain r n i j f h w on a = grind arith
+  sense_steps p aired settled port limit tries unanswered take counts _ r n i j f h w on a = cc
 
 -- ---- a command that only a receipt answers
 
@@ -171,19 +163,19 @@ sense_steps list clips p aired settled port limit tries unanswered take counts _
 abbrev pub Stays : ℕ → PortState → Phase → Reply → Type 0
 Stays unsettled p q r = (is_receipt r ≡ true) × HasExecuted p q × (left_behind unsettled q < left_before unsettled q)
 
-cue_stays : (unsettled : ℕ) (clips : List (ClipId × Timecode)) (p : PortState) (k : ℕ) (id : ClipId)
-    (part : Option Part) (r : Reply)
-    → is_selected p ≡ true → is_playable clips (record { id = id; part = part }) ≡ true
-    → answer_after clips p (Some (cue_for id part)) ≡ Some r
-    → Stays unsettled (port_after clips p (Some (cue_for id part))) (phase.Cue k) r
-cue_stays unsettled clips p k id None r s f a = grind arith
-cue_stays unsettled clips p k id (Some part) r s f a = grind arith
+module _ (unsettled : ℕ) (clips : List (ClipId × Timecode)) where
+  cue_stays : (p : PortState) (k : ℕ) (id : ClipId) (part : Option Part) (r : Reply) → is_selected p ≡ true
+      → is_playable clips (record { id = id; part = part }) ≡ true
+      → answer_after clips p (Some (cue_for id part)) ≡ Some r
+      → Stays unsettled (port_after clips p (Some (cue_for id part))) (phase.Cue k) r
+  cue_stays p k id None r s f a = grind arith
+  cue_stays p k id (Some part) r s f a = grind arith
 
-cue_stays_at : (unsettled : ℕ) (clips : List (ClipId × Timecode)) (p : PortState) (k : ℕ) (o : Option Item) (r : Reply)
-    → is_selected p ≡ true → plays clips o ≡ true → answer_after clips p (option_map cue_of o) ≡ Some r
-    → Stays unsettled (port_after clips p (option_map cue_of o)) (phase.Cue k) r
-cue_stays_at unsettled clips p k None r s f a = cc
-cue_stays_at unsettled clips p k (Some item) r s f a = cue_stays unsettled clips p k item.id item.part r s f a
+  cue_stays_at : (p : PortState) (k : ℕ) (o : Option Item) (r : Reply) → is_selected p ≡ true → plays clips o ≡ true
+      → answer_after clips p (option_map cue_of o) ≡ Some r → Stays unsettled (port_after clips p (option_map cue_of o))
+      (phase.Cue k) r
+  cue_stays_at p k None r s f a = cc
+  cue_stays_at p k (Some item) r s f a = cue_stays p k item.id item.part r s f a
 
 pub receipt_stays : (list : List Item) (clips : List (ClipId × Timecode)) (p : PortState) (aired : List Item)
     (settled port : ℕ) (q : Phase) (r : Reply)

@@ -51,70 +51,61 @@ HearsCue mode q r = Unit {0}
 
 -- ---- an answer
 
-pub replied_place : (list : List Item) (clips : List (ClipId × Timecode)) (cued : Cued) (aired : List Item)
-    (mode : Mode) (settled limit tries : ℕ)
-    (wish : Bool) (q : Phase) (r : Reply)
-    → Place list cued aired settled q → Tells list clips cued aired q r → HearsCue mode q r → is_asked q r ≡ true
-    → PlaceAt list clips cued aired (settled_after (on_reply mode list limit wish tries q r) settled)
-    (stage_after (on_reply mode list limit wish tries q r))
-replied_place list clips cued aired mode settled limit tries wish phase.Open r h t c f = grind (arith, near)
-replied_place list clips cued aired mode settled limit tries wish phase.Select r h t c f = grind (arith, near)
-replied_place list clips cued aired mode settled limit tries wish phase.Seen r h t c f = grind (arith, near)
-replied_place list clips cued aired mode settled limit tries wish (phase.Exists k) r h t c f = grind (arith, near)
-replied_place list clips cued aired mode settled limit tries wish (phase.Cue k) r h t c f = grind (arith, near)
-replied_place list clips cued aired Plain settled limit tries wish (phase.Wait k) r h t c f = grind (arith, near)
-replied_place list clips cued aired Confirming settled limit tries wish (phase.Wait k) r h t c f = grind (arith, near)
-replied_place list clips cued aired mode settled limit tries wish (phase.Play k) r h t c f = grind (arith, near)
-replied_place list clips cued aired mode settled limit tries wish (phase.Probe k) r h t c f = grind (arith, near)
-replied_place list clips cued aired mode settled limit tries wish (phase.Check k) r h t c f = grind (arith, near)
-replied_place list clips cued aired mode settled limit tries wish phase.Drain r h t c f = grind (arith, near)
-replied_place list clips cued aired mode settled limit tries wish phase.Close r h t c f = grind (arith, near)
-replied_place list clips cued aired mode settled limit tries wish phase.Halt r h t c f = grind (arith, near)
-replied_place list clips cued aired mode settled limit tries wish phase.HaltClose r h t c f = grind (arith, near)
+module _ (list : List Item) (clips : List (ClipId × Timecode)) where
+  pub replied_place : (cued : Cued) (aired : List Item) (mode : Mode) (settled limit tries : ℕ) (wish : Bool)
+      (q : Phase) (r : Reply) → Place list cued aired settled q → Tells list clips cued aired q r → HearsCue mode q r
+      → is_asked q r ≡ true → PlaceAt list clips cued aired (settled_after (on_reply mode list limit wish tries q r)
+      settled) (stage_after (on_reply mode list limit wish tries q r))
+  replied_place cued aired mode settled limit tries wish phase.Open r h t c f = grind (arith, near)
+  replied_place cued aired mode settled limit tries wish phase.Select r h t c f = grind (arith, near)
+  replied_place cued aired mode settled limit tries wish phase.Seen r h t c f = grind (arith, near)
+  replied_place cued aired mode settled limit tries wish (phase.Exists k) r h t c f = grind (arith, near)
+  replied_place cued aired mode settled limit tries wish (phase.Cue k) r h t c f = grind (arith, near)
+  replied_place cued aired Plain settled limit tries wish (phase.Wait k) r h t c f = grind (arith, near)
+  replied_place cued aired Confirming settled limit tries wish (phase.Wait k) r h t c f = grind (arith, near)
+  replied_place cued aired mode settled limit tries wish (phase.Play k) r h t c f = grind (arith, near)
+  replied_place cued aired mode settled limit tries wish (phase.Probe k) r h t c f = grind (arith, near)
+  replied_place cued aired mode settled limit tries wish (phase.Check k) r h t c f = grind (arith, near)
+  replied_place cued aired mode settled limit tries wish phase.Drain r h t c f = grind (arith, near)
+  replied_place cued aired mode settled limit tries wish phase.Close r h t c f = grind (arith, near)
+  replied_place cued aired mode settled limit tries wish phase.Halt r h t c f = grind (arith, near)
+  replied_place cued aired mode settled limit tries wish phase.HaltClose r h t c f = grind (arith, near)
 
-pub refused_place : (list : List Item) (clips : List (ClipId × Timecode)) (p : PortState) (aired : List Item)
-    (settled : ℕ) (q : Phase) (r : Reply)
-    → Place list p.cued aired settled q → Firm list clips p q → FirmTells list clips p q r → is_refusal r ≡ true
-    → PlaceAt list clips p.cued aired (settled_after (on_refusal (length list) q) settled)
-    (stage_after (on_refusal (length list) q))
-refused_place list clips p aired settled q r h firm t e = grind (arith, near)
+  pub refused_place : (p : PortState) (aired : List Item) (settled : ℕ) (q : Phase) (r : Reply)
+      → Place list p.cued aired settled q → Firm list clips p q → FirmTells list clips p q r → is_refusal r ≡ true
+      → PlaceAt list clips p.cued aired (settled_after (on_refusal (length list) q) settled)
+      (stage_after (on_refusal (length list) q))
+  refused_place p aired settled q r h firm t e = grind (arith, near)
 
-pub replied_firm : (list : List Item) (clips : List (ClipId × Timecode)) (p : PortState) (aired : List Item)
-    (limit tries : ℕ) (wish : Bool) (q : Phase)
-    (r : Reply)
-    → Firm list clips p q → Tells list clips p.cued aired q r → FirmTells list clips p q r → is_asked q r ≡ true
-    → FirmAt list clips p (stage_after (on_reply Plain list limit wish tries q r))
-replied_firm list clips p aired limit tries wish q r h t c f = grind arith
+  pub replied_firm : (p : PortState) (aired : List Item) (limit tries : ℕ) (wish : Bool) (q : Phase) (r : Reply)
+      → Firm list clips p q → Tells list clips p.cued aired q r → FirmTells list clips p q r → is_asked q r ≡ true
+      → FirmAt list clips p (stage_after (on_reply Plain list limit wish tries q r))
+  replied_firm p aired limit tries wish q r h t c f = grind arith
 
-pub refused_firm : (list : List Item) (clips : List (ClipId × Timecode)) (p : PortState) (q : Phase) (r : Reply)
-    → Firm list clips p q → FirmTells list clips p q r → is_refusal r ≡ true
-    → FirmAt list clips p (stage_after (on_refusal (length list) q))
-refused_firm list clips p q r h t e = grind arith
+  pub refused_firm : (p : PortState) (q : Phase) (r : Reply) → Firm list clips p q → FirmTells list clips p q r
+      → is_refusal r ≡ true → FirmAt list clips p (stage_after (on_refusal (length list) q))
+  refused_firm p q r h t e = grind arith
 
--- ---- silence, and a tick
+  -- ---- silence, and a tick
 
-pub silence_place : (list : List Item) (clips : List (ClipId × Timecode)) (cued : Cued) (aired : List Item)
-    (mode : Mode) (settled limit unanswered : ℕ)
-    (counts : Bool) (q : Phase)
-    → Place list cued aired settled q
-    → PlaceAt list clips cued aired (settled_after (on_unanswered mode limit unanswered counts q) settled)
-    (stage_after (on_unanswered mode limit unanswered counts q))
-silence_place list clips cued aired mode settled limit unanswered counts q h = grind (arith, near)
+  pub silence_place : (cued : Cued) (aired : List Item) (mode : Mode) (settled limit unanswered : ℕ) (counts : Bool)
+      (q : Phase) → Place list cued aired settled q → PlaceAt list clips cued aired
+      (settled_after (on_unanswered mode limit unanswered counts q) settled)
+      (stage_after (on_unanswered mode limit unanswered counts q))
+  silence_place cued aired mode settled limit unanswered counts q h = grind (arith, near)
 
-pub silence_firm : (list : List Item) (clips : List (ClipId × Timecode)) (p : PortState) (limit unanswered : ℕ)
-    (counts : Bool) (q : Phase)
-    → Firm list clips p q → FirmAt list clips p (stage_after (on_unanswered Plain limit unanswered counts q))
-silence_firm list clips p limit unanswered counts q h = grind arith
+  pub silence_firm : (p : PortState) (limit unanswered : ℕ) (counts : Bool) (q : Phase) → Firm list clips p q
+      → FirmAt list clips p (stage_after (on_unanswered Plain limit unanswered counts q))
+  silence_firm p limit unanswered counts q h = grind arith
 
-pub sent_place : (list : List Item) (cued : Cued) (aired : List Item) (settled : ℕ) (q : Phase)
-    → PlaceReady list cued aired settled q
-    → Place list cued aired settled q
-sent_place list cued aired settled q h = grind arith
+module _ (list : List Item) (cued : Cued) (aired : List Item) (settled : ℕ) where
+  pub sent_place : (q : Phase) → PlaceReady list cued aired settled q → Place list cued aired settled q
+  sent_place q h = grind arith
 
-pub tick_place : (list : List Item) (cued : Cued) (aired : List Item) (settled : ℕ) (stop : Bool) (q : Phase)
-    → PlaceReady list cued aired settled q → Place list cued aired settled (phase_to_send stop q)
-tick_place list cued aired settled true q h = near list cued aired settled q (sent_place list cued aired settled q h)
-tick_place list cued aired settled false q h = sent_place list cued aired settled q h
+  pub tick_place : (stop : Bool) (q : Phase) → PlaceReady list cued aired settled q
+      → Place list cued aired settled (phase_to_send stop q)
+  tick_place true q h = near list cued aired settled q (sent_place q h)
+  tick_place false q h = sent_place q h
 
 pub tick_firm : (list : List Item) (clips : List (ClipId × Timecode)) (p : PortState) (stop : Bool) (q : Phase)
     → Firm list clips p q
@@ -155,17 +146,13 @@ pub either : (a b : Bool) → (a || b) ≡ true → (a ≡ true) ⊎ ((a ≡ fal
 either true b e = inl refl
 either false b e = inr (refl, e)
 
-pub on_refused : (mode : Mode) (list : List Item) (limit tries : ℕ) (take : Bool) (q : Phase) (r : Reply)
-    → is_refusal r ≡ true
-    → on_answer mode list limit take tries q r ≡ on_refusal (length list) q
-on_refused mode list limit tries take q r e =
-    ap (λ b. if b then on_refusal (length list) q else on_reply mode list limit take tries q r) e
+module _ (mode : Mode) (list : List Item) (limit tries : ℕ) (take : Bool) (q : Phase) (r : Reply) where
+  pub on_refused : is_refusal r ≡ true → on_answer mode list limit take tries q r ≡ on_refusal (length list) q
+  on_refused e = ap (λ b. if b then on_refusal (length list) q else on_reply mode list limit take tries q r) e
 
-pub on_replied : (mode : Mode) (list : List Item) (limit tries : ℕ) (take : Bool) (q : Phase) (r : Reply)
-    → is_refusal r ≡ false
-    → on_answer mode list limit take tries q r ≡ on_reply mode list limit take tries q r
-on_replied mode list limit tries take q r e =
-    ap (λ b. if b then on_refusal (length list) q else on_reply mode list limit take tries q r) e
+  pub on_replied : is_refusal r ≡ false → on_answer mode list limit take tries q r ≡ on_reply mode list limit take tries
+      q r
+  on_replied e = ap (λ b. if b then on_refusal (length list) q else on_reply mode list limit take tries q r) e
 
 pub hears_cue : (mode : Mode) (list : List Item) (clips : List (ClipId × Timecode)) (p : PortState) (q : Phase)
     (r : Reply) → (mode ≡ Plain → FirmTells list clips p q r) → HearsCue mode q r

@@ -119,48 +119,44 @@ gives_own plan state q e none =
     ap (λ (stage : Stage). given_in plan state.stop stage) e
     ∙ ap (λ (stop : Bool). command_in plan.list plan.port (phase_to_send stop q)) none
 
--- where a tick and a reply lead, which ends the exchange
-pub turns_on : (plan : Plan) (state : State) (q : Phase) (d : Command) (r : Reply) → state.stage ≡ Ready q
-    → state.stop ≡ false
-    → command_in plan.list plan.port q ≡ Some d → is_end plan.mode d (Some (heard.Reply r)) ≡ true
-    → came_to plan (Some (heard.Reply r)) (ticked state)
-    ≡ state_after (transition_of plan (sent q state) q (exchange d r))
-    (unanswered_after plan.mode (exchange d r) state.unanswered) (sent q state)
-turns_on plan state q d r e none is over =
-    ap (came_to plan (Some (heard.Reply r))) (ticks_on state q e none)
-    ∙ ap (λ (o : Option Command). of (exchange_of plan.mode (Some (heard.Reply r)) o)) is
-    ∙ ap (λ (b : Bool). of (if b then Some (exchange d r) else None)) over
-  where
-    of : Option Exchange → State
-    of o = option_map_or (λ x. ended_in plan (Awaiting q) x (sent q state)) o (sent q state)
+module _ (plan : Plan) where
+  -- where a tick and a reply lead, which ends the exchange
+  pub turns_on : (state : State) (q : Phase) (d : Command) (r : Reply) → state.stage ≡ Ready q → state.stop ≡ false
+      → command_in plan.list plan.port q ≡ Some d → is_end plan.mode d (Some (heard.Reply r)) ≡ true
+      → came_to plan (Some (heard.Reply r)) (ticked state) ≡ state_after (transition_of plan (sent q state) q
+      (exchange d r)) (unanswered_after plan.mode (exchange d r) state.unanswered) (sent q state)
+  turns_on state q d r e none is over =
+      ap (came_to plan (Some (heard.Reply r))) (ticks_on state q e none)
+      ∙ ap (λ (o : Option Command). of (exchange_of plan.mode (Some (heard.Reply r)) o)) is
+      ∙ ap (λ (b : Bool). of (if b then Some (exchange d r) else None)) over
+    where
+      of : Option Exchange → State
+      of o = option_map_or (λ x. ended_in plan (Awaiting q) x (sent q state)) o (sent q state)
 
-pub hears_still : (plan : Plan) (h : Option Heard) (state : State) → awaited plan state ≡ None
-    → state_hearing plan h state ≡ state
-hears_still plan None state e = refl
-hears_still plan (Some h) state e =
-    ap (λ (o : Option Command). option_map_or (λ x. ended_in plan state.stage x state)
-    (exchange_of plan.mode (Some h) o) state) e
+  pub hears_still : (h : Option Heard) (state : State) → awaited plan state ≡ None → state_hearing plan h state ≡ state
+  hears_still None state e = refl
+  hears_still (Some h) state e =
+      ap (λ (o : Option Command). option_map_or (λ x. ended_in plan state.stage x state) (exchange_of plan.mode (Some h)
+      o) state) e
 
--- and the time-out in confirm mode, where it isn't the last one that counts
-pub waits_over : (plan : Plan) (state : State) (q : Phase) (d : Command) → plan.mode ≡ Confirming
-    → state.stage ≡ Awaiting q
-    → command_in plan.list plan.port q ≡ Some d → (is_sense d && nat_le plan.limit (state.unanswered + 1)) ≡ false
-    → came_to plan None state
-    ≡ state_after (on_no_answer Confirming q) (unanswered_after plan.mode (record { command = d; heard = None })
-    state.unanswered) state
-waits_over plan state q d confirms e is spare =
-    ap (λ (stage : Stage). option_map_or (λ x. ended_in plan stage x state)
-    (exchange_of plan.mode None (awaited_in plan stage)) state) e
-    ∙ ap (λ (o : Option Command). of (exchange_of plan.mode None o)) is
-    ∙ ap (λ (mode : Mode). of (if is_end mode d None then Some silent else None)) confirms
-    ∙ ap (λ (mode : Mode). to (on_unanswered mode plan.limit state.unanswered (is_counted mode silent) q)) confirms
-    ∙ ap (λ (b : Bool). to (if b then Ends Lost else on_no_answer Confirming q)) spare
-  where
-    silent : Exchange
-    silent = record { command = d; heard = None }
+  -- and the time-out in confirm mode, where it isn't the last one that counts
+  pub waits_over : (state : State) (q : Phase) (d : Command) → plan.mode ≡ Confirming → state.stage ≡ Awaiting q
+      → command_in plan.list plan.port q ≡ Some d → (is_sense d && nat_le plan.limit (state.unanswered + 1)) ≡ false
+      → came_to plan None state ≡ state_after (on_no_answer Confirming q) (unanswered_after plan.mode
+      (record { command = d; heard = None }) state.unanswered) state
+  waits_over state q d confirms e is spare =
+      ap (λ (stage : Stage). option_map_or (λ x. ended_in plan stage x state)
+      (exchange_of plan.mode None (awaited_in plan stage)) state) e
+      ∙ ap (λ (o : Option Command). of (exchange_of plan.mode None o)) is
+      ∙ ap (λ (mode : Mode). of (if is_end mode d None then Some silent else None)) confirms
+      ∙ ap (λ (mode : Mode). to (on_unanswered mode plan.limit state.unanswered (is_counted mode silent) q)) confirms
+      ∙ ap (λ (b : Bool). to (if b then Ends Lost else on_no_answer Confirming q)) spare
+    where
+      silent : Exchange
+      silent = record { command = d; heard = None }
 
-    of : Option Exchange → State
-    of o = option_map_or (λ x. ended_in plan (Awaiting q) x state) o state
+      of : Option Exchange → State
+      of o = option_map_or (λ x. ended_in plan (Awaiting q) x state) o state
 
-    to : Transition → State
-    to transition = state_after transition (unanswered_after plan.mode silent state.unanswered) state
+      to : Transition → State
+      to transition = state_after transition (unanswered_after plan.mode silent state.unanswered) state

@@ -112,26 +112,24 @@ near_aired : (list aired : List Item) (settled k : ℕ) → Aired list aired k �
 near_aired list aired settled k a e =
     near_of list aired settled k a.aired_is a.within (omega (arith, e)) (omega (arith, e))
 
-near_at : (list : List Item) (clips : List (ClipId × Timecode)) (cued : Cued) (aired : List Item) (settled : ℕ)
-    (stage : Stage)
-    → PlaceAt list clips cued aired settled stage → Near list aired settled
-near_at list clips cued aired settled (Ready q) h =
-    near list cued aired settled q (sent_place list cued aired settled q h)
-near_at list clips cued aired settled (Awaiting q) h = near list cued aired settled q h
-near_at list clips cued aired settled (Ended outcome.Done) h = near_aired list aired settled (length list) h.0 h.1
-near_at list clips cued aired settled (Ended outcome.Stopped) h = h
-near_at list clips cued aired settled (Ended outcome.Lost) h = h
-near_at list clips cued aired settled (Ended (outcome.Missing k)) h = near_aired list aired settled k h.0 h.1
-near_at list clips cued aired settled (Ended (outcome.Refused k)) h = near_aired list aired settled k h.0 h.1
-near_at list clips cued aired settled _ h = absurd h
+module _ (list : List Item) where
+  near_at : (clips : List (ClipId × Timecode)) (cued : Cued) (aired : List Item) (settled : ℕ) (stage : Stage)
+      → PlaceAt list clips cued aired settled stage → Near list aired settled
+  near_at clips cued aired settled (Ready q) h = near list cued aired settled q (sent_place list cued aired settled q h)
+  near_at clips cued aired settled (Awaiting q) h = near list cued aired settled q h
+  near_at clips cued aired settled (Ended outcome.Done) h = near_aired list aired settled (length list) h.0 h.1
+  near_at clips cued aired settled (Ended outcome.Stopped) h = h
+  near_at clips cued aired settled (Ended outcome.Lost) h = h
+  near_at clips cued aired settled (Ended (outcome.Missing k)) h = near_aired list aired settled k h.0 h.1
+  near_at clips cued aired settled (Ended (outcome.Refused k)) h = near_aired list aired settled k h.0 h.1
+  near_at clips cued aired settled _ h = absurd h
 
-pub begins : (list aired : List Item) (settled : ℕ) → Near list aired settled
-    → (more : List Item) × (list ≡ aired ++ more)
-begins list aired settled n = (
-  drop (length aired) list,
-  sym (take-append-drop (length aired) list)
-      ∙ ap (λ (front : List Item). front ++ drop (length aired) list) (sym n.aired_is),
-)
+  pub begins : (aired : List Item) (settled : ℕ) → Near list aired settled → (more : List Item) × (list ≡ aired ++ more)
+  begins aired settled n = (
+    drop (length aired) list,
+    sym (take-append-drop (length aired) list)
+        ∙ ap (λ (front : List Item). front ++ drop (length aired) list) (sym n.aired_is),
+  )
 
 take_within : {A : Type 0} → (s a : ℕ) (xs : List A) → s ≤ a → take s (take a xs) ≡ take s xs
 take_within zero a xs l = refl
@@ -191,38 +189,37 @@ never c o h e = subst (λ (x : Option Outcome). IfSome x (Means c.port.clips c.p
 
 -- ---- what the outcome means
 
-pub unknown_at : (clips : List (ClipId × Timecode)) (list : List Item) (k : ℕ) (o : Option Item) → slice_get list k ≡ o
-    → k < length list
-    → knows clips o ≡ false → IsUnknownAt clips list k
-unknown_at clips list k None is below e = absurd (no_item list k below is)
-unknown_at clips list k (Some item) is below e =
-    subst (λ (o : Option Item). IsSomeAnd o (λ item. is_known clips item.id ≡ false)) (sym is) e
+module _ (clips : List (ClipId × Timecode)) where
+  pub unknown_at : (list : List Item) (k : ℕ) (o : Option Item) → slice_get list k ≡ o → k < length list
+      → knows clips o ≡ false → IsUnknownAt clips list k
+  unknown_at list k None is below e = absurd (no_item list k below is)
+  unknown_at list k (Some item) is below e =
+      subst (λ (o : Option Item). IsSomeAnd o (λ item. is_known clips item.id ≡ false)) (sym is) e
 
-outside : (clips : List (ClipId × Timecode)) (item : Item) → refuses clips (Some item) ≡ true → IsOutside clips item
-outside clips item e = record {
-  is_part = part item.part (length_of clips item.id) e;
-  known = first (is_known clips item.id) (not (is_playable clips item)) e;
-  does_not_fit = second (is_known clips item.id) (is_playable clips item) e;
-}
-  where
-    first : (a b : Bool) → (a && b) ≡ true → IsTrue a
-    first true b e = refl
-    first false b e = cc
+  outside : (item : Item) → refuses clips (Some item) ≡ true → IsOutside clips item
+  outside item e = record {
+    is_part = part item.part (length_of clips item.id) e;
+    known = first (is_known clips item.id) (not (is_playable clips item)) e;
+    does_not_fit = second (is_known clips item.id) (is_playable clips item) e;
+  }
+    where
+      first : (a b : Bool) → (a && b) ≡ true → IsTrue a
+      first true b e = refl
+      first false b e = cc
 
-    second : (a b : Bool) → (a && not b) ≡ true → b ≡ false
-    second a b e = grind arith
+      second : (a b : Bool) → (a && not b) ≡ true → b ≡ false
+      second a b e = grind arith
 
-    part : (o : Option Part) (clip : Option Timecode) → (is_some clip && not (can_cue clip o)) ≡ true → IsSome o
-    part None None e = cc
-    part None (Some clip) e = cc
-    part (Some p) clip e = refl
+      part : (o : Option Part) (clip : Option Timecode) → (is_some clip && not (can_cue clip o)) ≡ true → IsSome o
+      part None None e = cc
+      part None (Some clip) e = cc
+      part (Some p) clip e = refl
 
-outside_at : (clips : List (ClipId × Timecode)) (list : List Item) (k : ℕ) (o : Option Item) → slice_get list k ≡ o
-    → refuses clips o ≡ true
-    → IsSomeAnd (slice_get list k) (IsOutside clips)
-outside_at clips list k None is e = cc
-outside_at clips list k (Some item) is e =
-    subst (λ (o : Option Item). IsSomeAnd o (IsOutside clips)) (sym is) (outside clips item e)
+  outside_at : (list : List Item) (k : ℕ) (o : Option Item) → slice_get list k ≡ o → refuses clips o ≡ true
+      → IsSomeAnd (slice_get list k) (IsOutside clips)
+  outside_at list k None is e = cc
+  outside_at list k (Some item) is e =
+      subst (λ (o : Option Item). IsSomeAnd o (IsOutside clips)) (sym is) (outside item e)
 
 exactly : (plan : Plan) (aired : List Item) (log : List Exchange) (reported k : ℕ) → Aired plan.list aired k
     → reported ≡ k → reported ≡ settled plan.mode log
@@ -260,23 +257,22 @@ means c (outcome.Refused k) h firm l e = (
 )
 means c _ h firm l e = h
 
-means_at : (c : Channel) (stage : Stage) → c.state.stage ≡ stage
-    → Stands c.plan c.port.clips c.port.state c.aired c.state.settled stage
-    → IsLawful c.plan c.state c.log
-    → IfSome (outcome_of stage) (Means c.port.clips c.plan c.aired c.log)
-means_at c (Ended o) e s l = means c o s.place s.firm l (ap outcome_of e)
-means_at c _ e s l = tt
+module _ (c : Channel) where
+  means_at : (stage : Stage) → c.state.stage ≡ stage → Stands c.plan c.port.clips c.port.state c.aired c.state.settled
+      stage → IsLawful c.plan c.state c.log → IfSome (outcome_of stage) (Means c.port.clips c.plan c.aired c.log)
+  means_at (Ended o) e s l = means c o s.place s.firm l (ap outcome_of e)
+  means_at _ e s l = tt
 
-pub headline : (c : Channel) → IsKept c → IsLawful c.plan c.state c.log → Headline c
-headline c k l =
-    let near = near_at c.plan.list c.port.clips c.port.state.cued c.aired c.state.settled c.state.stage k.stands.place
-    in
-    record {
-      beginning = begins c.plan.list c.aired c.state.settled near;
-      reported = reports c.plan.list c.aired c.state.settled near;
-      count = taken c.plan.list c.state.settled (omega (arith, near.low, near.within));
-      is_settled = l.is_settled;
-      keeps_rules = l.keeps_rules;
-      may_await = l.may_await;
-      ended = means_at c c.state.stage refl k.stands l;
-    }
+  pub headline : IsKept c → IsLawful c.plan c.state c.log → Headline c
+  headline k l =
+      let near = near_at c.plan.list c.port.clips c.port.state.cued c.aired c.state.settled c.state.stage k.stands.place
+      in
+      record {
+        beginning = begins c.plan.list c.aired c.state.settled near;
+        reported = reports c.plan.list c.aired c.state.settled near;
+        count = taken c.plan.list c.state.settled (omega (arith, near.low, near.within));
+        is_settled = l.is_settled;
+        keeps_rules = l.keeps_rules;
+        may_await = l.may_await;
+        ended = means_at c.state.stage refl k.stands l;
+      }

@@ -71,21 +71,21 @@ ahead_done below (suc n) c r confirms all old on enough =
 status : Command
 status = command.Status 1
 
-lost_cue : (list : List Item) (clips : List (ClipId × Timecode)) (p : PortState) (settled limit tries unanswered : ℕ)
-    (take counts : Bool) (k : ℕ) (r : Reply)
-    → p.playing ≡ None → is_selected p ≡ true → is_empty_slot p.cued ≡ true → tries + 1 < limit
-    → answer_after clips p (Some (command.Status 1)) ≡ Some r
-    → Steps (length list) settled (6 * (length list - settled) + 3) (port_after clips p (Some (command.Status 1))) r
-    (turn_by Confirming list limit take tries unanswered counts (phase.Wait k) (answer_at (Some (command.Status 1)) r))
-lost_cue list clips p settled limit tries unanswered take counts k r idle selected lost spare a = grind arith
+module _ (list : List Item) (clips : List (ClipId × Timecode)) (p : PortState) (settled limit tries unanswered : ℕ)
+    (take counts : Bool) where
+  lost_cue : (k : ℕ) (r : Reply) → p.playing ≡ None → is_selected p ≡ true → is_empty_slot p.cued ≡ true
+      → tries + 1 < limit → answer_after clips p (Some (command.Status 1)) ≡ Some r
+      → Steps (length list) settled (6 * (length list - settled) + 3) (port_after clips p (Some (command.Status 1))) r
+      (turn_by Confirming list limit take tries unanswered counts (phase.Wait k) (answer_at (Some (command.Status 1))
+      r))
+  lost_cue k r idle selected lost spare a = grind arith
 
-lost_play : (list : List Item) (clips : List (ClipId × Timecode)) (p : PortState) (settled limit tries unanswered : ℕ)
-    (take counts : Bool) (k : ℕ) (r : Reply)
-    → p.playing ≡ None → is_selected p ≡ true → is_empty_slot p.cued ≡ false → is_cueing_slot p.cued ≡ false
-    → answer_after clips p (Some (command.Status 1)) ≡ Some r
-    → Steps (length list) settled (6 * (length list - settled) + 1) (port_after clips p (Some (command.Status 1))) r
-    (turn_by Confirming list limit take tries unanswered counts (phase.Probe k) (answer_at (Some (command.Status 1)) r))
-lost_play list clips p settled limit tries unanswered take counts k r idle selected lost ready a = grind arith
+  lost_play : (k : ℕ) (r : Reply) → p.playing ≡ None → is_selected p ≡ true → is_empty_slot p.cued ≡ false
+      → is_cueing_slot p.cued ≡ false → answer_after clips p (Some (command.Status 1)) ≡ Some r
+      → Steps (length list) settled (6 * (length list - settled) + 1) (port_after clips p (Some (command.Status 1))) r
+      (turn_by Confirming list limit take tries unanswered counts (phase.Probe k) (answer_at (Some (command.Status 1))
+      r))
+  lost_play k r idle selected lost ready a = grind arith
 
 wait_round : Below → (c : Channel) (k : ℕ) → IsKept c → c.plan.mode ≡ Confirming → c.state.stage ≡ Ready (phase.Wait k)
     → c.state.stop ≡ false

@@ -64,26 +64,24 @@ naks_idle p aired q byte e = grind arith
 
 -- ---- the cue is done, the clip has ended
 
-ready_over : (n : ℕ) (p : PortState) (aired : List Item) (q : Phase) → Over n p aired q → Over n (ready_state p) aired q
-ready_over n p aired q h = grind (arith, slot_stays p.cued)
+module _ (n : ℕ) (p : PortState) (aired : List Item) where
+  ready_over : (q : Phase) → Over n p aired q → Over n (ready_state p) aired q
+  ready_over q h = grind (arith, slot_stays p.cued)
 
-ready_over_at : (n : ℕ) (p : PortState) (aired : List Item) (stage : Stage) → OverAt n p aired stage
-    → OverAt n (ready_state p) aired stage
-ready_over_at n p aired (Ready q) h = ready_over n p aired q h
-ready_over_at n p aired (Awaiting q) h = ready_over n p aired q h
-ready_over_at n p aired (Ended outcome) h = tt
+  ready_over_at : (stage : Stage) → OverAt n p aired stage → OverAt n (ready_state p) aired stage
+  ready_over_at (Ready q) h = ready_over q h
+  ready_over_at (Awaiting q) h = ready_over q h
+  ready_over_at (Ended outcome) h = tt
 
-ended_over_at : (n : ℕ) (p : PortState) (aired : List Item) (stage : Stage) → OverAt n p aired stage
-    → OverAt n (ended_state p) aired stage
-ended_over_at n p aired stage h = grind arith
+  ended_over_at : (stage : Stage) → OverAt n p aired stage → OverAt n (ended_state p) aired stage
+  ended_over_at stage h = grind arith
 
-ready_idle : (p : PortState) (aired : List Item) (q : Phase) (r : Reply) → TellsIdle p aired q r
-    → TellsIdle (ready_state p) aired q r
-ready_idle p aired q r t = grind arith
+module _ (p : PortState) (aired : List Item) (q : Phase) (r : Reply) where
+  ready_idle : TellsIdle p aired q r → TellsIdle (ready_state p) aired q r
+  ready_idle t = grind arith
 
-ended_idle : (p : PortState) (aired : List Item) (q : Phase) (r : Reply) → TellsIdle p aired q r
-    → TellsIdle (ended_state p) aired q r
-ended_idle p aired q r t = grind arith
+  ended_idle : TellsIdle p aired q r → TellsIdle (ended_state p) aired q r
+  ended_idle t = grind arith
 
 -- ---- the controller sends
 
@@ -98,21 +96,20 @@ sends_over n take false p aired settled q h = (still_untaken q take h.0, h.1)
 
 -- ---- the port reads
 
-reads_play : (n : ℕ) (clips : List (ClipId × Timecode)) (p : PortState) (cued : Cued) (aired : List Item) (k : ℕ)
-    → p.cued ≡ cued
-    → Over n p aired (phase.Play k) → Over n (port_after clips p (Some command.Play))
-    (aired ++ aired_after clips p (Some command.Play)) (phase.Play k)
-reads_play n clips p empty aired k e h = grind (arith, none_more)
-reads_play n clips p (cueing item) aired k e h = grind (arith, none_more)
-reads_play n clips p (done item) aired k e h = grind (arith, none_more)
+module _ (n : ℕ) where
+  reads_play : (clips : List (ClipId × Timecode)) (p : PortState) (cued : Cued) (aired : List Item) (k : ℕ)
+      → p.cued ≡ cued → Over n p aired (phase.Play k) → Over n (port_after clips p (Some command.Play))
+      (aired ++ aired_after clips p (Some command.Play)) (phase.Play k)
+  reads_play clips p empty aired k e h = grind (arith, none_more)
+  reads_play clips p (cueing item) aired k e h = grind (arith, none_more)
+  reads_play clips p (done item) aired k e h = grind (arith, none_more)
 
-reads_over : (n : ℕ) (list : List Item) (clips : List (ClipId × Timecode)) (p : PortState) (aired : List Item)
-    (port : ℕ) (q : Phase)
-    → Over n p aired q → Over n (port_after clips p (command_in list port q))
-    (aired ++ aired_after clips p (command_in list port q)) q
-reads_over n list clips p aired port (phase.Play k) h = reads_play n clips p p.cued aired k refl h
-reads_over n list clips p aired port (phase.Probe k) h = grind (arith, none_more)
-reads_over n list clips p aired port _ h = tt
+  reads_over : (list : List Item) (clips : List (ClipId × Timecode)) (p : PortState) (aired : List Item) (port : ℕ)
+      (q : Phase) → Over n p aired q → Over n (port_after clips p (command_in list port q)) (aired ++ aired_after clips
+      p (command_in list port q)) q
+  reads_over list clips p aired port (phase.Play k) h = reads_play clips p p.cued aired k refl h
+  reads_over list clips p aired port (phase.Probe k) h = grind (arith, none_more)
+  reads_over list clips p aired port _ h = tt
 
 status_idle : (clips : List (ClipId × Timecode)) (p : PortState) (cued : Cued) (playing : Option Item) (r : Reply)
     → p.cued ≡ cued → p.playing ≡ playing
@@ -137,53 +134,51 @@ refused_over : (n size : ℕ) (p : PortState) (aired : List Item) (q : Phase)
     → OverAt n p aired (stage_after (on_refusal size q))
 refused_over n size p aired q = grind arith
 
-replied_over : (n : ℕ) (mode : Mode) (list : List Item) (limit tries : ℕ) (take : Bool) (p : PortState)
-    (aired : List Item) (q : Phase) (r : Reply)
-    → is_asked q r ≡ true → take ≡ false → TellsIdle p aired q r → Over n p aired q
-    → OverAt n p aired (stage_after (on_reply mode list limit take tries q r))
-replied_over n Plain list limit tries take p aired q r e none t h = grind arith
-replied_over n Confirming list limit tries take p aired q r e none t h = grind arith
+module _ (n : ℕ) where
+  replied_over : (mode : Mode) (list : List Item) (limit tries : ℕ) (take : Bool) (p : PortState) (aired : List Item)
+      (q : Phase) (r : Reply) → is_asked q r ≡ true → take ≡ false → TellsIdle p aired q r → Over n p aired q
+      → OverAt n p aired (stage_after (on_reply mode list limit take tries q r))
+  replied_over Plain list limit tries take p aired q r e none t h = grind arith
+  replied_over Confirming list limit tries take p aired q r e none t h = grind arith
 
-silent_over : (n : ℕ) (mode : Mode) (limit unanswered : ℕ) (counts : Bool) (p : PortState) (aired : List Item)
-    (q : Phase) → Over n p aired q
-    → OverAt n p aired (stage_after (on_unanswered mode limit unanswered counts q))
-silent_over n Plain limit unanswered counts p aired q h = grind arith
-silent_over n Confirming limit unanswered counts p aired q h = grind arith
+  silent_over : (mode : Mode) (limit unanswered : ℕ) (counts : Bool) (p : PortState) (aired : List Item) (q : Phase)
+      → Over n p aired q → OverAt n p aired (stage_after (on_unanswered mode limit unanswered counts q))
+  silent_over Plain limit unanswered counts p aired q h = grind arith
+  silent_over Confirming limit unanswered counts p aired q h = grind arith
 
-closed_over : (n : ℕ) (mode : Mode) (list : List Item) (port limit : ℕ) (clips : List (ClipId × Timecode))
-    → Closed mode list port limit clips (Untaken n) TellsIdle
-closed_over n mode list port limit clips = record {
-  naks = naks_idle;
-  ready = λ take p aired settled stage h. (h.0, ready_over_at n p aired stage h.1);
-  ready_tells = ready_idle;
-  ended = λ take p aired settled stage h. (h.0, ended_over_at n p aired stage h.1);
-  ended_tells = ended_idle;
-  sends = sends_over n;
-  reads = λ take p aired settled q numbered h. (h.0, reads_over n list clips p aired port q h.1);
-  reads_tell = λ take p aired settled q r numbered h a. reads_tell_idle list clips p
-      (aired ++ aired_after clips p (command_in list port q)) port q r a;
-  refused = λ take p aired settled q r plain e t h. (h.0, refused_over n (length list) p aired q);
-  replied = λ take p aired settled tries q r asked receipt t h.
-      (h.0, replied_over n mode list limit tries take p aired q r asked h.0 t h.1);
-  silent =
-      λ take p aired settled unanswered counts q h. (h.0, silent_over n mode limit unanswered counts p aired q h.1);
-}
+  closed_over : (mode : Mode) (list : List Item) (port limit : ℕ) (clips : List (ClipId × Timecode))
+      → Closed mode list port limit clips (Untaken n) TellsIdle
+  closed_over mode list port limit clips = record {
+    naks = naks_idle;
+    ready = λ take p aired settled stage h. (h.0, ready_over_at n p aired stage h.1);
+    ready_tells = ready_idle;
+    ended = λ take p aired settled stage h. (h.0, ended_over_at n p aired stage h.1);
+    ended_tells = ended_idle;
+    sends = sends_over n;
+    reads = λ take p aired settled q numbered h. (h.0, reads_over n list clips p aired port q h.1);
+    reads_tell = λ take p aired settled q r numbered h a. reads_tell_idle list clips p
+        (aired ++ aired_after clips p (command_in list port q)) port q r a;
+    refused = λ take p aired settled q r plain e t h. (h.0, refused_over n (length list) p aired q);
+    replied = λ take p aired settled tries q r asked receipt t h.
+        (h.0, replied_over mode list limit tries take p aired q r asked h.0 t h.1);
+    silent =
+        λ take p aired settled unanswered counts q h. (h.0, silent_over mode limit unanswered counts p aired q h.1);
+  }
 
 -- ---- where a clip would be cut short
 
-airs_no_cue : (clips : List (ClipId × Timecode)) (p : PortState) (o : Option Item)
-    → aired_after clips p (option_map cue_of o) ≡ []
-airs_no_cue clips p None = refl
-airs_no_cue clips p (Some item) = of item.id item.part
-  where
-    of : (id : ClipId) (part : Option Part) → aired_after clips p (Some (cue_for id part)) ≡ []
-    of id None = grind arith
-    of id (Some part) = grind arith
+module _ (clips : List (ClipId × Timecode)) (p : PortState) where
+  airs_no_cue : (o : Option Item) → aired_after clips p (option_map cue_of o) ≡ []
+  airs_no_cue None = refl
+  airs_no_cue (Some item) = of item.id item.part
+    where
+      of : (id : ClipId) (part : Option Part) → aired_after clips p (Some (cue_for id part)) ≡ []
+      of id None = grind arith
+      of id (Some part) = grind arith
 
-airs_no_request : (clips : List (ClipId × Timecode)) (p : PortState) (o : Option Item)
-    → aired_after clips p (option_map (λ item. command.IdRequest item.id) o) ≡ []
-airs_no_request clips p None = refl
-airs_no_request clips p (Some item) = refl
+  airs_no_request : (o : Option Item) → aired_after clips p (option_map (λ item. command.IdRequest item.id) o) ≡ []
+  airs_no_request None = refl
+  airs_no_request (Some item) = refl
 
 -- a PLAY alone puts a clip on air, a done cue's
 airs_by_play : (list : List Item) (clips : List (ClipId × Timecode)) (p : PortState) (aired : List Item) (n port : ℕ)

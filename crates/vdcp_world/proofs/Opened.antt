@@ -54,25 +54,22 @@ naks_opened : (p : PortState) (q : Phase) (byte : ℕ) → is_refusal (reply.Nak
     → TellsOpened p q (reply.Nak byte)
 naks_opened p q byte e = grind arith
 
-reads_opened : (list : List Item) (clips : List (ClipId × Timecode)) (p : PortState) (port : ℕ) (q : Phase)
-    → p.number ≡ port
-    → Opened p q → Opened (port_after clips p (command_in list port q)) q
-reads_opened list clips p port phase.Open n h = tt
-reads_opened list clips p port (phase.Exists k) n h = firm_request clips p (slice_get list k) h
-reads_opened list clips p port (phase.Cue k) n h = firm_cue_at clips p (slice_get list k) h
-reads_opened list clips p port phase.Close n h = tt
-reads_opened list clips p port phase.Halt n h = tt
-reads_opened list clips p port phase.HaltClose n h = tt
-reads_opened list clips p port _ n h = grind arith
+module _ (list : List Item) (clips : List (ClipId × Timecode)) (p : PortState) (port : ℕ) where
+  reads_opened : (q : Phase) → p.number ≡ port → Opened p q → Opened (port_after clips p (command_in list port q)) q
+  reads_opened phase.Open n h = tt
+  reads_opened (phase.Exists k) n h = firm_request clips p (slice_get list k) h
+  reads_opened (phase.Cue k) n h = firm_cue_at clips p (slice_get list k) h
+  reads_opened phase.Close n h = tt
+  reads_opened phase.Halt n h = tt
+  reads_opened phase.HaltClose n h = tt
+  reads_opened _ n h = grind arith
 
-reads_tell_opened : (list : List Item) (clips : List (ClipId × Timecode)) (p : PortState) (port : ℕ) (q : Phase)
-    (r : Reply) → p.number ≡ port
-    → answer_after clips p (command_in list port q) ≡ Some r → TellsOpened (port_after clips p (command_in list port q))
-    q r
-reads_tell_opened list clips p port phase.Open r n a = grind arith
-reads_tell_opened list clips p port phase.Select r n a = grind arith
-reads_tell_opened list clips p port phase.Seen r n a = grind arith
-reads_tell_opened list clips p port _ r n a = tt
+  reads_tell_opened : (q : Phase) (r : Reply) → p.number ≡ port → answer_after clips p (command_in list port q) ≡ Some r
+      → TellsOpened (port_after clips p (command_in list port q)) q r
+  reads_tell_opened phase.Open r n a = grind arith
+  reads_tell_opened phase.Select r n a = grind arith
+  reads_tell_opened phase.Seen r n a = grind arith
+  reads_tell_opened _ r n a = tt
 
 refused_opened : (n : ℕ) (p : PortState) (q : Phase) → OpenedAt p (stage_after (on_refusal n q))
 refused_opened n p q = grind arith

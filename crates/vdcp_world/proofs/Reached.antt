@@ -109,20 +109,19 @@ abbrev pub port_make : Plan → ClockedPort → Make
 port_make plan p =
     record { plan = plan; clips = p.clips; unit = p.state.unit; number = p.state.number; cue_frames = p.cue_frames }
 
-pub make_change : (plan : Plan) (change : Change) (p : ClockedPort)
-    → port_make plan (after_change change p) ≡ port_make plan p
-make_change plan keeps p = refl
-make_change plan opens p = refl
-make_change plan closes p = refl
-make_change plan selects p = refl
-make_change plan (cues item) p = refl
-make_change plan (airs item) p = refl
-make_change plan stops p = refl
+module _ (plan : Plan) where
+  pub make_change : (change : Change) (p : ClockedPort) → port_make plan (after_change change p) ≡ port_make plan p
+  make_change keeps p = refl
+  make_change opens p = refl
+  make_change closes p = refl
+  make_change selects p = refl
+  make_change (cues item) p = refl
+  make_change (airs item) p = refl
+  make_change stops p = refl
 
-pub make_messages : (plan : Plan) (ms : List Content) (p : ClockedPort)
-    → port_make plan (after_messages p ms) ≡ port_make plan p
-make_messages plan [] p = refl
-make_messages plan (m ∷ ms) p = make_messages plan ms (after_message p m) ∙ make_change plan (row_at p m).change p
+  pub make_messages : (ms : List Content) (p : ClockedPort) → port_make plan (after_messages p ms) ≡ port_make plan p
+  make_messages [] p = refl
+  make_messages (m ∷ ms) p = make_messages ms (after_message p m) ∙ make_change (row_at p m).change p
 
 make_if : (plan : Plan) (b : Bool) (p q : ClockedPort) → port_make plan q ≡ port_make plan p
     → port_make plan (if b then q else p) ≡ port_make plan p

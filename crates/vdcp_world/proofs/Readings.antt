@@ -34,61 +34,51 @@ airs_next list k item below is =
 
 -- ---- where the port is
 
-cue_part : (list : List Item) (clips : List (ClipId × Timecode)) (p : PortState) (aired : List Item) (k : ℕ)
-    (id : ClipId) (part : Option Part)
-    → slice_get list k ≡ Some (record { id = id; part = part }) → k < length list
-    → Idle list p.cued aired k ⊎ Coming list p.cued aired k
-    → Idle list (port_after clips p (Some (cue_for id part))).cued
-    (aired ++ aired_after clips p (Some (cue_for id part))) k
-    ⊎ Coming list (port_after clips p (Some (cue_for id part))).cued
-    (aired ++ aired_after clips p (Some (cue_for id part))) k
-cue_part list clips p aired k id None e b q = grind (arith, none_more)
-cue_part list clips p aired k id (Some part) e b q = grind (arith, none_more)
+module _ (list : List Item) (clips : List (ClipId × Timecode)) (p : PortState) (aired : List Item) where
+  cue_part : (k : ℕ) (id : ClipId) (part : Option Part) → slice_get list k ≡ Some (record { id = id; part = part })
+      → k < length list → Idle list p.cued aired k ⊎ Coming list p.cued aired k
+      → Idle list (port_after clips p (Some (cue_for id part))).cued (aired ++ aired_after clips p
+      (Some (cue_for id part))) k ⊎ Coming list (port_after clips p (Some (cue_for id part))).cued (aired ++ aired_after
+      clips p (Some (cue_for id part))) k
+  cue_part k id None e b q = grind (arith, none_more)
+  cue_part k id (Some part) e b q = grind (arith, none_more)
 
-cue_place : (list : List Item) (clips : List (ClipId × Timecode)) (p : PortState) (aired : List Item) (k : ℕ)
-    (o : Option Item) → slice_get list k ≡ o
-    → k < length list → Idle list p.cued aired k ⊎ Coming list p.cued aired k
-    → Idle list (port_after clips p (option_map cue_of o)).cued (aired ++ aired_after clips p (option_map cue_of o)) k
-    ⊎ Coming list (port_after clips p (option_map cue_of o)).cued (aired ++ aired_after clips p (option_map cue_of o)) k
-cue_place list clips p aired k None e b q = grind (arith, none_more)
-cue_place list clips p aired k (Some item) e b q = cue_part list clips p aired k item.id item.part e b q
+  cue_place : (k : ℕ) (o : Option Item) → slice_get list k ≡ o → k < length list
+      → Idle list p.cued aired k ⊎ Coming list p.cued aired k
+      → Idle list (port_after clips p (option_map cue_of o)).cued (aired ++ aired_after clips p (option_map cue_of o)) k
+      ⊎ Coming list (port_after clips p (option_map cue_of o)).cued (aired ++ aired_after clips p (option_map cue_of o))
+      k
+  cue_place k None e b q = grind (arith, none_more)
+  cue_place k (Some item) e b q = cue_part k item.id item.part e b q
 
-play_place : (list : List Item) (clips : List (ClipId × Timecode)) (p : PortState) (aired : List Item) (k : ℕ)
-    (cued : Cued) → p.cued ≡ cued
-    → Standing list cued aired k ⊎ Idle list cued aired (k + 1)
-    → Standing list (port_after clips p (Some command.Play)).cued (aired ++ aired_after clips p (Some command.Play)) k
-    ⊎ Idle list (port_after clips p (Some command.Play)).cued (aired ++ aired_after clips p (Some command.Play)) (k + 1)
-play_place list clips p aired k empty e q = grind (arith, none_more)
-play_place list clips p aired k (cueing item) e q = grind (arith, none_more)
-play_place list clips p aired k (done item) e q = grind (arith, none_more, airs_next)
+  play_place : (k : ℕ) (cued : Cued) → p.cued ≡ cued → Standing list cued aired k ⊎ Idle list cued aired (k + 1)
+      → Standing list (port_after clips p (Some command.Play)).cued (aired ++ aired_after clips p (Some command.Play)) k
+      ⊎ Idle list (port_after clips p (Some command.Play)).cued (aired ++ aired_after clips p (Some command.Play))
+      (k + 1)
+  play_place k empty e q = grind (arith, none_more)
+  play_place k (cueing item) e q = grind (arith, none_more)
+  play_place k (done item) e q = grind (arith, none_more, airs_next)
 
-pub reads_place : (list : List Item) (clips : List (ClipId × Timecode)) (p : PortState) (aired : List Item)
-    (settled port : ℕ) (q : Phase)
-    → Place list p.cued aired settled q
-    → Place list (port_after clips p (command_in list port q)).cued
-    (aired ++ aired_after clips p (command_in list port q)) settled q
-reads_place list clips p aired settled port (phase.Cue k) h =
-    (cue_place list clips p aired k (slice_get list k) refl h.2 h.0, h.1, h.2)
-reads_place list clips p aired settled port (phase.Play k) h = (play_place list clips p aired k p.cued refl h.0, h.1)
-reads_place list clips p aired settled port _ h = grind (arith, none_more)
+  pub reads_place : (settled port : ℕ) (q : Phase) → Place list p.cued aired settled q
+      → Place list (port_after clips p (command_in list port q)).cued (aired ++ aired_after clips p
+      (command_in list port q)) settled q
+  reads_place settled port (phase.Cue k) h = (cue_place k (slice_get list k) refl h.2 h.0, h.1, h.2)
+  reads_place settled port (phase.Play k) h = (play_place k p.cued refl h.0, h.1)
+  reads_place settled port _ h = grind (arith, none_more)
 
--- ---- what plays
+  -- ---- what plays
 
-plays_cue : (list : List Item) (clips : List (ClipId × Timecode)) (p : PortState) (aired : List Item) (id : ClipId)
-    (part : Option Part)
-    → PlaysLast list p.playing aired
-    → PlaysLast list (port_after clips p (Some (cue_for id part))).playing
-    (aired ++ aired_after clips p (Some (cue_for id part)))
-plays_cue list clips p aired id None h = grind (arith, none_more)
-plays_cue list clips p aired id (Some part) h = grind (arith, none_more)
+  plays_cue : (id : ClipId) (part : Option Part) → PlaysLast list p.playing aired
+      → PlaysLast list (port_after clips p (Some (cue_for id part))).playing (aired ++ aired_after clips p
+      (Some (cue_for id part)))
+  plays_cue id None h = grind (arith, none_more)
+  plays_cue id (Some part) h = grind (arith, none_more)
 
-plays_cue_at : (list : List Item) (clips : List (ClipId × Timecode)) (p : PortState) (aired : List Item)
-    (o : Option Item)
-    → PlaysLast list p.playing aired
-    → PlaysLast list (port_after clips p (option_map cue_of o)).playing
-    (aired ++ aired_after clips p (option_map cue_of o))
-plays_cue_at list clips p aired None h = grind (arith, none_more)
-plays_cue_at list clips p aired (Some item) h = plays_cue list clips p aired item.id item.part h
+  plays_cue_at : (o : Option Item) → PlaysLast list p.playing aired
+      → PlaysLast list (port_after clips p (option_map cue_of o)).playing (aired ++ aired_after clips p
+      (option_map cue_of o))
+  plays_cue_at None h = grind (arith, none_more)
+  plays_cue_at (Some item) h = plays_cue item.id item.part h
 
 one_more : (aired : List Item) (item : Item) → length (aired ++ item ∷ []) ≡ length aired + 1
 one_more aired item = simp length-append
@@ -101,22 +91,20 @@ plays_new list aired k item e below is =
     let at : length (aired ++ item ∷ []) - 1 ≡ k = omega (arith, one_more aired item, size) in
     (omega (arith, one_more aired item), ap (slice_get list) at ∙ is)
 
-plays_next : (list : List Item) (clips : List (ClipId × Timecode)) (p : PortState) (aired : List Item) (k : ℕ)
-    (cued : Cued) → p.cued ≡ cued
-    → Standing list cued aired k ⊎ Idle list cued aired (k + 1) → PlaysLast list p.playing aired
-    → PlaysLast list (port_after clips p (Some command.Play)).playing (aired ++ aired_after clips p (Some command.Play))
-plays_next list clips p aired k empty e q h = grind (arith, none_more)
-plays_next list clips p aired k (cueing item) e q h = grind (arith, none_more)
-plays_next list clips p aired k (done item) e q h = grind (arith, none_more, plays_new)
+module _ (list : List Item) (clips : List (ClipId × Timecode)) (p : PortState) (aired : List Item) where
+  plays_next : (k : ℕ) (cued : Cued) → p.cued ≡ cued → Standing list cued aired k ⊎ Idle list cued aired (k + 1)
+      → PlaysLast list p.playing aired → PlaysLast list (port_after clips p (Some command.Play)).playing
+      (aired ++ aired_after clips p (Some command.Play))
+  plays_next k empty e q h = grind (arith, none_more)
+  plays_next k (cueing item) e q h = grind (arith, none_more)
+  plays_next k (done item) e q h = grind (arith, none_more, plays_new)
 
-pub reads_plays : (list : List Item) (clips : List (ClipId × Timecode)) (p : PortState) (aired : List Item)
-    (settled port : ℕ) (q : Phase)
-    → Place list p.cued aired settled q → PlaysLast list p.playing aired
-    → PlaysLast list (port_after clips p (command_in list port q)).playing
-    (aired ++ aired_after clips p (command_in list port q))
-reads_plays list clips p aired settled port (phase.Cue k) h l = plays_cue_at list clips p aired (slice_get list k) l
-reads_plays list clips p aired settled port (phase.Play k) h l = plays_next list clips p aired k p.cued refl h.0 l
-reads_plays list clips p aired settled port _ h l = grind (arith, none_more)
+  pub reads_plays : (settled port : ℕ) (q : Phase) → Place list p.cued aired settled q → PlaysLast list p.playing aired
+      → PlaysLast list (port_after clips p (command_in list port q)).playing (aired ++ aired_after clips p
+      (command_in list port q))
+  reads_plays settled port (phase.Cue k) h l = plays_cue_at list clips p aired (slice_get list k) l
+  reads_plays settled port (phase.Play k) h l = plays_next k p.cued refl h.0 l
+  reads_plays settled port _ h l = grind (arith, none_more)
 
 -- ---- its number
 
@@ -129,27 +117,27 @@ keeps_number (cues item) p = refl
 keeps_number (airs item) p = refl
 keeps_number stops p = refl
 
-pub reads_number : (clips : List (ClipId × Timecode)) (p : PortState) (o : Option Command)
-    → (port_after clips p o).number ≡ p.number
-reads_number clips p None = refl
-reads_number clips p (Some c) = keeps_number (command_row clips p c).change p
+module _ (clips : List (ClipId × Timecode)) (p : PortState) where
+  pub reads_number : (o : Option Command) → (port_after clips p o).number ≡ p.number
+  reads_number None = refl
+  reads_number (Some c) = keeps_number (command_row clips p c).change p
 
--- ---- what plain mode knows
+  -- ---- what plain mode knows
 
-firm_cue : (clips : List (ClipId × Timecode)) (p : PortState) (id : ClipId) (part : Option Part)
-    → is_selected p ≡ true → is_selected (port_after clips p (Some (cue_for id part))) ≡ true
-firm_cue clips p id None h = grind arith
-firm_cue clips p id (Some part) h = grind arith
+  firm_cue : (id : ClipId) (part : Option Part) → is_selected p ≡ true
+      → is_selected (port_after clips p (Some (cue_for id part))) ≡ true
+  firm_cue id None h = grind arith
+  firm_cue id (Some part) h = grind arith
 
-pub firm_cue_at : (clips : List (ClipId × Timecode)) (p : PortState) (o : Option Item)
-    → is_selected p ≡ true → is_selected (port_after clips p (option_map cue_of o)) ≡ true
-firm_cue_at clips p None h = h
-firm_cue_at clips p (Some item) h = firm_cue clips p item.id item.part h
+  pub firm_cue_at : (o : Option Item) → is_selected p ≡ true → is_selected (port_after clips p (option_map cue_of o)) ≡
+      true
+  firm_cue_at None h = h
+  firm_cue_at (Some item) h = firm_cue item.id item.part h
 
-pub firm_request : (clips : List (ClipId × Timecode)) (p : PortState) (o : Option Item)
-    → is_selected p ≡ true → is_selected (port_after clips p (option_map (λ item. command.IdRequest item.id) o)) ≡ true
-firm_request clips p None h = h
-firm_request clips p (Some item) h = h
+  pub firm_request : (o : Option Item) → is_selected p ≡ true
+      → is_selected (port_after clips p (option_map (λ item. command.IdRequest item.id) o)) ≡ true
+  firm_request None h = h
+  firm_request (Some item) h = h
 
 pub reads_firm : (list : List Item) (clips : List (ClipId × Timecode)) (p : PortState) (port : ℕ) (q : Phase)
     → p.number ≡ port → Firm list clips p q → Firm list clips (port_after clips p (command_in list port q)) q
@@ -170,30 +158,26 @@ presence_tells : (clips : List (ClipId × Timecode)) (p : PortState) (o : Option
 presence_tells clips p None r e = cc
 presence_tells clips p (Some item) r e = cc
 
-play_tells : (list : List Item) (clips : List (ClipId × Timecode)) (p : PortState) (aired : List Item) (k : ℕ)
-    (r : Reply)
-    → Standing list p.cued aired k ⊎ Idle list p.cued aired (k + 1) → answer_after clips p (Some command.Play) ≡ Some r
-    → is_ack r ≡ true
-    → Idle list (port_after clips p (Some command.Play)).cued (aired ++ aired_after clips p (Some command.Play)) (k + 1)
-play_tells list clips p aired k r q a t = grind (arith, none_more, airs_next)
+module _ (list : List Item) (clips : List (ClipId × Timecode)) (p : PortState) (aired : List Item) (k : ℕ) where
+  play_tells : (r : Reply) → Standing list p.cued aired k ⊎ Idle list p.cued aired (k + 1)
+      → answer_after clips p (Some command.Play) ≡ Some r → is_ack r ≡ true
+      → Idle list (port_after clips p (Some command.Play)).cued (aired ++ aired_after clips p (Some command.Play))
+      (k + 1)
+  play_tells r q a t = grind (arith, none_more, airs_next)
 
-status_tells : (list : List Item) (clips : List (ClipId × Timecode)) (p : PortState) (aired : List Item) (k : ℕ)
-    (r : Reply)
-    → Idle list p.cued aired k ⊎ Coming list p.cued aired k → answer_after clips p (Some (command.Status 1)) ≡ Some r
-    → is_done r ≡ true
-    → Standing list (port_after clips p (Some (command.Status 1))).cued
-    (aired ++ aired_after clips p (Some (command.Status 1))) k
-status_tells list clips p aired k r q a t = grind (arith, none_more)
+  status_tells : (r : Reply) → Idle list p.cued aired k ⊎ Coming list p.cued aired k
+      → answer_after clips p (Some (command.Status 1)) ≡ Some r → is_done r ≡ true
+      → Standing list (port_after clips p (Some (command.Status 1))).cued (aired ++ aired_after clips p
+      (Some (command.Status 1))) k
+  status_tells r q a t = grind (arith, none_more)
 
-probe_tells : (list : List Item) (clips : List (ClipId × Timecode)) (p : PortState) (aired : List Item) (k : ℕ)
-    (r : Reply)
-    → Standing list p.cued aired k ⊎ Idle list p.cued aired (k + 1)
-    → answer_after clips p (Some (command.Status 1)) ≡ Some r
-    → (is_done r ≡ true → Standing list (port_after clips p (Some (command.Status 1))).cued
-    (aired ++ aired_after clips p (Some (command.Status 1))) k)
-    × (is_empty r ≡ true → Idle list (port_after clips p (Some (command.Status 1))).cued
-    (aired ++ aired_after clips p (Some (command.Status 1))) (k + 1))
-probe_tells list clips p aired k r q a = grind (arith, none_more)
+  probe_tells : (r : Reply) → Standing list p.cued aired k ⊎ Idle list p.cued aired (k + 1)
+      → answer_after clips p (Some (command.Status 1)) ≡ Some r
+      → (is_done r ≡ true → Standing list (port_after clips p (Some (command.Status 1))).cued (aired ++ aired_after
+      clips p (Some (command.Status 1))) k) × (is_empty r ≡ true
+      → Idle list (port_after clips p (Some (command.Status 1))).cued (aired ++ aired_after clips p
+      (Some (command.Status 1))) (k + 1))
+  probe_tells r q a = grind (arith, none_more)
 
 same_itself : (id : ClipId) → is_same_id id id ≡ true
 same_itself id = own_list (id_bytes id)
@@ -217,47 +201,40 @@ active_tells list aired k (Some item) e within h =
     let at : length aired - 1 ≡ k = omega (arith, ap length e, taken list (k + 1) within) in
     names_same (slice_get list k) item (sym (ap (slice_get list) at) ∙ h.1)
 
-check_tells : (list : List Item) (clips : List (ClipId × Timecode)) (p : PortState) (aired : List Item) (k : ℕ)
-    (r : Reply) (selected : Bool)
-    → is_selected p ≡ selected
-    → Idle list p.cued aired (k + 1) → PlaysLast list p.playing aired
-    → answer_after clips p (Some command.ActiveId) ≡ Some r
-    → names_other (slice_get list k) r ≡ false
-check_tells list clips p aired k r true s h l a =
-    grind (arith, active_tells list aired k p.playing h.aired_is h.within l)
-check_tells list clips p aired k r false s h l a = grind arith
+module _ (list : List Item) (clips : List (ClipId × Timecode)) (p : PortState) (aired : List Item) where
+  check_tells : (k : ℕ) (r : Reply) (selected : Bool) → is_selected p ≡ selected → Idle list p.cued aired (k + 1)
+      → PlaysLast list p.playing aired → answer_after clips p (Some command.ActiveId) ≡ Some r
+      → names_other (slice_get list k) r ≡ false
+  check_tells k r true s h l a = grind (arith, active_tells list aired k p.playing h.aired_is h.within l)
+  check_tells k r false s h l a = grind arith
 
-pub reads_tells : (list : List Item) (clips : List (ClipId × Timecode)) (p : PortState) (aired : List Item)
-    (settled port : ℕ) (q : Phase) (r : Reply)
-    → p.number ≡ port → Place list p.cued aired settled q → PlaysLast list p.playing aired
-    → answer_after clips p (command_in list port q) ≡ Some r
-    → Tells list clips (port_after clips p (command_in list port q)).cued
-    (aired ++ aired_after clips p (command_in list port q)) q r
-reads_tells list clips p aired settled port phase.Open r n h l a = grind arith
-reads_tells list clips p aired settled port (phase.Exists k) r n h l a =
-    grind (arith, presence_tells clips p (slice_get list k) r a)
-reads_tells list clips p aired settled port (phase.Wait k) r n h l a = status_tells list clips p aired k r h.0 a
-reads_tells list clips p aired settled port (phase.Play k) r n h l a = play_tells list clips p aired k r h.0 a
-reads_tells list clips p aired settled port (phase.Probe k) r n h l a = probe_tells list clips p aired k r h.0 a
-reads_tells list clips p aired settled port (phase.Check k) r n h l a =
-    check_tells list clips p aired k r (is_selected p) refl h.0 l a
-reads_tells list clips p aired settled port phase.Drain r n h l a = grind arith
-reads_tells list clips p aired settled port _ r n h l a = tt
+  pub reads_tells : (settled port : ℕ) (q : Phase) (r : Reply) → p.number ≡ port → Place list p.cued aired settled q
+      → PlaysLast list p.playing aired → answer_after clips p (command_in list port q) ≡ Some r
+      → Tells list clips (port_after clips p (command_in list port q)).cued (aired ++ aired_after clips p
+      (command_in list port q)) q r
+  reads_tells settled port phase.Open r n h l a = grind arith
+  reads_tells settled port (phase.Exists k) r n h l a = grind (arith, presence_tells clips p (slice_get list k) r a)
+  reads_tells settled port (phase.Wait k) r n h l a = status_tells list clips p aired k r h.0 a
+  reads_tells settled port (phase.Play k) r n h l a = play_tells list clips p aired k r h.0 a
+  reads_tells settled port (phase.Probe k) r n h l a = probe_tells list clips p aired k r h.0 a
+  reads_tells settled port (phase.Check k) r n h l a = check_tells k r (is_selected p) refl h.0 l a
+  reads_tells settled port phase.Drain r n h l a = grind arith
+  reads_tells settled port _ r n h l a = tt
 
-cue_refusal : (clips : List (ClipId × Timecode)) (p : PortState) (id : ClipId) (part : Option Part) (r : Reply)
-    → is_selected p ≡ true → knows clips (Some (record { id = id; part = part })) ≡ true
-    → answer_after clips p (Some (cue_for id part)) ≡ Some r
-    → (is_refusal r ≡ true → refuses clips (Some (record { id = id; part = part })) ≡ true)
-    × (is_ack r ≡ true → is_empty_slot (port_after clips p (Some (cue_for id part))).cued ≡ false)
-cue_refusal clips p id None r s k a = grind arith
-cue_refusal clips p id (Some part) r s k a = grind arith
+module _ (clips : List (ClipId × Timecode)) (p : PortState) where
+  cue_refusal : (id : ClipId) (part : Option Part) (r : Reply) → is_selected p ≡ true
+      → knows clips (Some (record { id = id; part = part })) ≡ true
+      → answer_after clips p (Some (cue_for id part)) ≡ Some r
+      → (is_refusal r ≡ true → refuses clips (Some (record { id = id; part = part })) ≡ true) × (is_ack r ≡ true
+      → is_empty_slot (port_after clips p (Some (cue_for id part))).cued ≡ false)
+  cue_refusal id None r s k a = grind arith
+  cue_refusal id (Some part) r s k a = grind arith
 
-cue_refusal_at : (clips : List (ClipId × Timecode)) (p : PortState) (o : Option Item) (r : Reply)
-    → is_selected p ≡ true → knows clips o ≡ true → answer_after clips p (option_map cue_of o) ≡ Some r
-    → (is_refusal r ≡ true → refuses clips o ≡ true)
-    × (is_ack r ≡ true → is_empty_slot (port_after clips p (option_map cue_of o)).cued ≡ false)
-cue_refusal_at clips p None r s k a = cc
-cue_refusal_at clips p (Some item) r s k a = cue_refusal clips p item.id item.part r s k a
+  cue_refusal_at : (o : Option Item) (r : Reply) → is_selected p ≡ true → knows clips o ≡ true
+      → answer_after clips p (option_map cue_of o) ≡ Some r → (is_refusal r ≡ true → refuses clips o ≡ true)
+      × (is_ack r ≡ true → is_empty_slot (port_after clips p (option_map cue_of o)).cued ≡ false)
+  cue_refusal_at None r s k a = cc
+  cue_refusal_at (Some item) r s k a = cue_refusal item.id item.part r s k a
 
 pub reads_firm_tells : (list : List Item) (clips : List (ClipId × Timecode)) (p : PortState) (port : ℕ) (q : Phase)
     (r : Reply)

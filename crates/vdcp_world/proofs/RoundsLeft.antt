@@ -94,46 +94,38 @@ goes_next list k old below = by (nat_lt k (length list))
 
 -- ---- plain mode
 
-cue_nears : (list : List Item) (clips : List (ClipId × Timecode)) (p : PortState)
-    (settled port limit tries unanswered : ℕ) (take counts : Bool)
-    (k : ℕ) (id : ClipId) (part : Option Part) (r : Reply)
-    → is_selected p ≡ true → is_playable clips (record { id = id; part = part }) ≡ true → settled ≡ k → k < length list
-    → answer_after clips p (Some (cue_for id part)) ≡ Some r
-    → Nears (length list) settled (5 * (length list - settled) + 1)
-    (turn_by Plain list limit take tries unanswered counts (phase.Cue k) (answer_at (Some (cue_for id part)) r))
-cue_nears list clips p settled port limit tries unanswered take counts k id None r s f e b a = grind arith
-cue_nears list clips p settled port limit tries unanswered take counts k id (Some part) r s f e b a = grind arith
+module _ (list : List Item) (clips : List (ClipId × Timecode)) (p : PortState) (settled port limit tries unanswered : ℕ)
+    (take counts : Bool) where
+  cue_nears : (k : ℕ) (id : ClipId) (part : Option Part) (r : Reply) → is_selected p ≡ true
+      → is_playable clips (record { id = id; part = part }) ≡ true → settled ≡ k → k < length list
+      → answer_after clips p (Some (cue_for id part)) ≡ Some r
+      → Nears (length list) settled (5 * (length list - settled) + 1) (turn_by Plain list limit take tries unanswered
+      counts (phase.Cue k) (answer_at (Some (cue_for id part)) r))
+  cue_nears k id None r s f e b a = grind arith
+  cue_nears k id (Some part) r s f e b a = grind arith
 
-cue_nears_at : (list : List Item) (clips : List (ClipId × Timecode)) (p : PortState)
-    (settled port limit tries unanswered : ℕ) (take counts : Bool)
-    (k : ℕ) (o : Option Item) (r : Reply)
-    → is_selected p ≡ true → plays clips o ≡ true → settled ≡ k → k < length list
-    → answer_after clips p (option_map cue_of o) ≡ Some r
-    → Nears (length list) settled (5 * (length list - settled) + 1)
-    (turn_by Plain list limit take tries unanswered counts (phase.Cue k) (answer_at (option_map cue_of o) r))
-cue_nears_at list clips p settled port limit tries unanswered take counts k None r s f e b a = cc
-cue_nears_at list clips p settled port limit tries unanswered take counts k (Some item) r s f e b a =
-    cue_nears list clips p settled port limit tries unanswered take counts k item.id item.part r s f e b a
+  cue_nears_at : (k : ℕ) (o : Option Item) (r : Reply) → is_selected p ≡ true → plays clips o ≡ true → settled ≡ k
+      → k < length list → answer_after clips p (option_map cue_of o) ≡ Some r
+      → Nears (length list) settled (5 * (length list - settled) + 1) (turn_by Plain list limit take tries unanswered
+      counts (phase.Cue k) (answer_at (option_map cue_of o) r))
+  cue_nears_at k None r s f e b a = cc
+  cue_nears_at k (Some item) r s f e b a = cue_nears k item.id item.part r s f e b a
 
-exists_nears : (list : List Item) (clips : List (ClipId × Timecode)) (p : PortState)
-    (settled port limit tries unanswered : ℕ) (take counts : Bool)
-    (k : ℕ) (o : Option Item) (r : Reply)
-    → plays clips o ≡ true → settled ≡ k → k < length list
-    → answer_after clips p (option_map (λ item. command.IdRequest item.id) o) ≡ Some r
-    → Nears (length list) settled (5 * (length list - settled) + 2)
-    (turn_by Plain list limit take tries unanswered counts (phase.Exists k)
-    (answer_at (option_map (λ item. command.IdRequest item.id) o) r))
-exists_nears list clips p settled port limit tries unanswered take counts k None r f e b a = cc
-exists_nears list clips p settled port limit tries unanswered take counts k (Some item) r f e b a = by known r a
-  where
-    known : is_known clips item.id ≡ true
-    known = known_of (length_of clips item.id) item.part f
+  exists_nears : (k : ℕ) (o : Option Item) (r : Reply) → plays clips o ≡ true → settled ≡ k → k < length list
+      → answer_after clips p (option_map (λ item. command.IdRequest item.id) o) ≡ Some r
+      → Nears (length list) settled (5 * (length list - settled) + 2) (turn_by Plain list limit take tries unanswered
+      counts (phase.Exists k) (answer_at (option_map (λ item. command.IdRequest item.id) o) r))
+  exists_nears k None r f e b a = cc
+  exists_nears k (Some item) r f e b a = by known r a
+    where
+      known : is_known clips item.id ≡ true
+      known = known_of (length_of clips item.id) item.part f
 
-    by : is_known clips item.id ≡ true → (r : Reply) → Some (reply.Present (is_known clips item.id)) ≡ Some r
-        → Nears (length list) settled (5 * (length list - settled) + 2)
-        (turn_by Plain list limit take tries unanswered counts (phase.Exists k)
-        (answer_at (Some (command.IdRequest item.id)) r))
-    by known r a = grind arith
+      by : is_known clips item.id ≡ true → (r : Reply) → Some (reply.Present (is_known clips item.id)) ≡ Some r
+          → Nears (length list) settled (5 * (length list - settled) + 2)
+          (turn_by Plain list limit take tries unanswered counts (phase.Exists k)
+          (answer_at (Some (command.IdRequest item.id)) r))
+      by known r a = grind arith
 
 pub plain_nears : (list : List Item) (clips : List (ClipId × Timecode)) (p : PortState) (aired : List Item)
     (settled port limit tries unanswered : ℕ) (take counts : Bool) (q : Phase) (r : Reply)

@@ -18,54 +18,47 @@ ready_place list empty aired settled q h = h
 ready_place list (cueing item) aired settled q h = grind arith
 ready_place list (done item) aired settled q h = h
 
-pub ready_place_at : (list : List Item) (clips : List (ClipId × Timecode)) (cued : Cued) (aired : List Item)
-    (settled : ℕ) (stage : Stage)
-    → PlaceAt list clips cued aired settled stage → PlaceAt list clips (made_ready cued) aired settled stage
-ready_place_at list clips empty aired settled stage h = h
-ready_place_at list clips (cueing item) aired settled (Ready q) h = grind arith
-ready_place_at list clips (cueing item) aired settled (Awaiting q) h = ready_place list (cueing item) aired settled q h
-ready_place_at list clips (cueing item) aired settled (Ended outcome) h = h
-ready_place_at list clips (done item) aired settled stage h = h
+module _ (list : List Item) (clips : List (ClipId × Timecode)) where
+  pub ready_place_at : (cued : Cued) (aired : List Item) (settled : ℕ) (stage : Stage)
+      → PlaceAt list clips cued aired settled stage → PlaceAt list clips (made_ready cued) aired settled stage
+  ready_place_at empty aired settled stage h = h
+  ready_place_at (cueing item) aired settled (Ready q) h = grind arith
+  ready_place_at (cueing item) aired settled (Awaiting q) h = ready_place list (cueing item) aired settled q h
+  ready_place_at (cueing item) aired settled (Ended outcome) h = h
+  ready_place_at (done item) aired settled stage h = h
 
-pub ready_tells : (list : List Item) (clips : List (ClipId × Timecode)) (cued : Cued) (aired : List Item) (q : Phase)
-    (r : Reply)
-    → Tells list clips cued aired q r → Tells list clips (made_ready cued) aired q r
-ready_tells list clips empty aired q r h = h
-ready_tells list clips (cueing item) aired q r h = grind arith
-ready_tells list clips (done item) aired q r h = h
+  pub ready_tells : (cued : Cued) (aired : List Item) (q : Phase) (r : Reply) → Tells list clips cued aired q r
+      → Tells list clips (made_ready cued) aired q r
+  ready_tells empty aired q r h = h
+  ready_tells (cueing item) aired q r h = grind arith
+  ready_tells (done item) aired q r h = h
 
-ready_firm : (list : List Item) (clips : List (ClipId × Timecode)) (p : PortState) (cued : Cued) (q : Phase)
-    → p.cued ≡ cued
-    → Firm list clips p q → Firm list clips (ready_state p) q
-ready_firm list clips p empty q e h = grind arith
-ready_firm list clips p (cueing item) q e h = grind arith
-ready_firm list clips p (done item) q e h = grind arith
+module _ (list : List Item) (clips : List (ClipId × Timecode)) (p : PortState) where
+  ready_firm : (cued : Cued) (q : Phase) → p.cued ≡ cued → Firm list clips p q → Firm list clips (ready_state p) q
+  ready_firm empty q e h = grind arith
+  ready_firm (cueing item) q e h = grind arith
+  ready_firm (done item) q e h = grind arith
 
-pub ready_firm_at : (list : List Item) (clips : List (ClipId × Timecode)) (p : PortState) (stage : Stage)
-    → FirmAt list clips p stage → FirmAt list clips (ready_state p) stage
-ready_firm_at list clips p (Ready q) h = ready_firm list clips p p.cued q refl h
-ready_firm_at list clips p (Awaiting q) h = ready_firm list clips p p.cued q refl h
-ready_firm_at list clips p (Ended outcome) h = h
+  pub ready_firm_at : (stage : Stage) → FirmAt list clips p stage → FirmAt list clips (ready_state p) stage
+  ready_firm_at (Ready q) h = ready_firm p.cued q refl h
+  ready_firm_at (Awaiting q) h = ready_firm p.cued q refl h
+  ready_firm_at (Ended outcome) h = h
 
-pub ready_firm_tells : (list : List Item) (clips : List (ClipId × Timecode)) (p : PortState) (cued : Cued) (q : Phase)
-    (r : Reply) → p.cued ≡ cued
-    → FirmTells list clips p q r → FirmTells list clips (ready_state p) q r
-ready_firm_tells list clips p empty q r e h = grind arith
-ready_firm_tells list clips p (cueing item) q r e h = grind arith
-ready_firm_tells list clips p (done item) q r e h = grind arith
+  pub ready_firm_tells : (cued : Cued) (q : Phase) (r : Reply) → p.cued ≡ cued → FirmTells list clips p q r
+      → FirmTells list clips (ready_state p) q r
+  ready_firm_tells empty q r e h = grind arith
+  ready_firm_tells (cueing item) q r e h = grind arith
+  ready_firm_tells (done item) q r e h = grind arith
 
--- ---- the clip has ended
+  -- ---- the clip has ended
 
-ended_firm : (list : List Item) (clips : List (ClipId × Timecode)) (p : PortState) (q : Phase) → Firm list clips p q
-    → Firm list clips (ended_state p) q
-ended_firm list clips p q h = grind arith
+  ended_firm : (q : Phase) → Firm list clips p q → Firm list clips (ended_state p) q
+  ended_firm q h = grind arith
 
-pub ended_firm_at : (list : List Item) (clips : List (ClipId × Timecode)) (p : PortState) (stage : Stage)
-    → FirmAt list clips p stage → FirmAt list clips (ended_state p) stage
-ended_firm_at list clips p (Ready q) h = ended_firm list clips p q h
-ended_firm_at list clips p (Awaiting q) h = ended_firm list clips p q h
-ended_firm_at list clips p (Ended outcome) h = h
+  pub ended_firm_at : (stage : Stage) → FirmAt list clips p stage → FirmAt list clips (ended_state p) stage
+  ended_firm_at (Ready q) h = ended_firm q h
+  ended_firm_at (Awaiting q) h = ended_firm q h
+  ended_firm_at (Ended outcome) h = h
 
-pub ended_firm_tells : (list : List Item) (clips : List (ClipId × Timecode)) (p : PortState) (q : Phase) (r : Reply)
-    → FirmTells list clips p q r → FirmTells list clips (ended_state p) q r
-ended_firm_tells list clips p q r h = grind arith
+  pub ended_firm_tells : (q : Phase) (r : Reply) → FirmTells list clips p q r → FirmTells list clips (ended_state p) q r
+  ended_firm_tells q r h = grind arith

@@ -25,22 +25,21 @@ use Rattle.vdcp_world.specs.Below.{Below}
 
 -- ---- a tick
 
--- what a tick gives is awaited then, and where it gives nothing, what was awaited before
-pub given_awaited : (plan : Plan) (state : State) (c : Command) → given plan state ≡ Some c
-    → awaited plan (ticked state) ≡ Some c
-given_awaited plan state c e = by state.stage e
-  where
-    by : (stage : Stage) → given_in plan state.stop stage ≡ Some c → awaited plan (tick_in stage state) ≡ Some c
-    by (Ready q) e = e
-    by _ e = cc
+module _ (plan : Plan) (state : State) (c : Command) where
+  -- what a tick gives is awaited then, and where it gives nothing, what was awaited before
+  pub given_awaited : given plan state ≡ Some c → awaited plan (ticked state) ≡ Some c
+  given_awaited e = by state.stage e
+    where
+      by : (stage : Stage) → given_in plan state.stop stage ≡ Some c → awaited plan (tick_in stage state) ≡ Some c
+      by (Ready q) e = e
+      by _ e = cc
 
-none_awaited : (plan : Plan) (state : State) (c : Command) → given plan state ≡ None → awaited plan state ≡ Some c
-    → awaited plan (ticked state) ≡ Some c
-none_awaited plan state c e aw = by state.stage aw
-  where
-    by : (stage : Stage) → awaited_in plan stage ≡ Some c → awaited plan (tick_in stage state) ≡ Some c
-    by (Awaiting q) a = aw
-    by _ a = cc
+  none_awaited : given plan state ≡ None → awaited plan state ≡ Some c → awaited plan (ticked state) ≡ Some c
+  none_awaited e aw = by state.stage aw
+    where
+      by : (stage : Stage) → awaited_in plan stage ≡ Some c → awaited plan (tick_in stage state) ≡ Some c
+      by (Awaiting q) a = aw
+      by _ a = cc
 
 pub tick_way : Below → (mode : Mode) (unit : ℕ) (plan : Plan) (state : State) (down up : List ℕ) (g : Option Command)
     → given plan state ≡ g

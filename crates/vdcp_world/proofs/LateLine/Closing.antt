@@ -34,100 +34,91 @@ on_air_thins list s a aired ups others downs left k u d (inr h) = inr (record {
   none_waits = none_thins waits downs left d h.none_waits;
 })
 
-playing_thins : (list : List Item) (settled : ℕ) (s : Bool) (a : Cued) (aired : List Item) (ups others : List Answer)
-    (downs left : List Phase) (k : ℕ)
-    → Thins ups others → Thins downs left → Playing list settled s a aired ups downs k
-    → Playing list settled s a aired others left k
-playing_thins list settled s a aired ups others downs left k u d h = record {
-  settled_is = h.settled_is;
-  within = h.within;
-  never_none = none_thins shows_no_cue ups others u h.never_none;
-  stands = on_air_thins list s a aired ups others downs left k u d h.stands;
-}
+module _ (list : List Item) (settled : ℕ) (s : Bool) (a : Cued) (aired : List Item) where
+  playing_thins : (ups others : List Answer) (downs left : List Phase) (k : ℕ) → Thins ups others → Thins downs left
+      → Playing list settled s a aired ups downs k → Playing list settled s a aired others left k
+  playing_thins ups others downs left k u d h = record {
+    settled_is = h.settled_is;
+    within = h.within;
+    never_none = none_thins shows_no_cue ups others u h.never_none;
+    stands = on_air_thins list s a aired ups others downs left k u d h.stands;
+  }
 
-pub safe_thins : (list : List Item) (settled : ℕ) (s : Bool) (a : Cued) (aired : List Item) (downs left : List Phase)
-    → Thins downs left → Safe list settled s a aired downs → Safe list settled s a aired left
-safe_thins list settled s a aired downs left d h = record { near = h.near; calm = by h.calm }
-  where
-    by : (list_any plays downs ≡ false) ⊎ Unarmed list settled s a aired downs
-        → (list_any plays left ≡ false) ⊎ Unarmed list settled s a aired left
-    by (inl e) = inl (none_thins plays downs left d e)
-    by (inr u) = inr (record { none_arms = none_thins arms downs left d u.none_arms; last = u.last })
+  pub safe_thins : (downs left : List Phase) → Thins downs left → Safe list settled s a aired downs
+      → Safe list settled s a aired left
+  safe_thins downs left d h = record { near = h.near; calm = by h.calm }
+    where
+      by : (list_any plays downs ≡ false) ⊎ Unarmed list settled s a aired downs
+          → (list_any plays left ≡ false) ⊎ Unarmed list settled s a aired left
+      by (inl e) = inl (none_thins plays downs left d e)
+      by (inr u) = inr (record { none_arms = none_thins arms downs left d u.none_arms; last = u.last })
 
-pub place_thins : (list : List Item) (settled : ℕ) (s : Bool) (a : Cued) (aired : List Item) (ups others : List Answer)
-    (downs left : List Phase) (q : Phase)
-    → Thins ups others → Thins downs left → Place list settled s a aired ups downs q
-    → Place list settled s a aired others left q
-place_thins list settled s a aired ups others downs left (phase.Cue k) u d h =
-    record { at = h.at; within = h.within; taken = λ e. h.taken (any_thins says_ack ups others u e) }
-place_thins list settled s a aired ups others downs left (phase.Wait k) u d h = record {
-  at = h.at;
-  within = h.within;
-  has_item = h.has_item;
-  shown = λ e. h.shown (any_thins says_done ups others u e);
-  never_none = none_thins shows_no_cue ups others u h.never_none;
-}
-place_thins list settled s a aired ups others downs left (phase.Play k) u d h =
-    playing_thins list settled s a aired ups others downs left k u d h
-place_thins list settled s a aired ups others downs left (phase.Probe k) u d h =
-    playing_thins list settled s a aired ups others downs left k u d h
-place_thins list settled s a aired ups others downs left phase.Halt u d h =
-    safe_thins list settled s a aired downs left d h
-place_thins list settled s a aired ups others downs left phase.HaltClose u d h =
-    safe_thins list settled s a aired downs left d h
-place_thins list settled s a aired ups others downs left _ u d h = h
+  pub place_thins : (ups others : List Answer) (downs left : List Phase) (q : Phase) → Thins ups others
+      → Thins downs left → Place list settled s a aired ups downs q → Place list settled s a aired others left q
+  place_thins ups others downs left (phase.Cue k) u d h =
+      record { at = h.at; within = h.within; taken = λ e. h.taken (any_thins says_ack ups others u e) }
+  place_thins ups others downs left (phase.Wait k) u d h = record {
+    at = h.at;
+    within = h.within;
+    has_item = h.has_item;
+    shown = λ e. h.shown (any_thins says_done ups others u e);
+    never_none = none_thins shows_no_cue ups others u h.never_none;
+  }
+  place_thins ups others downs left (phase.Play k) u d h = playing_thins ups others downs left k u d h
+  place_thins ups others downs left (phase.Probe k) u d h = playing_thins ups others downs left k u d h
+  place_thins ups others downs left phase.Halt u d h = safe_thins downs left d h
+  place_thins ups others downs left phase.HaltClose u d h = safe_thins downs left d h
+  place_thins ups others downs left _ u d h = h
 
--- the pipe
-pub pipe_thins : (mode : Mode) (n : ℕ) (ups others : List Answer) (downs left : List Phase) → Thins ups others
-    → Thins downs left
-    → Thins (stretches mode n (pipe_of ups downs)) (stretches mode n (pipe_of others left))
-pipe_thins mode n [] others downs left u d =
-    subst (λ (o : List Answer). Thins (stretches mode n downs) (stretches mode n (pipe_of o left))) (sym u)
-    (below downs left d)
-  where
-    below : (downs left : List Phase) → Thins downs left → Thins (stretches mode n downs) (stretches mode n left)
-    below [] left d = ap (stretches mode n) d
-    below (x ∷ downs) left (inl d) = inl (below downs left d)
-    below (x ∷ downs) left (inr (rest, is, d)) =
-        inr (stretches mode n rest, ap (stretches mode n) is, below downs rest d)
-pipe_thins mode n (a ∷ ups) others downs left (inl u) d = inl (pipe_thins mode n ups others downs left u d)
-pipe_thins mode n (a ∷ ups) others downs left (inr (rest, is, u)) d =
-    inr (
-      stretches mode n (pipe_of rest left),
-      ap (λ (o : List Answer). stretches mode n (pipe_of o left)) is,
-      pipe_thins mode n ups rest downs left u d,
-    )
+module _ (mode : Mode) where
+  -- the pipe
+  pub pipe_thins : (n : ℕ) (ups others : List Answer) (downs left : List Phase) → Thins ups others → Thins downs left
+      → Thins (stretches mode n (pipe_of ups downs)) (stretches mode n (pipe_of others left))
+  pipe_thins n [] others downs left u d =
+      subst (λ (o : List Answer). Thins (stretches mode n downs) (stretches mode n (pipe_of o left))) (sym u)
+      (below downs left d)
+    where
+      below : (downs left : List Phase) → Thins downs left → Thins (stretches mode n downs) (stretches mode n left)
+      below [] left d = ap (stretches mode n) d
+      below (x ∷ downs) left (inl d) = inl (below downs left d)
+      below (x ∷ downs) left (inr (rest, is, d)) =
+          inr (stretches mode n rest, ap (stretches mode n) is, below downs rest d)
+  pipe_thins n (a ∷ ups) others downs left (inl u) d = inl (pipe_thins n ups others downs left u d)
+  pipe_thins n (a ∷ ups) others downs left (inr (rest, is, u)) d =
+      inr (
+        stretches mode n (pipe_of rest left),
+        ap (λ (o : List Answer). stretches mode n (pipe_of o left)) is,
+        pipe_thins n ups rest downs left u d,
+      )
 
--- a phase's pipe is one still where what climbs in it climbs still
-flow_maps : (mode : Mode) (n : ℕ) (pipe other : List Phase) (q : Phase)
-    → ((low high : ℕ) → Climbs low high (stretches mode n pipe) → Climbs low high (stretches mode n other))
-    → IsPipe mode n q pipe → IsPipe mode n q other
-flow_maps mode n pipe other phase.Halt f c = tt
-flow_maps mode n pipe other phase.HaltClose f c = tt
-flow_maps mode n pipe other _ f c = f _ _ c
+  -- a phase's pipe is one still where what climbs in it climbs still
+  flow_maps : (n : ℕ) (pipe other : List Phase) (q : Phase) → ((low high : ℕ) → Climbs low high (stretches mode n pipe)
+      → Climbs low high (stretches mode n other)) → IsPipe mode n q pipe → IsPipe mode n q other
+  flow_maps n pipe other phase.Halt f c = tt
+  flow_maps n pipe other phase.HaltClose f c = tt
+  flow_maps n pipe other _ f c = f _ _ c
 
-pub flow_thins : (mode : Mode) (n : ℕ) (ups others : List Answer) (downs left : List Phase) (q : Phase)
-    → Thins ups others → Thins downs left → IsPipe mode n q (pipe_of ups downs)
-    → IsPipe mode n q (pipe_of others left)
-flow_thins mode n ups others downs left q u d =
-    flow_maps mode n (pipe_of ups downs) (pipe_of others left) q
-    (λ low high. climbs_thins low high (stretches mode n (pipe_of ups downs)) (stretches mode n (pipe_of others left))
-    (pipe_thins mode n ups others downs left u d))
+  pub flow_thins : (n : ℕ) (ups others : List Answer) (downs left : List Phase) (q : Phase) → Thins ups others
+      → Thins downs left → IsPipe mode n q (pipe_of ups downs) → IsPipe mode n q (pipe_of others left)
+  flow_thins n ups others downs left q u d =
+      flow_maps n (pipe_of ups downs) (pipe_of others left) q (λ low high. climbs_thins low high
+      (stretches mode n (pipe_of ups downs)) (stretches mode n (pipe_of others left)) (pipe_thins n ups others downs
+      left u d))
 
--- the oldest command is copied in its place
-pub flow_copied : (mode : Mode) (n : ℕ) (ups : List Answer) (d : Phase) (downs : List Phase) (q : Phase)
-    → IsPipe mode n q (pipe_of ups (d ∷ downs)) → IsPipe mode n q (pipe_of ups (d ∷ d ∷ downs))
-flow_copied mode n ups d downs q =
-    flow_maps mode n (pipe_of ups (d ∷ downs)) (pipe_of ups (d ∷ d ∷ downs)) q
-    (λ low high. pipe_copied mode n low high ups d downs)
+  -- the oldest command is copied in its place
+  pub flow_copied : (n : ℕ) (ups : List Answer) (d : Phase) (downs : List Phase) (q : Phase)
+      → IsPipe mode n q (pipe_of ups (d ∷ downs)) → IsPipe mode n q (pipe_of ups (d ∷ d ∷ downs))
+  flow_copied n ups d downs q =
+      flow_maps n (pipe_of ups (d ∷ downs)) (pipe_of ups (d ∷ d ∷ downs)) q (λ low high. pipe_copied mode n low high ups
+      d downs)
 
--- the pipe with one more of the greatest
-pushed : (mode : Mode) (n low : ℕ) (ups : List Answer) (downs : List Phase) (q : Phase) → low ≤ stretch mode n q
-    → Climbs low (stretch mode n q) (stretches mode n (pipe_of ups downs))
-    → Climbs low (stretch mode n q) (stretches mode n (pipe_of ups (downs ++ q ∷ [])))
-pushed mode n low ups downs q l c =
-    subst (Climbs low (stretch mode n q)) (sym (pipe_pushed mode n ups downs q))
-    (climbs_pushed low (stretch mode n q) (stretches mode n (pipe_of ups downs)) l c)
+  -- the pipe with one more of the greatest
+  pushed : (n low : ℕ) (ups : List Answer) (downs : List Phase) (q : Phase) → low ≤ stretch mode n q
+      → Climbs low (stretch mode n q) (stretches mode n (pipe_of ups downs))
+      → Climbs low (stretch mode n q) (stretches mode n (pipe_of ups (downs ++ q ∷ [])))
+  pushed n low ups downs q l c =
+      subst (Climbs low (stretch mode n q)) (sym (pipe_pushed mode n ups downs q)) (climbs_pushed low (stretch mode n q)
+      (stretches mode n (pipe_of ups downs)) l c)
 
 pub flow_pushed : (mode : Mode) (n : ℕ) (ups : List Answer) (downs : List Phase) (q : Phase)
     → IsPipe mode n q (pipe_of ups downs) → IsPipe mode n q (pipe_of ups (downs ++ q ∷ []))
@@ -235,48 +226,44 @@ stand_ages list s a t b aired ups downs k g (inr h) = inr (record {
   none_waits = h.none_waits;
 })
 
-playing_ages : (list : List Item) (settled : ℕ) (s : Bool) (a : Cued) (t : Bool) (b : Cued) (aired : List Item)
-    (ups : List Answer) (downs : List Phase) (k : ℕ)
-    → Ages s a t b → Playing list settled s a aired ups downs k → Playing list settled t b aired ups downs k
-playing_ages list settled s a t b aired ups downs k g h = record {
-  settled_is = h.settled_is;
-  within = h.within;
-  never_none = h.never_none;
-  stands = stand_ages list s a t b aired ups downs k g h.stands;
-}
+module _ (list : List Item) (settled : ℕ) (s : Bool) (a : Cued) (t : Bool) (b : Cued) (aired : List Item) where
+  playing_ages : (ups : List Answer) (downs : List Phase) (k : ℕ) → Ages s a t b
+      → Playing list settled s a aired ups downs k → Playing list settled t b aired ups downs k
+  playing_ages ups downs k g h = record {
+    settled_is = h.settled_is;
+    within = h.within;
+    never_none = h.never_none;
+    stands = stand_ages list s a t b aired ups downs k g h.stands;
+  }
 
-pub safe_ages : (list : List Item) (settled : ℕ) (s : Bool) (a : Cued) (t : Bool) (b : Cued) (aired : List Item)
-    (downs : List Phase)
-    → Ages s a t b → Safe list settled s a aired downs → Safe list settled t b aired downs
-safe_ages list settled s a t b aired downs g h = record { near = h.near; calm = by h.calm }
-  where
-    cue : LastCue list settled s a aired → LastCue list settled t b aired
-    cue (inl e) = inl (none_ages s a t b g e)
-    cue (inr (is, within, e)) = inr (is, within, item_ages list s a t b settled g e)
+  pub safe_ages : (downs : List Phase) → Ages s a t b → Safe list settled s a aired downs
+      → Safe list settled t b aired downs
+  safe_ages downs g h = record { near = h.near; calm = by h.calm }
+    where
+      cue : LastCue list settled s a aired → LastCue list settled t b aired
+      cue (inl e) = inl (none_ages s a t b g e)
+      cue (inr (is, within, e)) = inr (is, within, item_ages list s a t b settled g e)
 
-    by : (list_any plays downs ≡ false) ⊎ Unarmed list settled s a aired downs
-        → (list_any plays downs ≡ false) ⊎ Unarmed list settled t b aired downs
-    by (inl e) = inl e
-    by (inr u) = inr (record { none_arms = u.none_arms; last = cue u.last })
+      by : (list_any plays downs ≡ false) ⊎ Unarmed list settled s a aired downs
+          → (list_any plays downs ≡ false) ⊎ Unarmed list settled t b aired downs
+      by (inl e) = inl e
+      by (inr u) = inr (record { none_arms = u.none_arms; last = cue u.last })
 
-pub place_ages : (list : List Item) (settled : ℕ) (s : Bool) (a : Cued) (t : Bool) (b : Cued) (aired : List Item)
-    (ups : List Answer) (downs : List Phase)
-    (q : Phase) → Ages s a t b → Place list settled s a aired ups downs q → Place list settled t b aired ups downs q
-place_ages list settled s a t b aired ups downs (phase.Cue k) g h =
-    record { at = h.at; within = h.within; taken = λ e. item_ages list s a t b k g (h.taken e) }
-place_ages list settled s a t b aired ups downs (phase.Wait k) g h = record {
-  at = h.at;
-  within = h.within;
-  has_item = item_ages list s a t b k g h.has_item;
-  shown = λ e. done_ages s a t b g (h.shown e);
-  never_none = h.never_none;
-}
-place_ages list settled s a t b aired ups downs (phase.Play k) g h =
-    playing_ages list settled s a t b aired ups downs k g h
-place_ages list settled s a t b aired ups downs (phase.Probe k) g h =
-    playing_ages list settled s a t b aired ups downs k g h
-place_ages list settled s a t b aired ups downs (phase.Check k) g h =
-    record { at = h.at; within = h.within; has_none = none_ages s a t b g h.has_none }
-place_ages list settled s a t b aired ups downs phase.Halt g h = safe_ages list settled s a t b aired downs g h
-place_ages list settled s a t b aired ups downs phase.HaltClose g h = safe_ages list settled s a t b aired downs g h
-place_ages list settled s a t b aired ups downs _ g h = h
+  pub place_ages : (ups : List Answer) (downs : List Phase) (q : Phase) → Ages s a t b
+      → Place list settled s a aired ups downs q → Place list settled t b aired ups downs q
+  place_ages ups downs (phase.Cue k) g h =
+      record { at = h.at; within = h.within; taken = λ e. item_ages list s a t b k g (h.taken e) }
+  place_ages ups downs (phase.Wait k) g h = record {
+    at = h.at;
+    within = h.within;
+    has_item = item_ages list s a t b k g h.has_item;
+    shown = λ e. done_ages s a t b g (h.shown e);
+    never_none = h.never_none;
+  }
+  place_ages ups downs (phase.Play k) g h = playing_ages ups downs k g h
+  place_ages ups downs (phase.Probe k) g h = playing_ages ups downs k g h
+  place_ages ups downs (phase.Check k) g h =
+      record { at = h.at; within = h.within; has_none = none_ages s a t b g h.has_none }
+  place_ages ups downs phase.Halt g h = safe_ages downs g h
+  place_ages ups downs phase.HaltClose g h = safe_ages downs g h
+  place_ages ups downs _ g h = h

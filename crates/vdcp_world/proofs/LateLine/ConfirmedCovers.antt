@@ -25,41 +25,40 @@ use Rattle.vdcp_world.proofs.LateLine.Held.{Holds, LeadsBy, Tended}
 use Rattle.vdcp_world.proofs.LateLine.Places.{Answer, At}
 use Rattle.vdcp_world.proofs.LateLine.PlainCovers.{either}
 
--- in which phases how many events are aired and settled
-at_in : (list : List Item) (settled : ℕ) (s : Bool) (a : Cued) (aired : List Item) (ups : List Answer)
-    (downs : List Phase) (q : Phase) → is_exact_in q ≡ true → Spot list settled s a aired ups downs q
-    → (n : ℕ) × At list aired settled n
-at_in list settled s a aired ups downs phase.Open e h = (0, h.0)
-at_in list settled s a aired ups downs phase.Select e h = (0, h.0)
-at_in list settled s a aired ups downs phase.Seen e h = (0, h.0)
-at_in list settled s a aired ups downs (phase.Exists k) e h = (k, h.0.0)
-at_in list settled s a aired ups downs (phase.Cue k) e h = (k, h.at)
-at_in list settled s a aired ups downs (phase.Wait k) e h = (k, h.at)
-at_in list settled s a aired ups downs (phase.Check k) e h = (k + 1, h.0.0)
-at_in list settled s a aired ups downs phase.Drain e h = (length list, h)
-at_in list settled s a aired ups downs phase.Close e h = (length list, h)
-at_in list settled s a aired ups downs q e h = cc
+module _ (list : List Item) where
+  -- in which phases how many events are aired and settled
+  at_in : (settled : ℕ) (s : Bool) (a : Cued) (aired : List Item) (ups : List Answer) (downs : List Phase) (q : Phase)
+      → is_exact_in q ≡ true → Spot list settled s a aired ups downs q → (n : ℕ) × At list aired settled n
+  at_in settled s a aired ups downs phase.Open e h = (0, h.0)
+  at_in settled s a aired ups downs phase.Select e h = (0, h.0)
+  at_in settled s a aired ups downs phase.Seen e h = (0, h.0)
+  at_in settled s a aired ups downs (phase.Exists k) e h = (k, h.0.0)
+  at_in settled s a aired ups downs (phase.Cue k) e h = (k, h.at)
+  at_in settled s a aired ups downs (phase.Wait k) e h = (k, h.at)
+  at_in settled s a aired ups downs (phase.Check k) e h = (k + 1, h.0.0)
+  at_in settled s a aired ups downs phase.Drain e h = (length list, h)
+  at_in settled s a aired ups downs phase.Close e h = (length list, h)
+  at_in settled s a aired ups downs q e h = cc
 
-answers : (list : List Item) (clips : List (ClipId × Timecode)) (port limit : ℕ) (s : Bool) (a : Cued)
-    (aired : List Item) (x : Answer) (ups : List Answer) (downs : List Phase) (state : State) (counts : Bool)
-    (q : Phase) (c : Command) → command_in list port q ≡ Some c
-    → is_end Confirming c (Some (heard.Reply x.reply)) ≡ true → (is_refusal x.reply || fits c x.reply) ≡ true
-    → Holds Confirming Spot Secured list clips state.settled s a aired (x ∷ ups) downs (Awaiting q)
-    → LeadsBy Confirming Spot Secured list clips state.settled s a aired (x ∷ ups) downs limit state port counts q
-    (Some x.reply)
-answers list clips port limit s a aired x ups downs state counts q c is ends f h =
-    by (is_refusal x.reply) refl (no_refusal x.reply (no_receipt c x.reply ends))
-  where
-    by : (b : Bool) → is_refusal x.reply ≡ b → b ≡ false → Leads list clips state.settled s a aired (x ∷ ups) downs
-        (if b then on_refusal (length list) q else on_reply Confirming list limit state.take state.tries q x.reply)
-    by true r none = cc
-    by false r none = replied list clips state.settled s a aired x ups downs limit state.tries state.take q
-        (record {
-          no_receipt = no_receipt c x.reply ends;
-          asked = fits_asked list port q c x.reply is (either (is_refusal x.reply) (fits c x.reply) f r);
-          fit = h.fit;
-          true_told = h.true_told;
-        }) h.place
+  answers : (clips : List (ClipId × Timecode)) (port limit : ℕ) (s : Bool) (a : Cued) (aired : List Item) (x : Answer)
+      (ups : List Answer) (downs : List Phase) (state : State) (counts : Bool) (q : Phase) (c : Command)
+      → command_in list port q ≡ Some c → is_end Confirming c (Some (heard.Reply x.reply)) ≡ true
+      → (is_refusal x.reply || fits c x.reply) ≡ true → Holds Confirming Spot Secured list clips state.settled s a aired
+      (x ∷ ups) downs (Awaiting q) → LeadsBy Confirming Spot Secured list clips state.settled s a aired (x ∷ ups) downs
+      limit state port counts q (Some x.reply)
+  answers clips port limit s a aired x ups downs state counts q c is ends f h =
+      by (is_refusal x.reply) refl (no_refusal x.reply (no_receipt c x.reply ends))
+    where
+      by : (b : Bool) → is_refusal x.reply ≡ b → b ≡ false → Leads list clips state.settled s a aired (x ∷ ups) downs
+          (if b then on_refusal (length list) q else on_reply Confirming list limit state.take state.tries q x.reply)
+      by true r none = cc
+      by false r none = replied list clips state.settled s a aired x ups downs limit state.tries state.take q
+          (record {
+            no_receipt = no_receipt c x.reply ends;
+            asked = fits_asked list port q c x.reply is (either (is_refusal x.reply) (fits c x.reply) f r);
+            fit = h.fit;
+            true_told = h.true_told;
+          }) h.place
 
 pub confirming_tended : Tended Confirming Spot Secured
 confirming_tended = record {

@@ -43,23 +43,21 @@ Leads = LeadsIn Confirming Spot Secured
 
 -- ---- silence
 
--- all that aired is settled, since no PLAY is on the way
-over : (list : List Item) (settled : ℕ) (s : Bool) (a : Cued) (aired : List Item) (ups : List Answer)
-    (downs : List Phase) (k : ℕ) (q : Phase) → is_silent q ≡ true
-    → IsPipe Confirming (length list) q (pipe_of ups downs) → At list aired settled k
-    → EndedAt (Secure list settled a aired downs) list settled s a aired downs (Some k)
-over list settled s a aired ups downs k q e c h =
-    silent_end (Secure list settled a aired downs) Confirming list settled s a aired ups downs k q e c h
+module _ (list : List Item) where
+  -- all that aired is settled, since no PLAY is on the way
+  over : (settled : ℕ) (s : Bool) (a : Cued) (aired : List Item) (ups : List Answer) (downs : List Phase) (k : ℕ)
+      (q : Phase) → is_silent q ≡ true → IsPipe Confirming (length list) q (pipe_of ups downs) → At list aired settled k
+      → EndedAt (Secure list settled a aired downs) list settled s a aired downs (Some k)
+  over settled s a aired ups downs k q e c h =
+      silent_end (Secure list settled a aired downs) Confirming list settled s a aired ups downs k q e c h
 
-pub goes_on : (list : List Item) (clips : List (ClipId × Timecode)) (settled : ℕ) (s : Bool) (a : Cued)
-    (aired : List Item)
-    (ups : List Answer) (downs : List Phase)
-    (q : Phase) → Here list settled s a aired ups downs q
-    → Leads list clips settled s a aired ups downs (on_no_answer Confirming q)
-goes_on list clips settled s a aired ups downs phase.Close h =
-    (over list settled s a aired ups downs (length list) phase.Close refl h.1 h.0, tt)
-goes_on list clips settled s a aired ups downs phase.HaltClose h = (h.0, tt)
-goes_on list clips settled s a aired ups downs _ h = h
+  pub goes_on : (clips : List (ClipId × Timecode)) (settled : ℕ) (s : Bool) (a : Cued) (aired : List Item)
+      (ups : List Answer) (downs : List Phase) (q : Phase) → Here list settled s a aired ups downs q
+      → Leads list clips settled s a aired ups downs (on_no_answer Confirming q)
+  goes_on clips settled s a aired ups downs phase.Close h =
+      (over settled s a aired ups downs (length list) phase.Close refl h.1 h.0, tt)
+  goes_on clips settled s a aired ups downs phase.HaltClose h = (h.0, tt)
+  goes_on clips settled s a aired ups downs _ h = h
 
 -- ---- what a reply was sent for
 
@@ -139,61 +137,58 @@ wants list clips x ups q k =
     same_wanted q x.to x.reply (no_refusal x.reply k.no_receipt)
     (not-false (fits_phase x.to x.reply) (or_parts (misfits x) (list_any misfits ups) k.fit).0) k.asked
 
-from_open : (list : List Item) (clips : List (ClipId × Timecode)) (settled : ℕ) (s : Bool) (a : Cued)
-    (aired : List Item) (ups : List Answer) (downs : List Phase)
-    (granted : Bool) → Here list settled s a aired ups downs phase.Open
-    → Leads list clips settled s a aired ups downs (if granted then Goes phase.Select else Ends outcome.Denied)
-from_open list clips settled s a aired ups downs true h = h
-from_open list clips settled s a aired ups downs false h =
-    (over list settled s a aired ups downs 0 phase.Open refl h.1 h.0.0, tt)
-
-from_exists : (list : List Item) (clips : List (ClipId × Timecode)) (settled : ℕ) (s : Bool) (a : Cued)
-    (aired : List Item) (x : Answer) (ups : List Answer)
-    (downs : List Phase) (k : ℕ) → Asked list clips x ups (phase.Exists k)
-    → Here list settled s a aired (x ∷ ups) downs (phase.Exists k)
-    → (b : Bool) → is_present x.reply ≡ b
-    → Leads list clips settled s a aired (x ∷ ups) downs (if b then Goes (phase.Cue k) else Ends (outcome.Missing k))
-from_exists list clips settled s a aired x ups downs k g h b e = by b e
+module _ (list : List Item) (clips : List (ClipId × Timecode)) (settled : ℕ) (s : Bool) (a : Cued) (aired : List Item)
   where
-    is : x.to ≡ phase.Exists k
-    is = exists_passed (length list) k x.to h.0.1 (h.1.0, h.1.1) (wants list clips x ups (phase.Exists k) g)
+    from_open : (ups : List Answer) (downs : List Phase) (granted : Bool)
+        → Here list settled s a aired ups downs phase.Open → Leads list clips settled s a aired ups downs
+        (if granted then Goes phase.Select else Ends outcome.Denied)
+    from_open ups downs true h = h
+    from_open ups downs false h = (over list settled s a aired ups downs 0 phase.Open refl h.1 h.0.0, tt)
 
-    own : Climbs (5 * k + 2) (5 * k + 2) (stretches Confirming (length list) (pipe_of (x ∷ ups) downs))
-    own = all_own Confirming (length list) (5 * k + 1) (5 * k + 2) x ups downs
-        (ap (stretch Confirming (length list)) is) h.1
+    from_exists : (x : Answer) (ups : List Answer) (downs : List Phase) (k : ℕ) → Asked list clips x ups (phase.Exists k)
+        → Here list settled s a aired (x ∷ ups) downs (phase.Exists k) → (b : Bool) → is_present x.reply ≡ b
+        → Leads list clips settled s a aired (x ∷ ups) downs (if b then Goes (phase.Cue k) else Ends (outcome.Missing k))
+    from_exists x ups downs k g h b e = by b e
+      where
+        is : x.to ≡ phase.Exists k
+        is = exists_passed (length list) k x.to h.0.1 (h.1.0, h.1.1) (wants list clips x ups (phase.Exists k) g)
 
-    none : list_any says_done (x ∷ ups) ≡ false
-    none = exists_no_done (length list) k (x ∷ ups) downs h.0.1 g.fit own
+        own : Climbs (5 * k + 2) (5 * k + 2) (stretches Confirming (length list) (pipe_of (x ∷ ups) downs))
+        own = all_own Confirming (length list) (5 * k + 1) (5 * k + 2) x ups downs
+            (ap (stretch Confirming (length list)) is) h.1
 
-    unknown : (p k : Bool) → (is_presence x.reply && differs p k) ≡ false → is_presence x.reply ≡ true → p ≡ false
-        → k ≡ false
-    unknown true k m f e = cc
-    unknown false k m f e = grind arith
+        none : list_any says_done (x ∷ ups) ≡ false
+        none = exists_no_done (length list) k (x ∷ ups) downs h.0.1 g.fit own
 
-    by : (b : Bool) → is_present x.reply ≡ b
-        → Leads list clips settled s a aired (x ∷ ups) downs (if b then Goes (phase.Cue k) else Ends
-        (outcome.Missing k))
-    by true e = (
-      record {
-        at = h.0.0.0;
-        within = h.0.1;
-        owns = inl h.0.0.1;
-        shown = λ t. clash (list_any says_done (x ∷ ups)) t none;
-        full = full_none (x ∷ ups) none;
-      },
-      climbs_within (5 * k + 2) (5 * k + 2) (5 * k + 2) (5 * k + 4)
-          (stretches Confirming (length list) (pipe_of (x ∷ ups) downs)) (omega arith) (omega arith) own,
-    )
-    by false e = (
-      over list settled s a aired (x ∷ ups) downs k (phase.Exists k) refl h.1 h.0.0.0,
-      (
-        h.0.1,
-        unknown (is_present x.reply) (knows clips (slice_get list k))
-            (subst (λ (p : Phase). misleads_at list clips p x.reply ≡ false) is
-            (or_parts (misleads list clips x) (list_any (misleads list clips) ups) g.true_told).0)
-            g.asked e,
-      ),
-    )
+        unknown : (p k : Bool) → (is_presence x.reply && differs p k) ≡ false → is_presence x.reply ≡ true → p ≡ false
+            → k ≡ false
+        unknown true k m f e = cc
+        unknown false k m f e = grind arith
+
+        by : (b : Bool) → is_present x.reply ≡ b
+            → Leads list clips settled s a aired (x ∷ ups) downs (if b then Goes (phase.Cue k) else Ends
+            (outcome.Missing k))
+        by true e = (
+          record {
+            at = h.0.0.0;
+            within = h.0.1;
+            owns = inl h.0.0.1;
+            shown = λ t. clash (list_any says_done (x ∷ ups)) t none;
+            full = full_none (x ∷ ups) none;
+          },
+          climbs_within (5 * k + 2) (5 * k + 2) (5 * k + 2) (5 * k + 4)
+              (stretches Confirming (length list) (pipe_of (x ∷ ups) downs)) (omega arith) (omega arith) own,
+        )
+        by false e = (
+          over list settled s a aired (x ∷ ups) downs k (phase.Exists k) refl h.1 h.0.0.0,
+          (
+            h.0.1,
+            unknown (is_present x.reply) (knows clips (slice_get list k))
+                (subst (λ (p : Phase). misleads_at list clips p x.reply ≡ false) is
+                (or_parts (misleads list clips x) (list_any (misleads list clips) ups) g.true_told).0)
+                g.asked e,
+          ),
+        )
 
 -- a state doesn't show both
 done_not_empty : (r : Reply) → is_done r ≡ true → is_empty r ≡ false
@@ -210,125 +205,116 @@ none_shows (x ∷ ups) e =
     (or_parts (says_empty x) (list_any says_empty ups) e).0)
     (none_shows ups (or_parts (says_empty x) (list_any says_empty ups) e).1)
 
-lost_cue : (list : List Item) (clips : List (ClipId × Timecode)) (settled : ℕ) (s : Bool) (a : Cued) (aired : List Item)
-    (ups : List Answer) (downs : List Phase)
-    (k : ℕ) (again : Bool) → Here list settled s a aired ups downs (phase.Wait k)
-    → Leads list clips settled s a aired ups downs (if again then Retries k else Ends (outcome.Refused k))
-lost_cue list clips settled s a aired ups downs k true h = h
-lost_cue list clips settled s a aired ups downs k false h =
-    (over list settled s a aired ups downs k (phase.Wait k) refl h.1 h.0.at, tt)
-
-from_wait : (list : List Item) (clips : List (ClipId × Timecode)) (settled : ℕ) (s : Bool) (a : Cued)
-    (aired : List Item) (x : Answer) (ups : List Answer)
-    (downs : List Phase) (k limit tries : ℕ) (wish : Bool) → Asked list clips x ups (phase.Wait k)
-    → Here list settled s a aired (x ∷ ups) downs (phase.Wait k)
-    → Leads list clips settled s a aired (x ∷ ups) downs (on_reply Confirming list limit wish tries
-    (phase.Wait k) x.reply)
-from_wait list clips settled s a aired x ups downs k limit tries wish g h =
-    by (is_done x.reply) (not (is_playing x.reply) || wish) (is_empty x.reply) refl
+module _ (list : List Item) (clips : List (ClipId × Timecode)) (settled : ℕ) (s : Bool) (a : Cued) (aired : List Item)
   where
-    own : Climbs (5 * k + 4) (5 * k + 4) (stretches Confirming (length list) (pipe_of (x ∷ ups) downs))
-    own = all_own Confirming (length list) (5 * k + 2) (5 * k + 4) x ups downs
-        (ap (stretch Confirming (length list)) (wait_passed (length list) k x.to h.0.within (h.1.0, h.1.1)
-        (wants list clips x ups (phase.Wait k) g))) h.1
+    lost_cue : (ups : List Answer) (downs : List Phase) (k : ℕ) (again : Bool)
+        → Here list settled s a aired ups downs (phase.Wait k) → Leads list clips settled s a aired ups downs
+        (if again then Retries k else Ends (outcome.Refused k))
+    lost_cue ups downs k true h = h
+    lost_cue ups downs k false h = (over list settled s a aired ups downs k (phase.Wait k) refl h.1 h.0.at, tt)
 
-    playing : is_done x.reply ≡ true → Leads list clips settled s a aired (x ∷ ups) downs (Goes (phase.Play k))
-    playing e =
-        let none : list_any says_empty (x ∷ ups) ≡ false =
-        or_from (says_empty x) (list_any says_empty ups) (done_not_empty x.reply e) (h.0.full.0 e) in (
-          record {
-            settled_is = h.0.at.settled_is;
-            within = h.0.within;
-            never_none = none_shows (x ∷ ups) none;
-            stands = inl (record {
-              aired_is = h.0.at.aired_is;
-              owns = h.0.owns;
-              has_item = h.0.shown (or_left (is_done x.reply) (list_any says_done ups) e);
-              no_empty = none;
-            });
-          },
-          climbs_within (5 * k + 4) (5 * k + 4) (5 * k + 4) (5 * k + 5)
+    from_wait : (x : Answer) (ups : List Answer) (downs : List Phase) (k limit tries : ℕ) (wish : Bool)
+        → Asked list clips x ups (phase.Wait k) → Here list settled s a aired (x ∷ ups) downs (phase.Wait k)
+        → Leads list clips settled s a aired (x ∷ ups) downs (on_reply Confirming list limit wish tries (phase.Wait k)
+        x.reply)
+    from_wait x ups downs k limit tries wish g h =
+        by (is_done x.reply) (not (is_playing x.reply) || wish) (is_empty x.reply) refl
+      where
+        own : Climbs (5 * k + 4) (5 * k + 4) (stretches Confirming (length list) (pipe_of (x ∷ ups) downs))
+        own = all_own Confirming (length list) (5 * k + 2) (5 * k + 4) x ups downs
+            (ap (stretch Confirming (length list)) (wait_passed (length list) k x.to h.0.within (h.1.0, h.1.1)
+            (wants list clips x ups (phase.Wait k) g))) h.1
+
+        playing : is_done x.reply ≡ true → Leads list clips settled s a aired (x ∷ ups) downs (Goes (phase.Play k))
+        playing e =
+            let none : list_any says_empty (x ∷ ups) ≡ false =
+            or_from (says_empty x) (list_any says_empty ups) (done_not_empty x.reply e) (h.0.full.0 e) in (
+              record {
+                settled_is = h.0.at.settled_is;
+                within = h.0.within;
+                never_none = none_shows (x ∷ ups) none;
+                stands = inl (record {
+                  aired_is = h.0.at.aired_is;
+                  owns = h.0.owns;
+                  has_item = h.0.shown (or_left (is_done x.reply) (list_any says_done ups) e);
+                  no_empty = none;
+                });
+              },
+              climbs_within (5 * k + 4) (5 * k + 4) (5 * k + 4) (5 * k + 5)
+                  (stretches Confirming (length list) (pipe_of (x ∷ ups) downs)) (omega arith) (omega arith)
+                  own,
+            )
+
+        by : (done may none : Bool) → is_done x.reply ≡ done
+            → Leads list clips settled s a aired (x ∷ ups) downs
+            (if done && may then Goes (phase.Play k) else (if none then on_lost_cue Confirming limit tries k else Goes
+            (phase.Wait k)))
+        by true true none e = playing e
+        by true false true e = lost_cue (x ∷ ups) downs k (nat_lt (tries + 1) limit) h
+        by true false false e = h
+        by false may true e = lost_cue (x ∷ ups) downs k (nat_lt (tries + 1) limit) h
+        by false may false e = h
+
+    from_probe : (x : Answer) (ups : List Answer) (downs : List Phase) (k : ℕ) → Asked list clips x ups (phase.Probe k)
+        → Here list settled s a aired (x ∷ ups) downs (phase.Probe k) → (done none : Bool) → is_empty x.reply ≡ none
+        → Leads list clips settled s a aired (x ∷ ups) downs (if done then Goes (phase.Play k) else (if none then Settles
+        k else Goes (phase.Probe k)))
+    from_probe x ups downs k g h true none e = h
+    from_probe x ups downs k g h false false e = h
+    from_probe x ups downs k g h false true e = by h.0.stands which
+      where
+        which : (x.to ≡ phase.Wait k) ⊎ (x.to ≡ phase.Probe k)
+        which = probe_passed (length list) k x.to h.0.within (h.1.0, h.1.1) (wants list clips x ups (phase.Probe k) g)
+
+        shows : (q : Phase) → q ≡ phase.Wait k → (waits q && is_empty x.reply) ≡ true
+        shows q is = ap (λ (p : Phase). waits p && is_empty x.reply) is ∙ e
+
+        by : ToSound list s a aired (x ∷ ups) k ⊎ Sounded list a aired downs k
+            → (x.to ≡ phase.Wait k) ⊎ (x.to ≡ phase.Probe k)
+            → Leads list clips settled s a aired (x ∷ ups) downs (Settles k)
+        by (inl q) w = clash (is_empty x.reply) e (or_parts (is_empty x.reply) (list_any says_empty ups) q.no_empty).0
+        by (inr q) (inl is) =
+            clash (shows_no_cue x) (shows x.to is) (or_parts (shows_no_cue x) (list_any shows_no_cue ups)
+            h.0.never_none).0
+        by (inr q) (inr is) = (
+          (
+            (record { aired_is = q.aired_is; within = omega (arith, h.0.within); settled_is = refl }, q.is_empty),
+            h.0.within,
+          ),
+          climbs_within (5 * k + 5) (5 * k + 5) (5 * k + 5) (5 * k + 6)
               (stretches Confirming (length list) (pipe_of (x ∷ ups) downs)) (omega arith) (omega arith)
-              own,
+              (all_own Confirming (length list) (5 * k + 4) (5 * k + 5) x ups downs
+              (ap (stretch Confirming (length list)) is) h.1),
         )
 
-    by : (done may none : Bool) → is_done x.reply ≡ done
-        → Leads list clips settled s a aired (x ∷ ups) downs
-        (if done && may then Goes (phase.Play k) else (if none then on_lost_cue Confirming limit tries k else Goes
-        (phase.Wait k)))
-    by true true none e = playing e
-    by true false true e = lost_cue list clips settled s a aired (x ∷ ups) downs k (nat_lt (tries + 1) limit) h
-    by true false false e = h
-    by false may true e = lost_cue list clips settled s a aired (x ∷ ups) downs k (nat_lt (tries + 1) limit) h
-    by false may false e = h
-
-from_probe : (list : List Item) (clips : List (ClipId × Timecode)) (settled : ℕ) (s : Bool) (a : Cued)
-    (aired : List Item) (x : Answer) (ups : List Answer)
-    (downs : List Phase) (k : ℕ) → Asked list clips x ups (phase.Probe k)
-    → Here list settled s a aired (x ∷ ups) downs (phase.Probe k)
-    → (done none : Bool) → is_empty x.reply ≡ none
-    → Leads list clips settled s a aired (x ∷ ups) downs (if done then Goes (phase.Play k) else
-    (if none then Settles k else Goes (phase.Probe k)))
-from_probe list clips settled s a aired x ups downs k g h true none e = h
-from_probe list clips settled s a aired x ups downs k g h false false e = h
-from_probe list clips settled s a aired x ups downs k g h false true e = by h.0.stands which
-  where
-    which : (x.to ≡ phase.Wait k) ⊎ (x.to ≡ phase.Probe k)
-    which = probe_passed (length list) k x.to h.0.within (h.1.0, h.1.1) (wants list clips x ups (phase.Probe k) g)
-
-    shows : (q : Phase) → q ≡ phase.Wait k → (waits q && is_empty x.reply) ≡ true
-    shows q is = ap (λ (p : Phase). waits p && is_empty x.reply) is ∙ e
-
-    by : ToSound list s a aired (x ∷ ups) k ⊎ Sounded list a aired downs k
-        → (x.to ≡ phase.Wait k) ⊎ (x.to ≡ phase.Probe k)
-        → Leads list clips settled s a aired (x ∷ ups) downs (Settles k)
-    by (inl q) w = clash (is_empty x.reply) e (or_parts (is_empty x.reply) (list_any says_empty ups) q.no_empty).0
-    by (inr q) (inl is) =
-        clash (shows_no_cue x) (shows x.to is) (or_parts (shows_no_cue x) (list_any shows_no_cue ups) h.0.never_none).0
-    by (inr q) (inr is) = (
-      (
-        (record { aired_is = q.aired_is; within = omega (arith, h.0.within); settled_is = refl }, q.is_empty),
-        h.0.within,
-      ),
-      climbs_within (5 * k + 5) (5 * k + 5) (5 * k + 5) (5 * k + 6)
-          (stretches Confirming (length list) (pipe_of (x ∷ ups) downs)) (omega arith) (omega arith)
-          (all_own Confirming (length list) (5 * k + 4) (5 * k + 5) x ups downs
-          (ap (stretch Confirming (length list)) is) h.1),
+    from_check : (x : Answer) (ups : List Answer) (downs : List Phase) (k : ℕ) (other : Bool)
+        → Asked list clips x ups (phase.Check k) → Here list settled s a aired (x ∷ ups) downs (phase.Check k)
+        → Leads list clips settled s a aired (x ∷ ups) downs (if other then Ends (outcome.Foreign k) else Goes
+        (next list (k + 1)))
+    from_check x ups downs k true g h = (
+      settles_at (Secure list settled a aired downs) list settled s a aired downs (k + 1) h.0.0.0
+          (inr (λ _. h.0.0.1, none_arms_in Confirming (length list) k (x ∷ ups) downs h.1)),
+      tt,
     )
+    from_check x ups downs k false g h =
+        next_spot list clips settled s a aired (x ∷ ups) downs (k + 1) h.0.0 (climbs_within (5 * k + 6) (5 * k + 6)
+        (5 * (k + 1) + 1) (5 * (k + 1) + 1) (stretches Confirming (length list) (pipe_of (x ∷ ups) downs)) (omega arith)
+        (omega arith) (all_own Confirming (length list) (5 * k + 5) (5 * k + 6) x ups downs
+        (ap (stretch Confirming (length list)) (check_passed (length list) k x.to h.0.1 (h.1.0, h.1.1)
+        (wants list clips x ups (phase.Check k) g))) h.1))
 
-from_check : (list : List Item) (clips : List (ClipId × Timecode)) (settled : ℕ) (s : Bool) (a : Cued)
-    (aired : List Item) (x : Answer) (ups : List Answer)
-    (downs : List Phase) (k : ℕ) (other : Bool) → Asked list clips x ups (phase.Check k)
-    → Here list settled s a aired (x ∷ ups) downs (phase.Check k)
-    → Leads list clips settled s a aired (x ∷ ups) downs (if other then Ends (outcome.Foreign k) else Goes
-    (next list (k + 1)))
-from_check list clips settled s a aired x ups downs k true g h = (
-  settles_at (Secure list settled a aired downs) list settled s a aired downs (k + 1) h.0.0.0
-      (inr (λ _. h.0.0.1, none_arms_in Confirming (length list) k (x ∷ ups) downs h.1)),
-  tt,
-)
-from_check list clips settled s a aired x ups downs k false g h =
-    next_spot list clips settled s a aired (x ∷ ups) downs (k + 1) h.0.0
-    (climbs_within (5 * k + 6) (5 * k + 6) (5 * (k + 1) + 1) (5 * (k + 1) + 1)
-    (stretches Confirming (length list) (pipe_of (x ∷ ups) downs))
-    (omega arith) (omega arith)
-    (all_own Confirming (length list) (5 * k + 5) (5 * k + 6) x ups downs
-    (ap (stretch Confirming (length list)) (check_passed (length list) k x.to h.0.1 (h.1.0, h.1.1)
-    (wants list clips x ups (phase.Check k) g))) h.1))
-
-from_drain : (list : List Item) (clips : List (ClipId × Timecode)) (settled : ℕ) (s : Bool) (a : Cued)
-    (aired : List Item) (ups : List Answer) (downs : List Phase)
-    (strange playing : Bool) → Here list settled s a aired ups downs phase.Drain
-    → Leads list clips settled s a aired ups downs
-    (if strange then Ends (outcome.Strange (length list)) else (if playing then Goes phase.Drain else Goes phase.Close))
-from_drain list clips settled s a aired ups downs true playing h =
-    (over list settled s a aired ups downs (length list) phase.Drain refl h.1 h.0, tt)
-from_drain list clips settled s a aired ups downs false true h = h
-from_drain list clips settled s a aired ups downs false false h = (
-  h.0,
-  climbs_within (5 * length list + 1) (5 * length list + 2) (5 * length list + 1) (5 * length list + 3)
-      (stretches Confirming (length list) (pipe_of ups downs)) (omega arith) (omega arith) h.1,
-)
+    from_drain : (ups : List Answer) (downs : List Phase) (strange playing : Bool)
+        → Here list settled s a aired ups downs phase.Drain → Leads list clips settled s a aired ups downs
+        (if strange then Ends (outcome.Strange (length list)) else (if playing then Goes phase.Drain else Goes
+        phase.Close))
+    from_drain ups downs true playing h =
+        (over list settled s a aired ups downs (length list) phase.Drain refl h.1 h.0, tt)
+    from_drain ups downs false true h = h
+    from_drain ups downs false false h = (
+      h.0,
+      climbs_within (5 * length list + 1) (5 * length list + 2) (5 * length list + 1) (5 * length list + 3)
+          (stretches Confirming (length list) (pipe_of ups downs)) (omega arith) (omega arith) h.1,
+    )
 
 -- a receipt is no such reply
 ack_receipt : {A : Type 0} → (r : Reply) → is_ack r ≡ true → is_receipt r ≡ false → A

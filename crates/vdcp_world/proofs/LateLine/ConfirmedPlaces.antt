@@ -176,146 +176,135 @@ owns_ages list s a t b k g h = by g.nothing_else h
     by (inr same) (inl none) = inl (g.still_empty none)
     by (inr same) (inr is) = inr (same ∙ is)
 
-trying_ages : (list : List Item) (settled : ℕ) (s : Bool) (a : Cued) (t : Bool) (b : Cued) (aired : List Item)
-    (ups : List Answer) (k : ℕ) → Ages s a t b
-    → Trying list settled s a aired ups k → Trying list settled t b aired ups k
-trying_ages list settled s a t b aired ups k g h = record {
-  at = h.at;
-  within = h.within;
-  owns = owns_ages list s a t b k g h.owns;
-  shown = λ e. item_ages list s a t b k g (h.shown e);
-  full = h.full;
-}
+module _ (list : List Item) (settled : ℕ) (s : Bool) (a : Cued) (t : Bool) (b : Cued) (aired : List Item) where
+  trying_ages : (ups : List Answer) (k : ℕ) → Ages s a t b → Trying list settled s a aired ups k
+      → Trying list settled t b aired ups k
+  trying_ages ups k g h = record {
+    at = h.at;
+    within = h.within;
+    owns = owns_ages list s a t b k g h.owns;
+    shown = λ e. item_ages list s a t b k g (h.shown e);
+    full = h.full;
+  }
 
-sounding_ages : (list : List Item) (settled : ℕ) (s : Bool) (a : Cued) (t : Bool) (b : Cued) (aired : List Item)
-    (ups : List Answer) (downs : List Phase) (k : ℕ)
-    → Ages s a t b → Sounding list settled s a aired ups downs k → Sounding list settled t b aired ups downs k
-sounding_ages list settled s a t b aired ups downs k g h = record {
-  settled_is = h.settled_is;
-  within = h.within;
-  never_none = h.never_none;
-  stands = by h.stands;
-}
-  where
-    by : ToSound list s a aired ups k ⊎ Sounded list a aired downs k
-        → ToSound list t b aired ups k ⊎ Sounded list b aired downs k
-    by (inl q) = inl (record {
-      aired_is = q.aired_is;
-      owns = owns_ages list s a t b k g q.owns;
-      has_item = item_ages list s a t b k g q.has_item;
-      no_empty = q.no_empty;
-    })
-    by (inr q) = inr (record { aired_is = q.aired_is; is_empty = g.still_empty q.is_empty; none_tries = q.none_tries })
+  sounding_ages : (ups : List Answer) (downs : List Phase) (k : ℕ) → Ages s a t b
+      → Sounding list settled s a aired ups downs k → Sounding list settled t b aired ups downs k
+  sounding_ages ups downs k g h = record {
+    settled_is = h.settled_is;
+    within = h.within;
+    never_none = h.never_none;
+    stands = by h.stands;
+  }
+    where
+      by : ToSound list s a aired ups k ⊎ Sounded list a aired downs k
+          → ToSound list t b aired ups k ⊎ Sounded list b aired downs k
+      by (inl q) = inl (record {
+        aired_is = q.aired_is;
+        owns = owns_ages list s a t b k g q.owns;
+        has_item = item_ages list s a t b k g q.has_item;
+        no_empty = q.no_empty;
+      })
+      by (inr q) =
+          inr (record { aired_is = q.aired_is; is_empty = g.still_empty q.is_empty; none_tries = q.none_tries })
 
-pub secure_ages : (list : List Item) (settled : ℕ) (s : Bool) (a : Cued) (t : Bool) (b : Cued) (aired : List Item)
-    (downs : List Phase)
-    → Ages s a t b → Secure list settled a aired downs → Secure list settled b aired downs
-secure_ages list settled s a t b aired downs g h = record { near = h.near; calm = by h.calm }
-  where
-    by : (list_any plays downs ≡ false) ⊎ Spent a downs ⊎ Last list settled a aired downs
-        → (list_any plays downs ≡ false) ⊎ Spent b downs ⊎ Last list settled b aired downs
-    by (inl e) = inl e
-    by (inr (inl q)) = inr (inl (record { is_empty = g.still_empty q.is_empty; none_cues = q.none_cues }))
-    by (inr (inr q)) =
-        inr (inr (record {
-          aired_is = q.aired_is;
-          within = q.within;
-          owns = owns_ages list s a t b settled g q.owns;
-          last = q.last;
-        }))
+  pub secure_ages : (downs : List Phase) → Ages s a t b → Secure list settled a aired downs
+      → Secure list settled b aired downs
+  secure_ages downs g h = record { near = h.near; calm = by h.calm }
+    where
+      by : (list_any plays downs ≡ false) ⊎ Spent a downs ⊎ Last list settled a aired downs
+          → (list_any plays downs ≡ false) ⊎ Spent b downs ⊎ Last list settled b aired downs
+      by (inl e) = inl e
+      by (inr (inl q)) = inr (inl (record { is_empty = g.still_empty q.is_empty; none_cues = q.none_cues }))
+      by (inr (inr q)) =
+          inr (inr (record {
+            aired_is = q.aired_is;
+            within = q.within;
+            owns = owns_ages list s a t b settled g q.owns;
+            last = q.last;
+          }))
 
-pub spot_ages : (list : List Item) (settled : ℕ) (s : Bool) (a : Cued) (t : Bool) (b : Cued) (aired : List Item)
-    (ups : List Answer) (downs : List Phase)
-    (q : Phase) → Ages s a t b → Spot list settled s a aired ups downs q → Spot list settled t b aired ups downs q
-spot_ages list settled s a t b aired ups downs (phase.Exists k) g h = ((h.0.0, g.still_empty h.0.1), h.1)
-spot_ages list settled s a t b aired ups downs (phase.Cue k) g h = trying_ages list settled s a t b aired ups k g h
-spot_ages list settled s a t b aired ups downs (phase.Wait k) g h = trying_ages list settled s a t b aired ups k g h
-spot_ages list settled s a t b aired ups downs (phase.Play k) g h =
-    sounding_ages list settled s a t b aired ups downs k g h
-spot_ages list settled s a t b aired ups downs (phase.Probe k) g h =
-    sounding_ages list settled s a t b aired ups downs k g h
-spot_ages list settled s a t b aired ups downs (phase.Check k) g h = ((h.0.0, g.still_empty h.0.1), h.1)
-spot_ages list settled s a t b aired ups downs phase.Drain g h = h
-spot_ages list settled s a t b aired ups downs phase.Close g h = h
-spot_ages list settled s a t b aired ups downs phase.Halt g h = secure_ages list settled s a t b aired downs g h
-spot_ages list settled s a t b aired ups downs phase.HaltClose g h = secure_ages list settled s a t b aired downs g h
-spot_ages list settled s a t b aired ups downs _ g h = (h.0, g.still_empty h.1)
+  pub spot_ages : (ups : List Answer) (downs : List Phase) (q : Phase) → Ages s a t b
+      → Spot list settled s a aired ups downs q → Spot list settled t b aired ups downs q
+  spot_ages ups downs (phase.Exists k) g h = ((h.0.0, g.still_empty h.0.1), h.1)
+  spot_ages ups downs (phase.Cue k) g h = trying_ages ups k g h
+  spot_ages ups downs (phase.Wait k) g h = trying_ages ups k g h
+  spot_ages ups downs (phase.Play k) g h = sounding_ages ups downs k g h
+  spot_ages ups downs (phase.Probe k) g h = sounding_ages ups downs k g h
+  spot_ages ups downs (phase.Check k) g h = ((h.0.0, g.still_empty h.0.1), h.1)
+  spot_ages ups downs phase.Drain g h = h
+  spot_ages ups downs phase.Close g h = h
+  spot_ages ups downs phase.Halt g h = secure_ages downs g h
+  spot_ages ups downs phase.HaltClose g h = secure_ages downs g h
+  spot_ages ups downs _ g h = (h.0, g.still_empty h.1)
 
 -- ---- something is left out
 
-sounding_thins : (list : List Item) (settled : ℕ) (s : Bool) (a : Cued) (aired : List Item) (ups others : List Answer)
-    (downs left : List Phase) (k : ℕ)
-    → Thins ups others → Thins downs left → Sounding list settled s a aired ups downs k
-    → Sounding list settled s a aired others left k
-sounding_thins list settled s a aired ups others downs left k u d h = record {
-  settled_is = h.settled_is;
-  within = h.within;
-  never_none = none_thins shows_no_cue ups others u h.never_none;
-  stands = by h.stands;
-}
-  where
-    by : ToSound list s a aired ups k ⊎ Sounded list a aired downs k
-        → ToSound list s a aired others k ⊎ Sounded list a aired left k
-    by (inl q) = inl (record {
-      aired_is = q.aired_is;
-      owns = q.owns;
-      has_item = q.has_item;
-      no_empty = none_thins says_empty ups others u q.no_empty;
-    })
-    by (inr q) = inr (record {
-      aired_is = q.aired_is;
-      is_empty = q.is_empty;
-      none_tries = none_thins tries downs left d
-          q.none_tries;
-    })
+module _ (list : List Item) (settled : ℕ) where
+  sounding_thins : (s : Bool) (a : Cued) (aired : List Item) (ups others : List Answer) (downs left : List Phase)
+      (k : ℕ) → Thins ups others → Thins downs left → Sounding list settled s a aired ups downs k
+      → Sounding list settled s a aired others left k
+  sounding_thins s a aired ups others downs left k u d h = record {
+    settled_is = h.settled_is;
+    within = h.within;
+    never_none = none_thins shows_no_cue ups others u h.never_none;
+    stands = by h.stands;
+  }
+    where
+      by : ToSound list s a aired ups k ⊎ Sounded list a aired downs k
+          → ToSound list s a aired others k ⊎ Sounded list a aired left k
+      by (inl q) = inl (record {
+        aired_is = q.aired_is;
+        owns = q.owns;
+        has_item = q.has_item;
+        no_empty = none_thins says_empty ups others u q.no_empty;
+      })
+      by (inr q) = inr (record {
+        aired_is = q.aired_is;
+        is_empty = q.is_empty;
+        none_tries = none_thins tries downs left d
+            q.none_tries;
+      })
 
-trying_thins : (list : List Item) (settled : ℕ) (s : Bool) (a : Cued) (aired : List Item) (ups others : List Answer)
-    (k : ℕ) → Thins ups others
-    → Trying list settled s a aired ups k → Trying list settled s a aired others k
-trying_thins list settled s a aired ups others k u h = record {
-  at = h.at;
-  within = h.within;
-  owns = h.owns;
-  shown = λ e. h.shown (any_thins says_done ups others u e);
-  full = full_thins ups others u h.full;
-}
+  trying_thins : (s : Bool) (a : Cued) (aired : List Item) (ups others : List Answer) (k : ℕ) → Thins ups others
+      → Trying list settled s a aired ups k → Trying list settled s a aired others k
+  trying_thins s a aired ups others k u h = record {
+    at = h.at;
+    within = h.within;
+    owns = h.owns;
+    shown = λ e. h.shown (any_thins says_done ups others u e);
+    full = full_thins ups others u h.full;
+  }
 
-pub secure_thins : (list : List Item) (settled : ℕ) (a : Cued) (aired : List Item) (downs left : List Phase)
-    → Thins downs left
-    → Secure list settled a aired downs → Secure list settled a aired left
-secure_thins list settled a aired downs left d h = record { near = h.near; calm = by h.calm }
-  where
-    by : (list_any plays downs ≡ false) ⊎ Spent a downs ⊎ Last list settled a aired downs
-        → (list_any plays left ≡ false) ⊎ Spent a left ⊎ Last list settled a aired left
-    by (inl e) = inl (none_thins plays downs left d e)
-    by (inr (inl q)) =
-        inr (inl (record { is_empty = q.is_empty; none_cues = none_thins cues downs left d q.none_cues }))
-    by (inr (inr q)) =
-        inr (inr (record {
-          aired_is = q.aired_is;
-          within = q.within;
-          owns = q.owns;
-          last = last_thins settled downs left
-              d q.last;
-        }))
+  pub secure_thins : (a : Cued) (aired : List Item) (downs left : List Phase) → Thins downs left
+      → Secure list settled a aired downs → Secure list settled a aired left
+  secure_thins a aired downs left d h = record { near = h.near; calm = by h.calm }
+    where
+      by : (list_any plays downs ≡ false) ⊎ Spent a downs ⊎ Last list settled a aired downs
+          → (list_any plays left ≡ false) ⊎ Spent a left ⊎ Last list settled a aired left
+      by (inl e) = inl (none_thins plays downs left d e)
+      by (inr (inl q)) =
+          inr (inl (record { is_empty = q.is_empty; none_cues = none_thins cues downs left d q.none_cues }))
+      by (inr (inr q)) =
+          inr (inr (record {
+            aired_is = q.aired_is;
+            within = q.within;
+            owns = q.owns;
+            last = last_thins settled downs left
+                d q.last;
+          }))
 
-pub spot_thins : (list : List Item) (settled : ℕ) (s : Bool) (a : Cued) (aired : List Item) (ups others : List Answer)
-    (downs left : List Phase) (q : Phase)
-    → Thins ups others → Thins downs left → Spot list settled s a aired ups downs q
-    → Spot list settled s a aired others left q
-spot_thins list settled s a aired ups others downs left (phase.Cue k) u d h =
-    trying_thins list settled s a aired ups others k u h
-spot_thins list settled s a aired ups others downs left (phase.Wait k) u d h =
-    trying_thins list settled s a aired ups others k u h
-spot_thins list settled s a aired ups others downs left (phase.Play k) u d h =
-    sounding_thins list settled s a aired ups others downs left k u d h
-spot_thins list settled s a aired ups others downs left (phase.Probe k) u d h =
-    sounding_thins list settled s a aired ups others downs left k u d h
-spot_thins list settled s a aired ups others downs left phase.Halt u d h =
-    secure_thins list settled a aired downs left d h
-spot_thins list settled s a aired ups others downs left phase.HaltClose u d h =
-    secure_thins list settled a aired downs left d h
-spot_thins list settled s a aired ups others downs left _ u d h = h
+  pub spot_thins : (s : Bool) (a : Cued) (aired : List Item) (ups others : List Answer) (downs left : List Phase)
+      (q : Phase) → Thins ups others → Thins downs left → Spot list settled s a aired ups downs q
+      → Spot list settled s a aired others left q
+  spot_thins s a aired ups others downs left (phase.Cue k) u d h = trying_thins s a aired ups others k u h
+  spot_thins s a aired ups others downs left (phase.Wait k) u d h = trying_thins s a aired ups others k u h
+  spot_thins s a aired ups others downs left (phase.Play k) u d h =
+      sounding_thins s a aired ups others downs left k u d h
+  spot_thins s a aired ups others downs left (phase.Probe k) u d h =
+      sounding_thins s a aired ups others downs left k u d h
+  spot_thins s a aired ups others downs left phase.Halt u d h = secure_thins a aired downs left d h
+  spot_thins s a aired ups others downs left phase.HaltClose u d h = secure_thins a aired downs left d h
+  spot_thins s a aired ups others downs left _ u d h = h
 
 -- ---- the oldest command is copied in its place
 
@@ -326,49 +315,49 @@ none_copied test d downs e = by (test d) (list_any test downs) e
     by : (x y : Bool) → (x || y) ≡ false → (x || (x || y)) ≡ false
     by x y e = grind arith
 
-sounding_copied : (list : List Item) (settled : ℕ) (s : Bool) (a : Cued) (aired : List Item) (ups : List Answer)
-    (d : Phase) (downs : List Phase) (k : ℕ)
-    → Sounding list settled s a aired ups (d ∷ downs) k → Sounding list settled s a aired ups (d ∷ d ∷ downs) k
-sounding_copied list settled s a aired ups d downs k h = record {
-  settled_is = h.settled_is;
-  within = h.within;
-  never_none = h.never_none;
-  stands = by h.stands;
-}
-  where
-    by : ToSound list s a aired ups k ⊎ Sounded list a aired (d ∷ downs) k
-        → ToSound list s a aired ups k ⊎ Sounded list a aired (d ∷ d ∷ downs) k
-    by (inl q) = inl q
-    by (inr q) = inr (record {
-      aired_is = q.aired_is;
-      is_empty = q.is_empty;
-      none_tries = none_copied tries d downs
-          q.none_tries;
-    })
+module _ (list : List Item) (settled : ℕ) where
+  sounding_copied : (s : Bool) (a : Cued) (aired : List Item) (ups : List Answer) (d : Phase) (downs : List Phase)
+      (k : ℕ) → Sounding list settled s a aired ups (d ∷ downs) k
+      → Sounding list settled s a aired ups (d ∷ d ∷ downs) k
+  sounding_copied s a aired ups d downs k h = record {
+    settled_is = h.settled_is;
+    within = h.within;
+    never_none = h.never_none;
+    stands = by h.stands;
+  }
+    where
+      by : ToSound list s a aired ups k ⊎ Sounded list a aired (d ∷ downs) k
+          → ToSound list s a aired ups k ⊎ Sounded list a aired (d ∷ d ∷ downs) k
+      by (inl q) = inl q
+      by (inr q) = inr (record {
+        aired_is = q.aired_is;
+        is_empty = q.is_empty;
+        none_tries = none_copied tries d downs
+            q.none_tries;
+      })
 
-pub secure_copied : (list : List Item) (settled : ℕ) (a : Cued) (aired : List Item) (d : Phase) (downs : List Phase)
-    → Secure list settled a aired (d ∷ downs) → Secure list settled a aired (d ∷ d ∷ downs)
-secure_copied list settled a aired d downs h = record { near = h.near; calm = by h.calm }
-  where
-    by : (list_any plays (d ∷ downs) ≡ false) ⊎ Spent a (d ∷ downs) ⊎ Last list settled a aired (d ∷ downs)
-        → (list_any plays (d ∷ d ∷ downs) ≡ false) ⊎ Spent a (d ∷ d ∷ downs) ⊎ Last list settled a aired (d ∷ d ∷ downs)
-    by (inl e) = inl (none_copied plays d downs e)
-    by (inr (inl q)) = inr (inl (record { is_empty = q.is_empty; none_cues = none_copied cues d downs q.none_cues }))
-    by (inr (inr q)) =
-        inr (inr (record {
-          aired_is = q.aired_is;
-          within = q.within;
-          owns = q.owns;
-          last = last_copied settled d downs
-              q.last;
-        }))
+  pub secure_copied : (a : Cued) (aired : List Item) (d : Phase) (downs : List Phase)
+      → Secure list settled a aired (d ∷ downs) → Secure list settled a aired (d ∷ d ∷ downs)
+  secure_copied a aired d downs h = record { near = h.near; calm = by h.calm }
+    where
+      by : (list_any plays (d ∷ downs) ≡ false) ⊎ Spent a (d ∷ downs) ⊎ Last list settled a aired (d ∷ downs)
+          → (list_any plays (d ∷ d ∷ downs) ≡ false) ⊎ Spent a (d ∷ d ∷ downs) ⊎ Last list settled a aired
+          (d ∷ d ∷ downs)
+      by (inl e) = inl (none_copied plays d downs e)
+      by (inr (inl q)) = inr (inl (record { is_empty = q.is_empty; none_cues = none_copied cues d downs q.none_cues }))
+      by (inr (inr q)) =
+          inr (inr (record {
+            aired_is = q.aired_is;
+            within = q.within;
+            owns = q.owns;
+            last = last_copied settled d downs
+                q.last;
+          }))
 
-pub spot_copied : (list : List Item) (settled : ℕ) (s : Bool) (a : Cued) (aired : List Item) (ups : List Answer)
-    (d : Phase) (downs : List Phase) (q : Phase)
-    → Spot list settled s a aired ups (d ∷ downs) q → Spot list settled s a aired ups (d ∷ d ∷ downs) q
-spot_copied list settled s a aired ups d downs (phase.Play k) h = sounding_copied list settled s a aired ups d downs k h
-spot_copied list settled s a aired ups d downs (phase.Probe k) h =
-    sounding_copied list settled s a aired ups d downs k h
-spot_copied list settled s a aired ups d downs phase.Halt h = secure_copied list settled a aired d downs h
-spot_copied list settled s a aired ups d downs phase.HaltClose h = secure_copied list settled a aired d downs h
-spot_copied list settled s a aired ups d downs _ h = h
+  pub spot_copied : (s : Bool) (a : Cued) (aired : List Item) (ups : List Answer) (d : Phase) (downs : List Phase)
+      (q : Phase) → Spot list settled s a aired ups (d ∷ downs) q → Spot list settled s a aired ups (d ∷ d ∷ downs) q
+  spot_copied s a aired ups d downs (phase.Play k) h = sounding_copied s a aired ups d downs k h
+  spot_copied s a aired ups d downs (phase.Probe k) h = sounding_copied s a aired ups d downs k h
+  spot_copied s a aired ups d downs phase.Halt h = secure_copied a aired d downs h
+  spot_copied s a aired ups d downs phase.HaltClose h = secure_copied a aired d downs h
+  spot_copied s a aired ups d downs _ h = h

@@ -47,57 +47,56 @@ cue_free n k low high l h d lies = refl
 
 -- ---- what stays
 
-pub empty_stays : (list : List Item) (d : Phase) (s : Bool) (a : Cued) (r : Reply) (t : Bool) (b : Cued)
-    (airs : List Item)
-    → cues d ≡ false → a ≡ empty → Does list d s a r t b airs → (b ≡ empty) × (airs ≡ [])
-empty_stays list phase.Select s a r t b airs c e h = (h.0 ∙ e, h.1)
-empty_stays list (phase.Cue k) s a r t b airs c e h = cc
-empty_stays list (phase.Wait k) s a r t b airs c e h = (h.0.1 ∙ e, h.0.2)
-empty_stays list (phase.Play k) s a r t b airs c e h = by h.1
-  where
-    by : ((s ≡ false) × (b ≡ a) × (airs ≡ []) × (is_ack r ≡ false)) ⊎
-        ((s ≡ true) × (b ≡ left_cued a) × (airs ≡ put_on_air a)) → (b ≡ empty) × (airs ≡ [])
-    by (inl (off, same, none, no_ack)) = (same ∙ e, none)
-    by (inr (on, left, aired)) = let n = airs_nothing a e in (left ∙ n.1 ∙ e, aired ∙ n.0)
-empty_stays list (phase.Probe k) s a r t b airs c e h = (h.0.1 ∙ e, h.0.2)
-empty_stays list phase.Close s a r t b airs c e h = (by h.2, h.1)
-  where
-    by : (b ≡ empty) ⊎ (b ≡ a) → b ≡ empty
-    by (inl none) = none
-    by (inr same) = same ∙ e
-empty_stays list phase.Halt s a r t b airs c e h = (by h.2, h.1)
-  where
-    by : (b ≡ empty) ⊎ (b ≡ a) → b ≡ empty
-    by (inl none) = none
-    by (inr same) = same ∙ e
-empty_stays list phase.HaltClose s a r t b airs c e h = (by h.2, h.1)
-  where
-    by : (b ≡ empty) ⊎ (b ≡ a) → b ≡ empty
-    by (inl none) = none
-    by (inr same) = same ∙ e
-empty_stays list _ s a r t b airs c e h = (h.1 ∙ e, h.2)
+module _ (list : List Item) where
+  pub empty_stays : (d : Phase) (s : Bool) (a : Cued) (r : Reply) (t : Bool) (b : Cued) (airs : List Item)
+      → cues d ≡ false → a ≡ empty → Does list d s a r t b airs → (b ≡ empty) × (airs ≡ [])
+  empty_stays phase.Select s a r t b airs c e h = (h.0 ∙ e, h.1)
+  empty_stays (phase.Cue k) s a r t b airs c e h = cc
+  empty_stays (phase.Wait k) s a r t b airs c e h = (h.0.1 ∙ e, h.0.2)
+  empty_stays (phase.Play k) s a r t b airs c e h = by h.1
+    where
+      by : ((s ≡ false) × (b ≡ a) × (airs ≡ []) × (is_ack r ≡ false)) ⊎
+          ((s ≡ true) × (b ≡ left_cued a) × (airs ≡ put_on_air a)) → (b ≡ empty) × (airs ≡ [])
+      by (inl (off, same, none, no_ack)) = (same ∙ e, none)
+      by (inr (on, left, aired)) = let n = airs_nothing a e in (left ∙ n.1 ∙ e, aired ∙ n.0)
+  empty_stays (phase.Probe k) s a r t b airs c e h = (h.0.1 ∙ e, h.0.2)
+  empty_stays phase.Close s a r t b airs c e h = (by h.2, h.1)
+    where
+      by : (b ≡ empty) ⊎ (b ≡ a) → b ≡ empty
+      by (inl none) = none
+      by (inr same) = same ∙ e
+  empty_stays phase.Halt s a r t b airs c e h = (by h.2, h.1)
+    where
+      by : (b ≡ empty) ⊎ (b ≡ a) → b ≡ empty
+      by (inl none) = none
+      by (inr same) = same ∙ e
+  empty_stays phase.HaltClose s a r t b airs c e h = (by h.2, h.1)
+    where
+      by : (b ≡ empty) ⊎ (b ≡ a) → b ≡ empty
+      by (inl none) = none
+      by (inr same) = same ∙ e
+  empty_stays _ s a r t b airs c e h = (h.1 ∙ e, h.2)
 
-pub idle_keeps : (list : List Item) (settled : ℕ) (s : Bool) (a : Cued) (aired : List Item) (d : Phase) (k : ℕ)
-    (r : Reply) (t : Bool) (b : Cued) (airs : List Item)
-    → cues d ≡ false → Idle list settled a aired k → Executed list d s a r t b airs
-    → Idle list settled b (aired ++ airs) k
-idle_keeps list settled s a aired d k r t b airs c h x =
-    let after = empty_stays list d s a r t b airs c h.1 x.does in
-    (at_same list aired airs settled k after.1 h.0, after.0)
+  pub idle_keeps : (settled : ℕ) (s : Bool) (a : Cued) (aired : List Item) (d : Phase) (k : ℕ) (r : Reply) (t : Bool)
+      (b : Cued) (airs : List Item) → cues d ≡ false → Idle list settled a aired k → Executed list d s a r t b airs
+      → Idle list settled b (aired ++ airs) k
+  idle_keeps settled s a aired d k r t b airs c h x =
+      let after = empty_stays d s a r t b airs c h.1 x.does in
+      (at_same list aired airs settled k after.1 h.0, after.0)
 
-pub owns_same : (list : List Item) (a b : Cued) (k : ℕ) → b ≡ a → Owns list a k → Owns list b k
-owns_same list a b k e (inl none) = inl (e ∙ none)
-owns_same list a b k e (inr is) = inr (ap cued_item e ∙ is)
+  pub owns_same : (a b : Cued) (k : ℕ) → b ≡ a → Owns list a k → Owns list b k
+  owns_same a b k e (inl none) = inl (e ∙ none)
+  owns_same a b k e (inr is) = inr (ap cued_item e ∙ is)
 
-owns_cue : (list : List Item) (a b : Cued) (k : ℕ) (r : Reply)
-    → ((b ≡ a) × (is_ack r ≡ false)) ⊎ (cued_item b ≡ slice_get list k) → Owns list a k → Owns list b k
-owns_cue list a b k r (inl (same, no_ack)) h = owns_same list a b k same h
-owns_cue list a b k r (inr is) h = inr is
+  owns_cue : (a b : Cued) (k : ℕ) (r : Reply) → ((b ≡ a) × (is_ack r ≡ false)) ⊎ (cued_item b ≡ slice_get list k)
+      → Owns list a k → Owns list b k
+  owns_cue a b k r (inl (same, no_ack)) h = owns_same a b k same h
+  owns_cue a b k r (inr is) h = inr is
 
--- a port of which nothing but the item is cued has it, where the cue is done
-done_has : (list : List Item) (s : Bool) (a : Cued) (k : ℕ) → Owns list a k → is_done_cue a ≡ true → HasItem list s a k
-done_has list s a k (inl none) e = clash (is_done_cue a) e (ap is_done_cue none)
-done_has list s a k (inr is) e = λ _. is
+  -- a port of which nothing but the item is cued has it, where the cue is done
+  done_has : (s : Bool) (a : Cued) (k : ℕ) → Owns list a k → is_done_cue a ≡ true → HasItem list s a k
+  done_has s a k (inl none) e = clash (is_done_cue a) e (ap is_done_cue none)
+  done_has s a k (inr is) e = λ _. is
 
 -- ---- Cue and Wait
 
@@ -197,43 +196,41 @@ tries_not_cues d e = grind arith
 tries_not_waits : (d : Phase) → tries d ≡ false → waits d ≡ false
 tries_not_waits d e = grind arith
 
--- what was aired before stays so, whatever comes
-sounding_after : (list : List Item) (settled : ℕ) (s : Bool) (a : Cued) (aired : List Item) (ups : List Answer)
-    (d : Phase) (downs : List Phase) (k : ℕ) (r : Reply)
-    (t : Bool) (b : Cued) (airs : List Item)
-    → Sounding list settled s a aired ups (d ∷ downs) k → Sounded list a aired (d ∷ downs) k
-    → Executed list d s a r t b airs
-    → Sounding list settled t b (aired ++ airs) (ups ++ record { to = d; reply = r } ∷ []) downs k
-sounding_after list settled s a aired ups d downs k r t b airs h q x =
-    let silent = (or_parts (tries d) (list_any tries downs) q.none_tries).0 in
-    let after = empty_stays list d s a r t b airs (tries_not_cues d silent) q.is_empty x.does in
-    record {
-      settled_is = h.settled_is;
-      within = h.within;
-      never_none = none_pushed shows_no_cue ups (record { to = d; reply = r }) h.never_none
-          (and_left (waits d) (is_empty r) (tries_not_waits d silent));
-      stands = inr (sounded_stays list a aired d downs k b airs after.0 after.1 q);
-    }
+module _ (list : List Item) (settled : ℕ) (s : Bool) (a : Cued) (aired : List Item) where
+  -- what was aired before stays so, whatever comes
+  sounding_after : (ups : List Answer) (d : Phase) (downs : List Phase) (k : ℕ) (r : Reply) (t : Bool) (b : Cued)
+      (airs : List Item) → Sounding list settled s a aired ups (d ∷ downs) k → Sounded list a aired (d ∷ downs) k
+      → Executed list d s a r t b airs → Sounding list settled t b (aired ++ airs) (ups ++ record { to = d; reply = r }
+      ∷ []) downs k
+  sounding_after ups d downs k r t b airs h q x =
+      let silent = (or_parts (tries d) (list_any tries downs) q.none_tries).0 in
+      let after = empty_stays list d s a r t b airs (tries_not_cues d silent) q.is_empty x.does in
+      record {
+        settled_is = h.settled_is;
+        within = h.within;
+        never_none = none_pushed shows_no_cue ups (record { to = d; reply = r }) h.never_none
+            (and_left (waits d) (is_empty r) (tries_not_waits d silent));
+        stands = inr (sounded_stays list a aired d downs k b airs after.0 after.1 q);
+      }
 
--- before the event airs
-sounding_before : (list : List Item) (settled : ℕ) (s : Bool) (a : Cued) (aired : List Item) (ups : List Answer)
-    (d : Phase) (downs : List Phase) (k : ℕ) (r : Reply)
-    (t : Bool) (b : Cued) (airs : List Item)
-    → Sounding list settled s a aired ups (d ∷ downs) k → ToSound list s a aired ups k → airs ≡ [] → is_empty r ≡ false
-    → Owns list b k → HasItem list t b k
-    → Sounding list settled t b (aired ++ airs) (ups ++ record { to = d; reply = r } ∷ []) downs k
-sounding_before list settled s a aired ups d downs k r t b airs h q none full owns has = record {
-  settled_is = h.settled_is;
-  within = h.within;
-  never_none =
-      none_pushed shows_no_cue ups (record { to = d; reply = r }) h.never_none (and_right (waits d) (is_empty r) full);
-  stands = inl (record {
-    aired_is = aired_same aired airs none ∙ q.aired_is;
-    owns = owns;
-    has_item = has;
-    no_empty = none_pushed says_empty ups (record { to = d; reply = r }) q.no_empty full;
-  });
-}
+  -- before the event airs
+  sounding_before : (ups : List Answer) (d : Phase) (downs : List Phase) (k : ℕ) (r : Reply) (t : Bool) (b : Cued)
+      (airs : List Item) → Sounding list settled s a aired ups (d ∷ downs) k → ToSound list s a aired ups k → airs ≡ []
+      → is_empty r ≡ false → Owns list b k → HasItem list t b k
+      → Sounding list settled t b (aired ++ airs) (ups ++ record { to = d; reply = r } ∷ []) downs k
+  sounding_before ups d downs k r t b airs h q none full owns has = record {
+    settled_is = h.settled_is;
+    within = h.within;
+    never_none =
+        none_pushed shows_no_cue ups (record { to = d; reply = r }) h.never_none (and_right (waits d) (is_empty r)
+        full);
+    stands = inl (record {
+      aired_is = aired_same aired airs none ∙ q.aired_is;
+      owns = owns;
+      has_item = has;
+      no_empty = none_pushed says_empty ups (record { to = d; reply = r }) q.no_empty full;
+    });
+  }
 
 sounding_play : (list : List Item) (settled : ℕ) (s : Bool) (a : Cued) (aired : List Item) (ups : List Answer)
     (downs : List Phase) (k : ℕ) (r : Reply)
@@ -359,60 +356,60 @@ last_play list settled a aired j downs b airs (done item) e near q left plays =
       calm = inr (inl (record { is_empty = left; none_cues = q.last.1 refl }));
     }
 
-last_does : (list : List Item) (settled : ℕ) (s : Bool) (a : Cued) (aired : List Item) (d : Phase) (downs : List Phase)
-    (r : Reply) (t : Bool) (b : Cued)
-    (airs : List Item) → Near list aired settled → Last list settled a aired (d ∷ downs) → Does list d s a r t b airs
-    → Secure list settled b (aired ++ airs) downs
-last_does list settled s a aired phase.Select downs r t b airs near q x =
-    last_same list settled a aired phase.Select downs b airs near q x.1 (owns_same list a b settled x.0 q.owns)
-last_does list settled s a aired (phase.Cue k) downs r t b airs near q x =
-    last_same list settled a aired (phase.Cue k) downs b airs near q x.1
-    (owns_cue list a b settled r (subst (λ (j : ℕ). ((b ≡ a) × (is_ack r ≡ false)) ⊎ (cued_item b ≡ slice_get list j))
-    (same_number k settled q.last.0) x.2) q.owns)
-last_does list settled s a aired (phase.Wait k) downs r t b airs near q x =
-    last_same list settled a aired (phase.Wait k) downs b airs near q x.0.2 (owns_same list a b settled x.0.1 q.owns)
-last_does list settled s a aired (phase.Play k) downs r t b airs near q x = by x.1
-  where
-    by : ((s ≡ false) × (b ≡ a) × (airs ≡ []) × (is_ack r ≡ false)) ⊎
-        ((s ≡ true) × (b ≡ left_cued a) × (airs ≡ put_on_air a))
-        → Secure list settled b (aired ++ airs) downs
-    by (inl (off, same, none, no_ack)) =
-        last_same list settled a aired (phase.Play k) downs b airs near q none (owns_same list a b settled same q.owns)
-    by (inr (on, left, plays)) = last_play list settled a aired k downs b airs a refl near q left plays
-last_does list settled s a aired (phase.Probe k) downs r t b airs near q x =
-    last_same list settled a aired (phase.Probe k) downs b airs near q x.0.2 (owns_same list a b settled x.0.1 q.owns)
-last_does list settled s a aired phase.Close downs r t b airs near q x =
-    last_same list settled a aired phase.Close downs b airs near q x.1 (owns_or_none list a b settled x.2 q.owns)
-last_does list settled s a aired phase.Halt downs r t b airs near q x =
-    last_same list settled a aired phase.Halt downs b airs near q x.1 (owns_or_none list a b settled x.2 q.owns)
-last_does list settled s a aired phase.HaltClose downs r t b airs near q x =
-    last_same list settled a aired phase.HaltClose downs b airs near q x.1 (owns_or_none list a b settled x.2 q.owns)
-last_does list settled s a aired o downs r t b airs near q x =
-    last_same list settled a aired o downs b airs near q x.2 (owns_same list a b settled x.1 q.owns)
+module _ (list : List Item) (settled : ℕ) (s : Bool) (a : Cued) (aired : List Item) where
+  last_does : (d : Phase) (downs : List Phase) (r : Reply) (t : Bool) (b : Cued) (airs : List Item)
+      → Near list aired settled → Last list settled a aired (d ∷ downs) → Does list d s a r t b airs
+      → Secure list settled b (aired ++ airs) downs
+  last_does phase.Select downs r t b airs near q x =
+      last_same list settled a aired phase.Select downs b airs near q x.1 (owns_same list a b settled x.0 q.owns)
+  last_does (phase.Cue k) downs r t b airs near q x =
+      last_same list settled a aired (phase.Cue k) downs b airs near q x.1 (owns_cue list a b settled r
+      (subst (λ (j : ℕ). ((b ≡ a) × (is_ack r ≡ false)) ⊎ (cued_item b ≡ slice_get list j)) (same_number k settled
+      q.last.0) x.2) q.owns)
+  last_does (phase.Wait k) downs r t b airs near q x =
+      last_same list settled a aired (phase.Wait k) downs b airs near q x.0.2 (owns_same list a b settled x.0.1 q.owns)
+  last_does (phase.Play k) downs r t b airs near q x = by x.1
+    where
+      by : ((s ≡ false) × (b ≡ a) × (airs ≡ []) × (is_ack r ≡ false)) ⊎
+          ((s ≡ true) × (b ≡ left_cued a) × (airs ≡ put_on_air a))
+          → Secure list settled b (aired ++ airs) downs
+      by (inl (off, same, none, no_ack)) =
+          last_same list settled a aired (phase.Play k) downs b airs near q none (owns_same list a b settled same
+          q.owns)
+      by (inr (on, left, plays)) = last_play list settled a aired k downs b airs a refl near q left plays
+  last_does (phase.Probe k) downs r t b airs near q x =
+      last_same list settled a aired (phase.Probe k) downs b airs near q x.0.2 (owns_same list a b settled x.0.1 q.owns)
+  last_does phase.Close downs r t b airs near q x =
+      last_same list settled a aired phase.Close downs b airs near q x.1 (owns_or_none list a b settled x.2 q.owns)
+  last_does phase.Halt downs r t b airs near q x =
+      last_same list settled a aired phase.Halt downs b airs near q x.1 (owns_or_none list a b settled x.2 q.owns)
+  last_does phase.HaltClose downs r t b airs near q x =
+      last_same list settled a aired phase.HaltClose downs b airs near q x.1 (owns_or_none list a b settled x.2 q.owns)
+  last_does o downs r t b airs near q x =
+      last_same list settled a aired o downs b airs near q x.2 (owns_same list a b settled x.1 q.owns)
 
-pub secure_keeps : (list : List Item) (settled : ℕ) (s : Bool) (a : Cued) (aired : List Item) (d : Phase)
-    (downs : List Phase) (r : Reply) (t : Bool) (b : Cued)
-    (airs : List Item)
-    → Secure list settled a aired (d ∷ downs) → Executed list d s a r t b airs
-    → Secure list settled b (aired ++ airs) downs
-secure_keeps list settled s a aired d downs r t b airs h x = by h.calm
-  where
-    by : (list_any plays (d ∷ downs) ≡ false) ⊎ Spent a (d ∷ downs) ⊎ Last list settled a aired (d ∷ downs)
-        → Secure list settled b (aired ++ airs) downs
-    by (inl none) = record {
-      near = near_same list aired airs settled (airs_none list d s a r t b airs
-          (or_parts (plays d) (list_any plays downs) none).0 x.does) h.near;
-      calm = inl (or_parts (plays d) (list_any plays downs) none).1;
-    }
-    by (inr (inl q)) =
-        let after = empty_stays list d s a r t b airs (or_parts (cues d) (list_any cues downs) q.none_cues).0 q.is_empty
-        x.does in
-        record {
-          near = near_same list aired airs settled after.1 h.near;
-          calm =
-              inr (inl (record {
-                is_empty = after.0;
-                none_cues = (or_parts (cues d) (list_any cues downs) q.none_cues).1;
-              }));
-        }
-    by (inr (inr q)) = last_does list settled s a aired d downs r t b airs h.near q x.does
+  pub secure_keeps : (d : Phase) (downs : List Phase) (r : Reply) (t : Bool) (b : Cued) (airs : List Item)
+      → Secure list settled a aired (d ∷ downs) → Executed list d s a r t b airs
+      → Secure list settled b (aired ++ airs) downs
+  secure_keeps d downs r t b airs h x = by h.calm
+    where
+      by : (list_any plays (d ∷ downs) ≡ false) ⊎ Spent a (d ∷ downs) ⊎ Last list settled a aired (d ∷ downs)
+          → Secure list settled b (aired ++ airs) downs
+      by (inl none) = record {
+        near = near_same list aired airs settled (airs_none list d s a r t b airs
+            (or_parts (plays d) (list_any plays downs) none).0 x.does) h.near;
+        calm = inl (or_parts (plays d) (list_any plays downs) none).1;
+      }
+      by (inr (inl q)) =
+          let after = empty_stays list d s a r t b airs (or_parts (cues d) (list_any cues downs) q.none_cues).0
+          q.is_empty
+          x.does in
+          record {
+            near = near_same list aired airs settled after.1 h.near;
+            calm =
+                inr (inl (record {
+                  is_empty = after.0;
+                  none_cues = (or_parts (cues d) (list_any cues downs) q.none_cues).1;
+                }));
+          }
+      by (inr (inr q)) = last_does d downs r t b airs h.near q x.does

@@ -55,93 +55,89 @@ secure_calm : (list : List Item) (settled : ℕ) (a : Cued) (aired : List Item) 
     → At list aired settled k → list_any plays downs ≡ false → Secure list settled a aired downs
 secure_calm list settled a aired downs k h e = record { near = near_at list aired settled k h; calm = inl e }
 
-secure_sounding : (list : List Item) (settled : ℕ) (s : Bool) (a : Cued) (aired : List Item) (ups : List Answer)
-    (downs : List Phase) (k : ℕ)
-    → Sounding list settled s a aired ups downs k → LastOf k downs → Secure list settled a aired downs
-secure_sounding list settled s a aired ups downs k h l = by h.stands
-  where
-    by : ToSound list s a aired ups k ⊎ Sounded list a aired downs k → Secure list settled a aired downs
-    by (inl q) = record {
-      near = near_of list aired settled k q.aired_is (omega (arith, h.within)) (omega (arith, h.settled_is))
-          (omega (arith, h.settled_is));
-      calm = inr (inr (record {
-        aired_is = q.aired_is ∙ sym (ap (λ (n : ℕ). take n list) h.settled_is);
-        within = omega (arith, h.settled_is, h.within);
-        owns = subst (Owns list a) (sym h.settled_is) q.owns;
-        last = subst (λ (n : ℕ). LastOf n downs) (sym h.settled_is) l;
-      }));
-    }
-    by (inr q) = record {
-      near = near_of list aired settled (k + 1) q.aired_is (omega (arith, h.within)) (omega (arith, h.settled_is))
-          (omega (arith, h.settled_is));
-      calm = inr (inl (record {
-        is_empty = q.is_empty;
-        none_cues = none_weaker tries cues downs tries_not_cues
-            q.none_tries;
-      }));
-    }
+module _ (list : List Item) (settled : ℕ) (s : Bool) (a : Cued) (aired : List Item) (ups : List Answer)
+    (downs : List Phase) where
+  secure_sounding : (k : ℕ) → Sounding list settled s a aired ups downs k → LastOf k downs
+      → Secure list settled a aired downs
+  secure_sounding k h l = by h.stands
+    where
+      by : ToSound list s a aired ups k ⊎ Sounded list a aired downs k → Secure list settled a aired downs
+      by (inl q) = record {
+        near = near_of list aired settled k q.aired_is (omega (arith, h.within)) (omega (arith, h.settled_is))
+            (omega (arith, h.settled_is));
+        calm = inr (inr (record {
+          aired_is = q.aired_is ∙ sym (ap (λ (n : ℕ). take n list) h.settled_is);
+          within = omega (arith, h.settled_is, h.within);
+          owns = subst (Owns list a) (sym h.settled_is) q.owns;
+          last = subst (λ (n : ℕ). LastOf n downs) (sym h.settled_is) l;
+        }));
+      }
+      by (inr q) = record {
+        near = near_of list aired settled (k + 1) q.aired_is (omega (arith, h.within)) (omega (arith, h.settled_is))
+            (omega (arith, h.settled_is));
+        calm = inr (inl (record {
+          is_empty = q.is_empty;
+          none_cues = none_weaker tries cues downs tries_not_cues
+              q.none_tries;
+        }));
+      }
 
-pub secure_in : (list : List Item) (settled : ℕ) (s : Bool) (a : Cued) (aired : List Item) (ups : List Answer)
-    (downs : List Phase) (q : Phase)
-    → Spot list settled s a aired ups downs q → IsPipe Confirming (length list) q (pipe_of ups downs)
-    → Secure list settled a aired downs
-secure_in list settled s a aired ups downs (phase.Exists k) h c =
-    secure_calm list settled a aired downs k h.0.0 (none_plays Confirming (length list) ups downs (phase.Exists k) refl
-    c)
-secure_in list settled s a aired ups downs (phase.Cue k) h c =
-    secure_calm list settled a aired downs k h.at (none_plays Confirming (length list) ups downs (phase.Cue k) refl c)
-secure_in list settled s a aired ups downs (phase.Wait k) h c =
-    secure_calm list settled a aired downs k h.at (none_plays Confirming (length list) ups downs (phase.Wait k) refl c)
-secure_in list settled s a aired ups downs (phase.Play k) h c =
-    secure_sounding list settled s a aired ups downs k h
-    (last_within (length list) k (5 * k + 4) downs (omega arith)
-    (downs_climb Confirming (length list) (5 * k + 4) (5 * k + 5) ups downs c))
-secure_in list settled s a aired ups downs (phase.Probe k) h c =
-    secure_sounding list settled s a aired ups downs k h
-    (last_within (length list) k (5 * k + 4) downs (omega arith)
-    (downs_climb Confirming (length list) (5 * k + 4) (5 * k + 5) ups downs c))
-secure_in list settled s a aired ups downs (phase.Check k) h c = record {
-  near = near_at list aired settled (k + 1) h.0.0;
-  calm = inr (inl (record {
-    is_empty = h.0.1;
-    none_cues = none_within Confirming (length list) (5 * k + 5) (5 * k + 6) cues downs
-        (cue_free (length list) (k + 1) (5 * k + 5) (5 * k + 6) (omega arith) (omega arith))
-        (downs_climb Confirming (length list) (5 * k + 5) (5 * k + 6) ups downs c);
-  }));
-}
-secure_in list settled s a aired ups downs phase.Drain h c =
-    secure_calm list settled a aired downs (length list) h (none_plays Confirming (length list) ups downs phase.Drain
-    refl c)
-secure_in list settled s a aired ups downs phase.Close h c =
-    secure_calm list settled a aired downs (length list) h (none_plays Confirming (length list) ups downs phase.Close
-    refl c)
-secure_in list settled s a aired ups downs phase.Halt h c = h
-secure_in list settled s a aired ups downs phase.HaltClose h c = h
-secure_in list settled s a aired ups downs q h c =
-    secure_calm list settled a aired downs 0 h.0 (none_plays Confirming (length list) ups downs q refl c)
+  pub secure_in : (q : Phase) → Spot list settled s a aired ups downs q
+      → IsPipe Confirming (length list) q (pipe_of ups downs) → Secure list settled a aired downs
+  secure_in (phase.Exists k) h c =
+      secure_calm list settled a aired downs k h.0.0 (none_plays Confirming (length list) ups downs (phase.Exists k)
+      refl c)
+  secure_in (phase.Cue k) h c =
+      secure_calm list settled a aired downs k h.at (none_plays Confirming (length list) ups downs (phase.Cue k) refl c)
+  secure_in (phase.Wait k) h c =
+      secure_calm list settled a aired downs k h.at (none_plays Confirming (length list) ups downs (phase.Wait k) refl
+      c)
+  secure_in (phase.Play k) h c =
+      secure_sounding k h (last_within (length list) k (5 * k + 4) downs (omega arith) (downs_climb Confirming
+      (length list) (5 * k + 4) (5 * k + 5) ups downs c))
+  secure_in (phase.Probe k) h c =
+      secure_sounding k h (last_within (length list) k (5 * k + 4) downs (omega arith) (downs_climb Confirming
+      (length list) (5 * k + 4) (5 * k + 5) ups downs c))
+  secure_in (phase.Check k) h c = record {
+    near = near_at list aired settled (k + 1) h.0.0;
+    calm = inr (inl (record {
+      is_empty = h.0.1;
+      none_cues = none_within Confirming (length list) (5 * k + 5) (5 * k + 6) cues downs
+          (cue_free (length list) (k + 1) (5 * k + 5) (5 * k + 6) (omega arith) (omega arith))
+          (downs_climb Confirming (length list) (5 * k + 5) (5 * k + 6) ups downs c);
+    }));
+  }
+  secure_in phase.Drain h c =
+      secure_calm list settled a aired downs (length list) h (none_plays Confirming (length list) ups downs phase.Drain
+      refl c)
+  secure_in phase.Close h c =
+      secure_calm list settled a aired downs (length list) h (none_plays Confirming (length list) ups downs phase.Close
+      refl c)
+  secure_in phase.Halt h c = h
+  secure_in phase.HaltClose h c = h
+  secure_in q h c =
+      secure_calm list settled a aired downs 0 h.0 (none_plays Confirming (length list) ups downs q refl c)
 
--- ---- the controller sends
+  -- ---- the controller sends
 
-sounding_sends : (list : List Item) (settled : ℕ) (s : Bool) (a : Cued) (aired : List Item) (ups : List Answer)
-    (downs : List Phase) (k : ℕ) (q : Phase)
-    → tries q ≡ false → Sounding list settled s a aired ups downs k
-    → Sounding list settled s a aired ups (downs ++ q ∷ []) k
-sounding_sends list settled s a aired ups downs k q silent h = record {
-  settled_is = h.settled_is;
-  within = h.within;
-  never_none = h.never_none;
-  stands = by h.stands;
-}
-  where
-    by : ToSound list s a aired ups k ⊎ Sounded list a aired downs k
-        → ToSound list s a aired ups k ⊎ Sounded list a aired (downs ++ q ∷ []) k
-    by (inl h) = inl h
-    by (inr h) = inr (record {
-      aired_is = h.aired_is;
-      is_empty = h.is_empty;
-      none_tries = none_sent tries downs q
-          h.none_tries silent;
-    })
+  sounding_sends : (k : ℕ) (q : Phase) → tries q ≡ false → Sounding list settled s a aired ups downs k
+      → Sounding list settled s a aired ups (downs ++ q ∷ []) k
+  sounding_sends k q silent h = record {
+    settled_is = h.settled_is;
+    within = h.within;
+    never_none = h.never_none;
+    stands = by h.stands;
+  }
+    where
+      by : ToSound list s a aired ups k ⊎ Sounded list a aired downs k
+          → ToSound list s a aired ups k ⊎ Sounded list a aired (downs ++ q ∷ []) k
+      by (inl h) = inl h
+      by (inr h) = inr (record {
+        aired_is = h.aired_is;
+        is_empty = h.is_empty;
+        none_tries = none_sent tries downs q
+            h.none_tries silent;
+      })
 
 secure_sends : (list : List Item) (settled : ℕ) (a : Cued) (aired : List Item) (downs : List Phase) (q : Phase)
     → plays q ≡ false → cues q ≡ false → cues_other settled q ≡ false → Secure list settled a aired downs
@@ -163,66 +159,55 @@ secure_sends list settled a aired downs q no_play no_cue no_other h = record { n
               no_cue no_other h.last;
         }))
 
-pub spot_sends : (list : List Item) (settled : ℕ) (s : Bool) (a : Cued) (aired : List Item) (ups : List Answer)
-    (downs : List Phase) (q : Phase) → Spot list settled s a aired ups downs q
-    → Spot list settled s a aired ups (downs ++ q ∷ []) q
-spot_sends list settled s a aired ups downs (phase.Play k) h =
-    sounding_sends list settled s a aired ups downs k (phase.Play k) refl h
-spot_sends list settled s a aired ups downs (phase.Probe k) h =
-    sounding_sends list settled s a aired ups downs k (phase.Probe k) refl h
-spot_sends list settled s a aired ups downs phase.Halt h =
-    secure_sends list settled a aired downs phase.Halt refl refl refl h
-spot_sends list settled s a aired ups downs phase.HaltClose h =
-    secure_sends list settled a aired downs phase.HaltClose refl refl refl h
-spot_sends list settled s a aired ups downs _ h = h
+module _ (list : List Item) (settled : ℕ) (s : Bool) (a : Cued) (aired : List Item) (ups : List Answer) where
+  pub spot_sends : (downs : List Phase) (q : Phase) → Spot list settled s a aired ups downs q
+      → Spot list settled s a aired ups (downs ++ q ∷ []) q
+  spot_sends downs (phase.Play k) h = sounding_sends list settled s a aired ups downs k (phase.Play k) refl h
+  spot_sends downs (phase.Probe k) h = sounding_sends list settled s a aired ups downs k (phase.Probe k) refl h
+  spot_sends downs phase.Halt h = secure_sends list settled a aired downs phase.Halt refl refl refl h
+  spot_sends downs phase.HaltClose h = secure_sends list settled a aired downs phase.HaltClose refl refl refl h
+  spot_sends downs _ h = h
 
--- ---- the port reads the oldest command
+  -- ---- the port reads the oldest command
 
-pub spot_keeps : (list : List Item) (settled : ℕ) (s : Bool) (a : Cued) (aired : List Item) (ups : List Answer)
-    (d : Phase)
-    (downs : List Phase) (q : Phase) (r : Reply)
-    (t : Bool) (b : Cued) (airs : List Item)
-    → Spot list settled s a aired ups (d ∷ downs) q → IsPipe Confirming (length list) q (pipe_of ups (d ∷ downs))
-    → Executed list d s a r t b airs
-    → Spot list settled t b (aired ++ airs) (ups ++ record { to = d; reply = r } ∷ []) downs q
-spot_keeps list settled s a aired ups d downs (phase.Exists k) r t b airs h c x =
-    let l = lies_at Confirming (length list) (5 * k + 1) (5 * k + 2) ups d downs c in (
-      idle_keeps list settled s a aired d k r t b airs (cue_free (length list) k (5 * k + 1) (5 * k + 2) (omega arith)
-          (omega arith) d l) h.0 x,
-      h.1,
-    )
-spot_keeps list settled s a aired ups d downs (phase.Cue k) r t b airs h c x =
-    trying_keeps list settled s a aired ups d k r t b airs h (lies_at Confirming (length list) (5 * k + 2)
-    (5 * k + 4) ups d downs c) x
-spot_keeps list settled s a aired ups d downs (phase.Wait k) r t b airs h c x =
-    trying_keeps list settled s a aired ups d k r t b airs h (lies_at Confirming (length list) (5 * k + 2)
-    (5 * k + 4) ups d downs c) x
-spot_keeps list settled s a aired ups d downs (phase.Play k) r t b airs h c x =
-    sounding_keeps list settled s a aired ups d downs k r t b airs h c
-    (lies_at Confirming (length list) (5 * k + 4) (5 * k + 5) ups d downs c) x
-spot_keeps list settled s a aired ups d downs (phase.Probe k) r t b airs h c x =
-    sounding_keeps list settled s a aired ups d downs k r t b airs h c
-    (lies_at Confirming (length list) (5 * k + 4) (5 * k + 5) ups d downs c) x
-spot_keeps list settled s a aired ups d downs (phase.Check k) r t b airs h c x =
-    let l = lies_at Confirming (length list) (5 * k + 5) (5 * k + 6) ups d downs c in (
-      idle_keeps list settled s a aired d (k + 1) r t b airs (cue_free (length list) (k + 1) (5 * k + 5) (5 * k + 6)
-          (omega arith) (omega arith) d l) h.0 x,
-      h.1,
-    )
-spot_keeps list settled s a aired ups d downs phase.Drain r t b airs h c x =
-    quiet_keeps list settled s a aired d (length list) r t b airs
-    (quiet Confirming (length list) (length list) (5 * length list + 1) (5 * length list + 2) (omega arith)
-    (omega arith) d
-    (lies_at Confirming (length list) (5 * length list + 1) (5 * length list + 2) ups d downs c)) h x
-spot_keeps list settled s a aired ups d downs phase.Close r t b airs h c x =
-    quiet_keeps list settled s a aired d (length list) r t b airs
-    (quiet Confirming (length list) (length list) (5 * length list + 1) (5 * length list + 3) (omega arith)
-    (omega arith) d
-    (lies_at Confirming (length list) (5 * length list + 1) (5 * length list + 3) ups d downs c)) h x
-spot_keeps list settled s a aired ups d downs phase.Halt r t b airs h c x =
-    secure_keeps list settled s a aired d downs r t b airs h x
-spot_keeps list settled s a aired ups d downs phase.HaltClose r t b airs h c x =
-    secure_keeps list settled s a aired d downs r t b airs h x
-spot_keeps list settled s a aired ups d downs _ r t b airs h c x =
-    let l = lies_at Confirming (length list) 1 1 ups d downs c in idle_keeps list settled s a aired d 0 r t b airs
-    (cue_free (length list) 0 1 1 (omega arith) (omega arith) d l) h x
+  pub spot_keeps : (d : Phase) (downs : List Phase) (q : Phase) (r : Reply) (t : Bool) (b : Cued) (airs : List Item)
+      → Spot list settled s a aired ups (d ∷ downs) q → IsPipe Confirming (length list) q (pipe_of ups (d ∷ downs))
+      → Executed list d s a r t b airs → Spot list settled t b (aired ++ airs) (ups ++ record { to = d; reply = r } ∷
+      []) downs q
+  spot_keeps d downs (phase.Exists k) r t b airs h c x =
+      let l = lies_at Confirming (length list) (5 * k + 1) (5 * k + 2) ups d downs c in (
+        idle_keeps list settled s a aired d k r t b airs (cue_free (length list) k (5 * k + 1) (5 * k + 2) (omega arith)
+            (omega arith) d l) h.0 x,
+        h.1,
+      )
+  spot_keeps d downs (phase.Cue k) r t b airs h c x =
+      trying_keeps list settled s a aired ups d k r t b airs h (lies_at Confirming (length list) (5 * k + 2) (5 * k + 4)
+      ups d downs c) x
+  spot_keeps d downs (phase.Wait k) r t b airs h c x =
+      trying_keeps list settled s a aired ups d k r t b airs h (lies_at Confirming (length list) (5 * k + 2) (5 * k + 4)
+      ups d downs c) x
+  spot_keeps d downs (phase.Play k) r t b airs h c x =
+      sounding_keeps list settled s a aired ups d downs k r t b airs h c (lies_at Confirming (length list) (5 * k + 4)
+      (5 * k + 5) ups d downs c) x
+  spot_keeps d downs (phase.Probe k) r t b airs h c x =
+      sounding_keeps list settled s a aired ups d downs k r t b airs h c (lies_at Confirming (length list) (5 * k + 4)
+      (5 * k + 5) ups d downs c) x
+  spot_keeps d downs (phase.Check k) r t b airs h c x =
+      let l = lies_at Confirming (length list) (5 * k + 5) (5 * k + 6) ups d downs c in (
+        idle_keeps list settled s a aired d (k + 1) r t b airs (cue_free (length list) (k + 1) (5 * k + 5) (5 * k + 6)
+            (omega arith) (omega arith) d l) h.0 x,
+        h.1,
+      )
+  spot_keeps d downs phase.Drain r t b airs h c x =
+      quiet_keeps list settled s a aired d (length list) r t b airs (quiet Confirming (length list) (length list)
+      (5 * length list + 1) (5 * length list + 2) (omega arith) (omega arith) d (lies_at Confirming (length list)
+      (5 * length list + 1) (5 * length list + 2) ups d downs c)) h x
+  spot_keeps d downs phase.Close r t b airs h c x =
+      quiet_keeps list settled s a aired d (length list) r t b airs (quiet Confirming (length list) (length list)
+      (5 * length list + 1) (5 * length list + 3) (omega arith) (omega arith) d (lies_at Confirming (length list)
+      (5 * length list + 1) (5 * length list + 3) ups d downs c)) h x
+  spot_keeps d downs phase.Halt r t b airs h c x = secure_keeps list settled s a aired d downs r t b airs h x
+  spot_keeps d downs phase.HaltClose r t b airs h c x = secure_keeps list settled s a aired d downs r t b airs h x
+  spot_keeps d downs _ r t b airs h c x =
+      let l = lies_at Confirming (length list) 1 1 ups d downs c in idle_keeps list settled s a aired d 0 r t b airs
+      (cue_free (length list) 0 1 1 (omega arith) (omega arith) d l) h x

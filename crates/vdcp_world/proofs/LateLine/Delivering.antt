@@ -42,14 +42,13 @@ none_same s t a b st ba h = λ e. ba ∙ h (st e)
 pub no_more : (s t : Bool) → t ≡ s → t ≡ true → s ≡ true
 no_more s t e h = sym e ∙ h
 
--- an answer more passes a test, or one before it did
-pub pushed : (test : Answer → Bool) (ups : List Answer) (a : Answer) → list_any test (ups ++ a ∷ []) ≡ true
-    → (list_any test ups ≡ true) ⊎ (test a ≡ true)
-pushed test ups a e = or_cases (list_any test ups) (test a) (sym (any_push test ups a) ∙ e)
+module _ (test : Answer → Bool) (ups : List Answer) where
+  -- an answer more passes a test, or one before it did
+  pub pushed : (a : Answer) → list_any test (ups ++ a ∷ []) ≡ true → (list_any test ups ≡ true) ⊎ (test a ≡ true)
+  pushed a e = or_cases (list_any test ups) (test a) (sym (any_push test ups a) ∙ e)
 
-pub none_pushed : (test : Answer → Bool) (ups : List Answer) (a : Answer) → list_any test ups ≡ false → test a ≡ false
-    → list_any test (ups ++ a ∷ []) ≡ false
-none_pushed test ups a e f = any_push test ups a ∙ or_from (list_any test ups) (test a) e f
+  pub none_pushed : (a : Answer) → list_any test ups ≡ false → test a ≡ false → list_any test (ups ++ a ∷ []) ≡ false
+  none_pushed a e f = any_push test ups a ∙ or_from (list_any test ups) (test a) e f
 
 impossible : true ≡ false → ⊥
 impossible e = cc
@@ -81,28 +80,27 @@ airs_none list _ s a r t b airs p h = h.2
 pub presence_fits : (r : Reply) → (is_refusal r || is_presence r) ≡ true → is_ack r ≡ false
 presence_fits r e = grind arith
 
-cueing_pushed : (list : List Item) (settled : ℕ) (s : Bool) (a : Cued) (aired : List Item) (ups : List Answer) (k : ℕ)
-    (d : Phase) (r : Reply) (t : Bool)
-    (b : Cued) (airs : List Item)
-    → Cueing list settled s a aired ups k → airs ≡ []
-    → (HasItem list s a k → HasItem list t b k) → (is_ack r ≡ true → HasItem list t b k)
-    → Cueing list settled t b (aired ++ airs) (ups ++ record { to = d; reply = r } ∷ []) k
-cueing_pushed list settled s a aired ups k d r t b airs h none still now = record {
-  at = at_same list aired airs settled k none h.at;
-  within = h.within;
-  taken = λ e. by (pushed says_ack ups (record { to = d; reply = r }) e);
-}
-  where
-    by : (list_any says_ack ups ≡ true) ⊎ (is_ack r ≡ true) → HasItem list t b k
-    by (inl e) = still (h.taken e)
-    by (inr e) = now e
+module _ (list : List Item) where
+  cueing_pushed : (settled : ℕ) (s : Bool) (a : Cued) (aired : List Item) (ups : List Answer) (k : ℕ) (d : Phase)
+      (r : Reply) (t : Bool) (b : Cued) (airs : List Item) → Cueing list settled s a aired ups k → airs ≡ []
+      → (HasItem list s a k → HasItem list t b k) → (is_ack r ≡ true → HasItem list t b k)
+      → Cueing list settled t b (aired ++ airs) (ups ++ record { to = d; reply = r } ∷ []) k
+  cueing_pushed settled s a aired ups k d r t b airs h none still now = record {
+    at = at_same list aired airs settled k none h.at;
+    within = h.within;
+    taken = λ e. by (pushed says_ack ups (record { to = d; reply = r }) e);
+  }
+    where
+      by : (list_any says_ack ups ≡ true) ⊎ (is_ack r ≡ true) → HasItem list t b k
+      by (inl e) = still (h.taken e)
+      by (inr e) = now e
 
-pub cueing_cue : (list : List Item) (s : Bool) (a : Cued) (k : ℕ) (r : Reply) (t : Bool) (b : Cued) → t ≡ s
-    → ((b ≡ a) × (is_ack r ≡ false)) ⊎ (cued_item b ≡ slice_get list k)
-    → (HasItem list s a k → HasItem list t b k) × (is_ack r ≡ true → HasItem list t b k)
-cueing_cue list s a k r t b st (inl (same, no_ack)) =
-    (λ h. item_same list s t a b k (no_more s t st) same h, λ e. clash (is_ack r) e no_ack)
-cueing_cue list s a k r t b st (inr is) = (λ h e. is, λ _ e. is)
+  pub cueing_cue : (s : Bool) (a : Cued) (k : ℕ) (r : Reply) (t : Bool) (b : Cued) → t ≡ s
+      → ((b ≡ a) × (is_ack r ≡ false)) ⊎ (cued_item b ≡ slice_get list k)
+      → (HasItem list s a k → HasItem list t b k) × (is_ack r ≡ true → HasItem list t b k)
+  cueing_cue s a k r t b st (inl (same, no_ack)) =
+      (λ h. item_same list s t a b k (no_more s t st) same h, λ e. clash (is_ack r) e no_ack)
+  cueing_cue s a k r t b st (inr is) = (λ h e. is, λ _ e. is)
 
 pub cueing_keeps : (list : List Item) (settled : ℕ) (s : Bool) (a : Cued) (aired : List Item) (ups : List Answer)
     (k : ℕ) (d : Phase) (r : Reply) (t : Bool)
@@ -147,57 +145,56 @@ never_empty list s a k r below h shows = by (is_empty r) refl
     by true e = absurd (no_item list k below (sym (h (shows.is_selected e)) ∙ none_cued a (shows.shows_empty e)))
     by false e = e
 
-waiting_wait : (list : List Item) (settled : ℕ) (s : Bool) (a : Cued) (aired : List Item) (ups : List Answer) (k : ℕ)
-    (r : Reply) (t : Bool) (b : Cued)
-    (airs : List Item)
-    → Waiting list settled s a aired ups k → Executed list (phase.Wait k) s a r t b airs
-    → Waiting list settled t b (aired ++ airs) (ups ++ record { to = phase.Wait k; reply = r } ∷ []) k
-waiting_wait list settled s a aired ups k r t b airs h x = record {
-  at = at_same list aired airs settled k x.does.0.2 h.at;
-  within = h.within;
-  has_item = item_same list s t a b k (no_more s t x.does.0.0) x.does.0.1 h.has_item;
-  shown = λ e. done_same s t a b (no_more s t x.does.0.0) x.does.0.1
-      (by (pushed says_done ups (record { to = phase.Wait k; reply = r }) e));
-  never_none = none_pushed shows_no_cue ups (record { to = phase.Wait k; reply = r }) h.never_none
-      (never_empty list s a k r h.within h.has_item x.does.1);
-}
-  where
-    by : (list_any says_done ups ≡ true) ⊎ (is_done r ≡ true) → HasDone s a
-    by (inl e) = h.shown e
-    by (inr e) = λ _. x.does.1.shows_done e
+module _ (list : List Item) where
+  waiting_wait : (settled : ℕ) (s : Bool) (a : Cued) (aired : List Item) (ups : List Answer) (k : ℕ) (r : Reply)
+      (t : Bool) (b : Cued) (airs : List Item) → Waiting list settled s a aired ups k
+      → Executed list (phase.Wait k) s a r t b airs → Waiting list settled t b (aired ++ airs)
+      (ups ++ record { to = phase.Wait k; reply = r } ∷ []) k
+  waiting_wait settled s a aired ups k r t b airs h x = record {
+    at = at_same list aired airs settled k x.does.0.2 h.at;
+    within = h.within;
+    has_item = item_same list s t a b k (no_more s t x.does.0.0) x.does.0.1 h.has_item;
+    shown = λ e. done_same s t a b (no_more s t x.does.0.0) x.does.0.1
+        (by (pushed says_done ups (record { to = phase.Wait k; reply = r }) e));
+    never_none = none_pushed shows_no_cue ups (record { to = phase.Wait k; reply = r }) h.never_none
+        (never_empty list s a k r h.within h.has_item x.does.1);
+  }
+    where
+      by : (list_any says_done ups ≡ true) ⊎ (is_done r ≡ true) → HasDone s a
+      by (inl e) = h.shown e
+      by (inr e) = λ _. x.does.1.shows_done e
 
--- before the answer to a cue of the event there is none to a status
-none_done : (list : List Item) (k : ℕ) (ups : List Answer) (downs : List Phase) → k < length list
-    → list_any misfits ups ≡ false
-    → Climbs (5 * k + 3) (5 * k + 4) (stretches Plain (length list) (pipe_of ups (phase.Cue k ∷ downs)))
-    → list_any says_done ups ≡ false
-none_done list k ups downs below fit c =
-    none_answers Plain (length list) (5 * k + 3) (5 * k + 3) misfits says_done ups one
-    (climbs_before Plain (length list) (5 * k + 3) (5 * k + 4) ups (phase.Cue k) downs c) fit
-  where
-    is_cue : (d : Phase) → Lies Plain (length list) (5 * k + 3) (5 * k + 3) d → d ≡ phase.Cue k
-    is_cue (phase.Cue j) l = let e : j ≡ k = omega arith in ap phase.Cue e
-    is_cue d l = absurd (omega arith)
+  -- before the answer to a cue of the event there is none to a status
+  none_done : (k : ℕ) (ups : List Answer) (downs : List Phase) → k < length list → list_any misfits ups ≡ false
+      → Climbs (5 * k + 3) (5 * k + 4) (stretches Plain (length list) (pipe_of ups (phase.Cue k ∷ downs)))
+      → list_any says_done ups ≡ false
+  none_done k ups downs below fit c =
+      none_answers Plain (length list) (5 * k + 3) (5 * k + 3) misfits says_done ups one
+      (climbs_before Plain (length list) (5 * k + 3) (5 * k + 4) ups (phase.Cue k) downs c) fit
+    where
+      is_cue : (d : Phase) → Lies Plain (length list) (5 * k + 3) (5 * k + 3) d → d ≡ phase.Cue k
+      is_cue (phase.Cue j) l = let e : j ≡ k = omega arith in ap phase.Cue e
+      is_cue d l = absurd (omega arith)
 
-    one : (x : Answer) → Lies Plain (length list) (5 * k + 3) (5 * k + 3) x.to → misfits x ≡ false → says_done x ≡ false
-    one x l m =
-        let is = is_cue x.to l in
-        (ack_fits x.reply (subst (λ (q : Phase). fits_phase q x.reply ≡ true) is
-        (not-false (fits_phase x.to x.reply) m))).0
+      one : (x : Answer) → Lies Plain (length list) (5 * k + 3) (5 * k + 3) x.to → misfits x ≡ false
+          → says_done x ≡ false
+      one x l m =
+          let is = is_cue x.to l in
+          (ack_fits x.reply (subst (λ (q : Phase). fits_phase q x.reply ≡ true) is
+          (not-false (fits_phase x.to x.reply) m))).0
 
-waiting_cue : (list : List Item) (settled : ℕ) (s : Bool) (a : Cued) (aired : List Item) (ups : List Answer) (k : ℕ)
-    (r : Reply) (t : Bool) (b : Cued)
-    (airs : List Item)
-    → Waiting list settled s a aired ups k → list_any says_done ups ≡ false → Executed list (phase.Cue k) s a r t b airs
-    → Waiting list settled t b (aired ++ airs) (ups ++ record { to = phase.Cue k; reply = r } ∷ []) k
-waiting_cue list settled s a aired ups k r t b airs h none x = record {
-  at = at_same list aired airs settled k x.does.1 h.at;
-  within = h.within;
-  has_item = (cueing_cue list s a k r t b x.does.0 x.does.2).0 h.has_item;
-  shown = λ e. clash (list_any says_done (ups ++ record { to = phase.Cue k; reply = r } ∷ [])) e
-      (none_pushed says_done ups (record { to = phase.Cue k; reply = r }) none (ack_fits r x.fits).0);
-  never_none = none_pushed shows_no_cue ups (record { to = phase.Cue k; reply = r }) h.never_none refl;
-}
+  waiting_cue : (settled : ℕ) (s : Bool) (a : Cued) (aired : List Item) (ups : List Answer) (k : ℕ) (r : Reply)
+      (t : Bool) (b : Cued) (airs : List Item) → Waiting list settled s a aired ups k → list_any says_done ups ≡ false
+      → Executed list (phase.Cue k) s a r t b airs → Waiting list settled t b (aired ++ airs)
+      (ups ++ record { to = phase.Cue k; reply = r } ∷ []) k
+  waiting_cue settled s a aired ups k r t b airs h none x = record {
+    at = at_same list aired airs settled k x.does.1 h.at;
+    within = h.within;
+    has_item = (cueing_cue list s a k r t b x.does.0 x.does.2).0 h.has_item;
+    shown = λ e. clash (list_any says_done (ups ++ record { to = phase.Cue k; reply = r } ∷ [])) e
+        (none_pushed says_done ups (record { to = phase.Cue k; reply = r }) none (ack_fits r x.fits).0);
+    never_none = none_pushed shows_no_cue ups (record { to = phase.Cue k; reply = r }) h.never_none refl;
+  }
 
 pub waiting_keeps : (list : List Item) (settled : ℕ) (s : Bool) (a : Cued) (aired : List Item) (ups : List Answer)
     (d : Phase) (downs : List Phase) (k : ℕ)

@@ -43,20 +43,18 @@ abbrev pub EndedAt : Type 0 → List Item → ℕ → Bool → Cued → List Ite
 EndedAt Else list settled s a aired downs None = Else
 EndedAt Else list settled s a aired downs (Some k) = Exact list settled s a aired downs × (settled ≡ k)
 
-pub settles_at : (Else : Type 0) (list : List Item) (settled : ℕ) (s : Bool) (a : Cued) (aired : List Item)
-    (downs : List Phase) (k : ℕ) → At list aired settled k → Still s a downs
-    → EndedAt Else list settled s a aired downs (Some k)
-settles_at Else list settled s a aired downs k h still =
-    (exact_at list settled s a aired downs k h still, h.settled_is)
+module _ (Else : Type 0) where
+  pub settles_at : (list : List Item) (settled : ℕ) (s : Bool) (a : Cued) (aired : List Item) (downs : List Phase)
+      (k : ℕ) → At list aired settled k → Still s a downs → EndedAt Else list settled s a aired downs (Some k)
+  settles_at list settled s a aired downs k h still = (exact_at list settled s a aired downs k h still, h.settled_is)
 
--- an end from a phase in which no PLAY is on the way
-pub silent_end : (Else : Type 0) (mode : Mode) (list : List Item) (settled : ℕ) (s : Bool) (a : Cued)
-    (aired : List Item)
-    (ups : List Answer) (downs : List Phase) (k : ℕ) (q : Phase) → is_silent q ≡ true
-    → IsPipe mode (length list) q (pipe_of ups downs) → At list aired settled k
-    → EndedAt Else list settled s a aired downs (Some k)
-silent_end Else mode list settled s a aired ups downs k q e c h =
-    settles_at Else list settled s a aired downs k h (inl (none_plays mode (length list) ups downs q e c))
+  -- an end from a phase in which no PLAY is on the way
+  pub silent_end : (mode : Mode) (list : List Item) (settled : ℕ) (s : Bool) (a : Cued) (aired : List Item)
+      (ups : List Answer) (downs : List Phase) (k : ℕ) (q : Phase) → is_silent q ≡ true
+      → IsPipe mode (length list) q (pipe_of ups downs) → At list aired settled k
+      → EndedAt Else list settled s a aired downs (Some k)
+  silent_end mode list settled s a aired ups downs k q e c h =
+      settles_at list settled s a aired downs k h (inl (none_plays mode (length list) ups downs q e c))
 
 pub ended_thins : {Else Left : Type 0} → (Else → Left) → (list : List Item) (settled : ℕ) (s : Bool) (a : Cued)
     (aired : List Item) (downs left : List Phase) (o : Option ℕ) → Thins downs left

@@ -36,51 +36,48 @@ pub none_taken : (list : List Item) → [] ≡ take 0 list
 none_taken [] = refl
 none_taken (item ∷ list) = refl
 
-pub exact_at : (list : List Item) (settled : ℕ) (s : Bool) (a : Cued) (aired : List Item) (downs : List Phase) (k : ℕ)
-    → At list aired settled k → Still s a downs → Exact list settled s a aired downs
-exact_at list settled s a aired downs k h still = record {
-  at = subst (At list aired settled) (sym h.settled_is) h;
-  still = still;
-}
+module _ (list : List Item) (settled : ℕ) (s : Bool) (a : Cued) where
+  pub exact_at : (aired : List Item) (downs : List Phase) (k : ℕ) → At list aired settled k → Still s a downs
+      → Exact list settled s a aired downs
+  exact_at aired downs k h still = record {
+    at = subst (At list aired settled) (sym h.settled_is) h;
+    still = still;
+  }
 
--- ---- something is left out, comes twice, or changes by itself
+  -- ---- something is left out, comes twice, or changes by itself
 
-pub exact_thins : (list : List Item) (settled : ℕ) (s : Bool) (a : Cued) (aired : List Item) (downs left : List Phase)
-    → Thins downs left → Exact list settled s a aired downs → Exact list settled s a aired left
-exact_thins list settled s a aired downs left d h = record { at = h.at; still = by h.still }
-  where
-    by : Still s a downs → Still s a left
-    by (inl e) = inl (none_thins plays downs left d e)
-    by (inr (none, e)) = inr (none, none_thins arms downs left d e)
+  pub exact_thins : (aired : List Item) (downs left : List Phase) → Thins downs left
+      → Exact list settled s a aired downs → Exact list settled s a aired left
+  exact_thins aired downs left d h = record { at = h.at; still = by h.still }
+    where
+      by : Still s a downs → Still s a left
+      by (inl e) = inl (none_thins plays downs left d e)
+      by (inr (none, e)) = inr (none, none_thins arms downs left d e)
 
-pub exact_copied : (list : List Item) (settled : ℕ) (s : Bool) (a : Cued) (aired : List Item) (d : Phase)
-    (downs : List Phase)
-    → Exact list settled s a aired (d ∷ downs) → Exact list settled s a aired (d ∷ d ∷ downs)
-exact_copied list settled s a aired d downs h = record { at = h.at; still = by h.still }
-  where
-    by : Still s a (d ∷ downs) → Still s a (d ∷ d ∷ downs)
-    by (inl e) = inl (none_copied plays d downs e)
-    by (inr (none, e)) = inr (none, none_copied arms d downs e)
+  pub exact_copied : (aired : List Item) (d : Phase) (downs : List Phase) → Exact list settled s a aired (d ∷ downs)
+      → Exact list settled s a aired (d ∷ d ∷ downs)
+  exact_copied aired d downs h = record { at = h.at; still = by h.still }
+    where
+      by : Still s a (d ∷ downs) → Still s a (d ∷ d ∷ downs)
+      by (inl e) = inl (none_copied plays d downs e)
+      by (inr (none, e)) = inr (none, none_copied arms d downs e)
 
-pub exact_ages : (list : List Item) (settled : ℕ) (s : Bool) (a : Cued) (t : Bool) (b : Cued) (aired : List Item)
-    (downs : List Phase)
-    → Ages s a t b → Exact list settled s a aired downs → Exact list settled t b aired downs
-exact_ages list settled s a t b aired downs g h = record { at = h.at; still = by h.still }
-  where
-    by : Still s a downs → Still t b downs
-    by (inl e) = inl e
-    by (inr (none, e)) = inr (none_ages s a t b g none, e)
+  pub exact_ages : (t : Bool) (b : Cued) (aired : List Item) (downs : List Phase) → Ages s a t b
+      → Exact list settled s a aired downs → Exact list settled t b aired downs
+  exact_ages t b aired downs g h = record { at = h.at; still = by h.still }
+    where
+      by : Still s a downs → Still t b downs
+      by (inl e) = inl e
+      by (inr (none, e)) = inr (none_ages s a t b g none, e)
 
--- the controller sends what neither plays nor arms
-pub exact_sends : (list : List Item) (settled : ℕ) (s : Bool) (a : Cued) (aired : List Item) (downs : List Phase)
-    (q : Phase)
-    → plays q ≡ false → arms q ≡ false → Exact list settled s a aired downs
-    → Exact list settled s a aired (downs ++ q ∷ [])
-exact_sends list settled s a aired downs q no_play no_arm h = record { at = h.at; still = by h.still }
-  where
-    by : Still s a downs → Still s a (downs ++ q ∷ [])
-    by (inl e) = inl (none_sent plays downs q e no_play)
-    by (inr (none, e)) = inr (none, none_sent arms downs q e no_arm)
+  -- the controller sends what neither plays nor arms
+  pub exact_sends : (aired : List Item) (downs : List Phase) (q : Phase) → plays q ≡ false → arms q ≡ false
+      → Exact list settled s a aired downs → Exact list settled s a aired (downs ++ q ∷ [])
+  exact_sends aired downs q no_play no_arm h = record { at = h.at; still = by h.still }
+    where
+      by : Still s a downs → Still s a (downs ++ q ∷ [])
+      by (inl e) = inl (none_sent plays downs q e no_play)
+      by (inr (none, e)) = inr (none, none_sent arms downs q e no_arm)
 
 -- ---- the port reads the oldest command
 

@@ -47,19 +47,19 @@ answers list clips d p a change h = λ r e.
 still_selected : (a : Access) → lets_control (opened a) ≡ lets_control a
 still_selected a = grind arith
 
-reads_open : (list : List Item) (clips : List (ClipId × Timecode)) (p : PortState) (same : Bool)
-    → RowReads list clips phase.Open p (if same then row (reply.Opened true) opens else row (reply.Opened false) keeps)
-reads_open list clips p true = answers list clips phase.Open p (reply.Opened true) opens
-    (record { executed = record { fits = refl; does = (still_selected p.access, refl, refl) }; true_told = refl })
-reads_open list clips p false = answers list clips phase.Open p (reply.Opened false) keeps
-    (record { executed = record { fits = refl; does = (refl, refl, refl) }; true_told = refl })
+module _ (list : List Item) (clips : List (ClipId × Timecode)) (p : PortState) where
+  reads_open : (same : Bool) → RowReads list clips phase.Open p (if same then row (reply.Opened true) opens else row
+      (reply.Opened false) keeps)
+  reads_open true = answers list clips phase.Open p (reply.Opened true) opens
+      (record { executed = record { fits = refl; does = (still_selected p.access, refl, refl) }; true_told = refl })
+  reads_open false = answers list clips phase.Open p (reply.Opened false) keeps
+      (record { executed = record { fits = refl; does = (refl, refl, refl) }; true_told = refl })
 
-reads_select : (list : List Item) (clips : List (ClipId × Timecode)) (p : PortState) (can : Bool)
-    → RowReads list clips phase.Select p (if can then row reply.Ack selects else refused)
-reads_select list clips p true = answers list clips phase.Select p reply.Ack selects
-    (record { executed = record { fits = refl; does = (refl, refl) }; true_told = refl })
-reads_select list clips p false = answers list clips phase.Select p (reply.Nak 0x01) keeps
-    (record { executed = record { fits = refl; does = (refl, refl) }; true_told = refl })
+  reads_select : (can : Bool) → RowReads list clips phase.Select p (if can then row reply.Ack selects else refused)
+  reads_select true = answers list clips phase.Select p reply.Ack selects
+      (record { executed = record { fits = refl; does = (refl, refl) }; true_told = refl })
+  reads_select false = answers list clips phase.Select p (reply.Nak 0x01) keeps
+      (record { executed = record { fits = refl; does = (refl, refl) }; true_told = refl })
 
 -- a state byte shows what is cued
 shows_state : (selected : Bool) (a : Cued) (playing : Option Item) → selected ≡ true
@@ -74,50 +74,49 @@ shows_state s (done item) (Some clip) e = record { shows_done = λ _. refl; show
 shows_refusal : (selected : Bool) (a : Cued) → Shows selected a (reply.Nak 0x01)
 shows_refusal s a = record { shows_done = λ e. cc; shows_empty = λ e. cc; is_selected = λ e. cc }
 
--- of a status that is asked for in Wait or in Probe, and in Seen or in Drain
-reads_wait : (list : List Item) (clips : List (ClipId × Timecode)) (p : PortState) (k : ℕ) (selected : Bool)
-    → is_selected p ≡ selected
-    → RowReads list clips (phase.Wait k) p (if selected then row (state_reply 1 (state_byte p)) keeps else refused)
-reads_wait list clips p k true e = answers list clips (phase.Wait k) p (state_reply 1 (state_byte p)) keeps
-    (record {
-      executed = record
-          { fits = refl; does = ((refl, refl, refl), shows_state (is_selected p) p.cued p.playing e) };
-      true_told = refl;
-    })
-reads_wait list clips p k false e = answers list clips (phase.Wait k) p (reply.Nak 0x01) keeps
-    (record {
-      executed = record { fits = refl; does = ((refl, refl, refl), shows_refusal (is_selected p) p.cued) };
-      true_told = refl;
-    })
+module _ (list : List Item) (clips : List (ClipId × Timecode)) (p : PortState) where
+  -- of a status that is asked for in Wait or in Probe, and in Seen or in Drain
+  reads_wait : (k : ℕ) (selected : Bool) → is_selected p ≡ selected
+      → RowReads list clips (phase.Wait k) p (if selected then row (state_reply 1 (state_byte p)) keeps else refused)
+  reads_wait k true e = answers list clips (phase.Wait k) p (state_reply 1 (state_byte p)) keeps
+      (record {
+        executed = record
+            { fits = refl; does = ((refl, refl, refl), shows_state (is_selected p) p.cued p.playing e) };
+        true_told = refl;
+      })
+  reads_wait k false e = answers list clips (phase.Wait k) p (reply.Nak 0x01) keeps
+      (record {
+        executed = record { fits = refl; does = ((refl, refl, refl), shows_refusal (is_selected p) p.cued) };
+        true_told = refl;
+      })
 
-reads_probe : (list : List Item) (clips : List (ClipId × Timecode)) (p : PortState) (k : ℕ) (selected : Bool)
-    → is_selected p ≡ selected
-    → RowReads list clips (phase.Probe k) p (if selected then row (state_reply 1 (state_byte p)) keeps else refused)
-reads_probe list clips p k true e = answers list clips (phase.Probe k) p (state_reply 1 (state_byte p)) keeps
-    (record {
-      executed = record
-          { fits = refl; does = ((refl, refl, refl), shows_state (is_selected p) p.cued p.playing e) };
-      true_told = refl;
-    })
-reads_probe list clips p k false e = answers list clips (phase.Probe k) p (reply.Nak 0x01) keeps
-    (record {
-      executed = record { fits = refl; does = ((refl, refl, refl), shows_refusal (is_selected p) p.cued) };
-      true_told = refl;
-    })
+  reads_probe : (k : ℕ) (selected : Bool) → is_selected p ≡ selected
+      → RowReads list clips (phase.Probe k) p (if selected then row (state_reply 1 (state_byte p)) keeps else refused)
+  reads_probe k true e = answers list clips (phase.Probe k) p (state_reply 1 (state_byte p)) keeps
+      (record {
+        executed = record
+            { fits = refl; does = ((refl, refl, refl), shows_state (is_selected p) p.cued p.playing e) };
+        true_told = refl;
+      })
+  reads_probe k false e = answers list clips (phase.Probe k) p (reply.Nak 0x01) keeps
+      (record {
+        executed = record { fits = refl; does = ((refl, refl, refl), shows_refusal (is_selected p) p.cued) };
+        true_told = refl;
+      })
 
-reads_seen : (list : List Item) (clips : List (ClipId × Timecode)) (p : PortState) (selected : Bool)
-    → RowReads list clips phase.Seen p (if selected then row (state_reply 1 (state_byte p)) keeps else refused)
-reads_seen list clips p true = answers list clips phase.Seen p (state_reply 1 (state_byte p)) keeps
-    (record { executed = record { fits = refl; does = (refl, refl, refl) }; true_told = refl })
-reads_seen list clips p false = answers list clips phase.Seen p (reply.Nak 0x01) keeps
-    (record { executed = record { fits = refl; does = (refl, refl, refl) }; true_told = refl })
+  reads_seen : (selected : Bool) → RowReads list clips phase.Seen p (if selected then row (state_reply 1 (state_byte p))
+      keeps else refused)
+  reads_seen true = answers list clips phase.Seen p (state_reply 1 (state_byte p)) keeps
+      (record { executed = record { fits = refl; does = (refl, refl, refl) }; true_told = refl })
+  reads_seen false = answers list clips phase.Seen p (reply.Nak 0x01) keeps
+      (record { executed = record { fits = refl; does = (refl, refl, refl) }; true_told = refl })
 
-reads_drain : (list : List Item) (clips : List (ClipId × Timecode)) (p : PortState) (selected : Bool)
-    → RowReads list clips phase.Drain p (if selected then row (state_reply 1 (state_byte p)) keeps else refused)
-reads_drain list clips p true = answers list clips phase.Drain p (state_reply 1 (state_byte p)) keeps
-    (record { executed = record { fits = refl; does = (refl, refl, refl) }; true_told = refl })
-reads_drain list clips p false = answers list clips phase.Drain p (reply.Nak 0x01) keeps
-    (record { executed = record { fits = refl; does = (refl, refl, refl) }; true_told = refl })
+  reads_drain : (selected : Bool) → RowReads list clips phase.Drain p (if selected then row
+      (state_reply 1 (state_byte p)) keeps else refused)
+  reads_drain true = answers list clips phase.Drain p (state_reply 1 (state_byte p)) keeps
+      (record { executed = record { fits = refl; does = (refl, refl, refl) }; true_told = refl })
+  reads_drain false = answers list clips phase.Drain p (reply.Nak 0x01) keeps
+      (record { executed = record { fits = refl; does = (refl, refl, refl) }; true_told = refl })
 
 -- where there is such a command
 abbrev pub IfRow : List Item → List (ClipId × Timecode) → Phase → PortState → Option Command → Type 0
@@ -128,119 +127,109 @@ same_known : (b : Bool) → differs b b ≡ false
 same_known true = refl
 same_known false = refl
 
-reads_exists : (list : List Item) (clips : List (ClipId × Timecode)) (p : PortState) (k : ℕ) (o : Option Item)
-    → slice_get list k ≡ o
-    → IfRow list clips (phase.Exists k) p (option_map (λ item. command.IdRequest item.id) o)
-reads_exists list clips p k None e = tt
-reads_exists list clips p k (Some item) e =
-    answers list clips (phase.Exists k) p (reply.Present (is_known clips item.id)) keeps
-    (record {
-      executed = record { fits = refl; does = (refl, refl, refl) };
-      true_told = ap (λ (o : Option Item). differs (is_known clips item.id) (knows clips o)) e ∙ same_known
-          (is_known clips item.id);
-    })
+module _ (list : List Item) (clips : List (ClipId × Timecode)) (p : PortState) where
+  reads_exists : (k : ℕ) (o : Option Item) → slice_get list k ≡ o
+      → IfRow list clips (phase.Exists k) p (option_map (λ item. command.IdRequest item.id) o)
+  reads_exists k None e = tt
+  reads_exists k (Some item) e =
+      answers list clips (phase.Exists k) p (reply.Present (is_known clips item.id)) keeps
+      (record {
+        executed = record { fits = refl; does = (refl, refl, refl) };
+        true_told = ap (λ (o : Option Item). differs (is_known clips item.id) (knows clips o)) e ∙ same_known
+            (is_known clips item.id);
+      })
 
-reads_cue_row : (list : List Item) (clips : List (ClipId × Timecode)) (p : PortState) (k : ℕ) (item : Item) (can : Bool)
-    → Some item ≡ slice_get list k
-    → RowReads list clips (phase.Cue k) p (if can then row reply.Ack (cues item) else refused)
-reads_cue_row list clips p k item true e = answers list clips (phase.Cue k) p reply.Ack (cues item)
-    (record { executed = record { fits = refl; does = (refl, refl, inr e) }; true_told = refl })
-reads_cue_row list clips p k item false e = answers list clips (phase.Cue k) p (reply.Nak 0x01) keeps
-    (record { executed = record { fits = refl; does = (refl, refl, inl (refl, refl)) }; true_told = refl })
+  reads_cue_row : (k : ℕ) (item : Item) (can : Bool) → Some item ≡ slice_get list k
+      → RowReads list clips (phase.Cue k) p (if can then row reply.Ack (cues item) else refused)
+  reads_cue_row k item true e = answers list clips (phase.Cue k) p reply.Ack (cues item)
+      (record { executed = record { fits = refl; does = (refl, refl, inr e) }; true_told = refl })
+  reads_cue_row k item false e = answers list clips (phase.Cue k) p (reply.Nak 0x01) keeps
+      (record { executed = record { fits = refl; does = (refl, refl, inl (refl, refl)) }; true_told = refl })
 
-reads_cue : (list : List Item) (clips : List (ClipId × Timecode)) (p : PortState) (k : ℕ) (o : Option Item)
-    → slice_get list k ≡ o
-    → IfRow list clips (phase.Cue k) p (option_map cue_of o)
-reads_cue list clips p k None e = tt
-reads_cue list clips p k (Some item) e = by item.part refl
-  where
-    by : (part : Option Part) → item.part ≡ part
-        → RowReads list clips (phase.Cue k) p (command_row clips p (cue_for item.id part))
-    by None is =
-        let same : Some (whole item.id) ≡ slice_get list k = ap
-        (λ (o : Option Part). Some (record { id = item.id; part = o })) (sym is) ∙ sym e in
-        reads_cue_row list clips p k (whole item.id) (is_selected p && is_playable clips (whole item.id)) same
-    by (Some x) is =
-        let same : Some (part_of item.id x.start x.duration) ≡ slice_get list k =
-        ap (λ (o : Option Part). Some (record { id = item.id; part = o })) (sym is) ∙ sym e in
-        reads_cue_row list clips p k (part_of item.id x.start x.duration)
-        (is_selected p && is_playable clips (part_of item.id x.start x.duration)) same
+  reads_cue : (k : ℕ) (o : Option Item) → slice_get list k ≡ o → IfRow list clips (phase.Cue k) p (option_map cue_of o)
+  reads_cue k None e = tt
+  reads_cue k (Some item) e = by item.part refl
+    where
+      by : (part : Option Part) → item.part ≡ part
+          → RowReads list clips (phase.Cue k) p (command_row clips p (cue_for item.id part))
+      by None is =
+          let same : Some (whole item.id) ≡ slice_get list k = ap
+          (λ (o : Option Part). Some (record { id = item.id; part = o })) (sym is) ∙ sym e in
+          reads_cue_row k (whole item.id) (is_selected p && is_playable clips (whole item.id)) same
+      by (Some x) is =
+          let same : Some (part_of item.id x.start x.duration) ≡ slice_get list k =
+          ap (λ (o : Option Part). Some (record { id = item.id; part = o })) (sym is) ∙ sym e in
+          reads_cue_row k (part_of item.id x.start x.duration)
+          (is_selected p && is_playable clips (part_of item.id x.start x.duration)) same
 
-reads_play_row : (list : List Item) (clips : List (ClipId × Timecode)) (p : PortState) (k : ℕ) (a : Cued) → p.cued ≡ a
-    → is_selected p ≡ true
-    → RowReads list clips (phase.Play k) p (play_row a)
-reads_play_row list clips p k empty e on = answers list clips (phase.Play k) p reply.Ack keeps
-    (record {
-      executed = record
-          { fits = refl; does = (refl, inr (on, e ∙ sym (ap left_cued e), sym (ap put_on_air e))) };
-      true_told = refl;
-    })
-reads_play_row list clips p k (cueing item) e on = answers list clips (phase.Play k) p reply.Ack keeps
-    (record {
-      executed = record
-          { fits = refl; does = (refl, inr (on, e ∙ sym (ap left_cued e), sym (ap put_on_air e))) };
-      true_told = refl;
-    })
-reads_play_row list clips p k (done item) e on = answers list clips (phase.Play k) p reply.Ack (airs item)
-    (record {
-      executed = record { fits = refl; does = (refl, inr (on, sym (ap left_cued e), sym (ap put_on_air e))) };
-      true_told = refl;
-    })
+  reads_play_row : (k : ℕ) (a : Cued) → p.cued ≡ a → is_selected p ≡ true
+      → RowReads list clips (phase.Play k) p (play_row a)
+  reads_play_row k empty e on = answers list clips (phase.Play k) p reply.Ack keeps
+      (record {
+        executed = record
+            { fits = refl; does = (refl, inr (on, e ∙ sym (ap left_cued e), sym (ap put_on_air e))) };
+        true_told = refl;
+      })
+  reads_play_row k (cueing item) e on = answers list clips (phase.Play k) p reply.Ack keeps
+      (record {
+        executed = record
+            { fits = refl; does = (refl, inr (on, e ∙ sym (ap left_cued e), sym (ap put_on_air e))) };
+        true_told = refl;
+      })
+  reads_play_row k (done item) e on = answers list clips (phase.Play k) p reply.Ack (airs item)
+      (record {
+        executed = record { fits = refl; does = (refl, inr (on, sym (ap left_cued e), sym (ap put_on_air e))) };
+        true_told = refl;
+      })
 
-reads_play : (list : List Item) (clips : List (ClipId × Timecode)) (p : PortState) (k : ℕ) (selected : Bool)
-    → is_selected p ≡ selected
-    → RowReads list clips (phase.Play k) p (if selected then play_row p.cued else refused)
-reads_play list clips p k true e = reads_play_row list clips p k p.cued refl e
-reads_play list clips p k false e = answers list clips (phase.Play k) p (reply.Nak 0x01) keeps
-    (record { executed = record { fits = refl; does = (refl, inl (e, refl, refl, refl)) }; true_told = refl })
+  reads_play : (k : ℕ) (selected : Bool) → is_selected p ≡ selected
+      → RowReads list clips (phase.Play k) p (if selected then play_row p.cued else refused)
+  reads_play k true e = reads_play_row k p.cued refl e
+  reads_play k false e = answers list clips (phase.Play k) p (reply.Nak 0x01) keeps
+      (record { executed = record { fits = refl; does = (refl, inl (e, refl, refl, refl)) }; true_told = refl })
 
-reads_check : (list : List Item) (clips : List (ClipId × Timecode)) (p : PortState) (k : ℕ) (selected : Bool)
-    → RowReads list clips (phase.Check k) p (if selected then row
-    (reply.Active (option_map (λ item. item.id) p.playing)) keeps else refused)
-reads_check list clips p k true =
-    answers list clips (phase.Check k) p (reply.Active (option_map (λ item. item.id) p.playing)) keeps
-    (record { executed = record { fits = refl; does = (refl, refl, refl) }; true_told = refl })
-reads_check list clips p k false = answers list clips (phase.Check k) p (reply.Nak 0x01) keeps
-    (record { executed = record { fits = refl; does = (refl, refl, refl) }; true_told = refl })
+  reads_check : (k : ℕ) (selected : Bool) → RowReads list clips (phase.Check k) p (if selected then row
+      (reply.Active (option_map (λ item. item.id) p.playing)) keeps else refused)
+  reads_check k true =
+      answers list clips (phase.Check k) p (reply.Active (option_map (λ item. item.id) p.playing)) keeps
+      (record { executed = record { fits = refl; does = (refl, refl, refl) }; true_told = refl })
+  reads_check k false = answers list clips (phase.Check k) p (reply.Nak 0x01) keeps
+      (record { executed = record { fits = refl; does = (refl, refl, refl) }; true_told = refl })
 
-reads_close : (list : List Item) (clips : List (ClipId × Timecode)) (p : PortState) (same : Bool)
-    → RowReads list clips phase.Close p (if same then row reply.Ack closes else refused)
-reads_close list clips p true = answers list clips phase.Close p reply.Ack closes
-    (record { executed = record { fits = refl; does = (λ e. cc, refl, inl refl) }; true_told = refl })
-reads_close list clips p false = answers list clips phase.Close p (reply.Nak 0x01) keeps
-    (record { executed = record { fits = refl; does = (λ e. e, refl, inr refl) }; true_told = refl })
+  reads_close : (same : Bool) → RowReads list clips phase.Close p (if same then row reply.Ack closes else refused)
+  reads_close true = answers list clips phase.Close p reply.Ack closes
+      (record { executed = record { fits = refl; does = (λ e. cc, refl, inl refl) }; true_told = refl })
+  reads_close false = answers list clips phase.Close p (reply.Nak 0x01) keeps
+      (record { executed = record { fits = refl; does = (λ e. e, refl, inr refl) }; true_told = refl })
 
-reads_halt : (list : List Item) (clips : List (ClipId × Timecode)) (p : PortState) (selected : Bool)
-    → RowReads list clips phase.Halt p (if selected then row reply.Ack stops else refused)
-reads_halt list clips p true = answers list clips phase.Halt p reply.Ack stops
-    (record { executed = record { fits = refl; does = (λ e. e, refl, inl refl) }; true_told = refl })
-reads_halt list clips p false = answers list clips phase.Halt p (reply.Nak 0x01) keeps
-    (record { executed = record { fits = refl; does = (λ e. e, refl, inr refl) }; true_told = refl })
+  reads_halt : (selected : Bool) → RowReads list clips phase.Halt p (if selected then row reply.Ack stops else refused)
+  reads_halt true = answers list clips phase.Halt p reply.Ack stops
+      (record { executed = record { fits = refl; does = (λ e. e, refl, inl refl) }; true_told = refl })
+  reads_halt false = answers list clips phase.Halt p (reply.Nak 0x01) keeps
+      (record { executed = record { fits = refl; does = (λ e. e, refl, inr refl) }; true_told = refl })
 
-reads_halt_close : (list : List Item) (clips : List (ClipId × Timecode)) (p : PortState) (same : Bool)
-    → RowReads list clips phase.HaltClose p (if same then row reply.Ack closes else refused)
-reads_halt_close list clips p true = answers list clips phase.HaltClose p reply.Ack closes
-    (record { executed = record { fits = refl; does = (λ e. cc, refl, inl refl) }; true_told = refl })
-reads_halt_close list clips p false = answers list clips phase.HaltClose p (reply.Nak 0x01) keeps
-    (record { executed = record { fits = refl; does = (λ e. e, refl, inr refl) }; true_told = refl })
+  reads_halt_close : (same : Bool) → RowReads list clips phase.HaltClose p (if same then row reply.Ack closes else
+      refused)
+  reads_halt_close true = answers list clips phase.HaltClose p reply.Ack closes
+      (record { executed = record { fits = refl; does = (λ e. cc, refl, inl refl) }; true_told = refl })
+  reads_halt_close false = answers list clips phase.HaltClose p (reply.Nak 0x01) keeps
+      (record { executed = record { fits = refl; does = (λ e. e, refl, inr refl) }; true_told = refl })
 
-reads_phase : (list : List Item) (clips : List (ClipId × Timecode)) (p : PortState) (port : ℕ) (d : Phase)
-    → IfRow list clips d p (command_in list port d)
-reads_phase list clips p port phase.Open = reads_open list clips p (nat_eq port p.number)
-reads_phase list clips p port phase.Select = reads_select list clips p (nat_eq port p.number && is_open p)
-reads_phase list clips p port phase.Seen = reads_seen list clips p (is_selected p)
-reads_phase list clips p port (phase.Exists k) = reads_exists list clips p k (slice_get list k) refl
-reads_phase list clips p port (phase.Cue k) = reads_cue list clips p k (slice_get list k) refl
-reads_phase list clips p port (phase.Wait k) = reads_wait list clips p k (is_selected p) refl
-reads_phase list clips p port (phase.Play k) = reads_play list clips p k (is_selected p) refl
-reads_phase list clips p port (phase.Probe k) = reads_probe list clips p k (is_selected p) refl
-reads_phase list clips p port (phase.Check k) = reads_check list clips p k (is_selected p)
-reads_phase list clips p port phase.Drain = reads_drain list clips p (is_selected p)
-reads_phase list clips p port phase.Close = reads_close list clips p (nat_eq port p.number)
-reads_phase list clips p port phase.Halt = reads_halt list clips p (is_selected p)
-reads_phase list clips p port phase.HaltClose = reads_halt_close list clips p (nat_eq port p.number)
+  reads_phase : (port : ℕ) (d : Phase) → IfRow list clips d p (command_in list port d)
+  reads_phase port phase.Open = reads_open list clips p (nat_eq port p.number)
+  reads_phase port phase.Select = reads_select list clips p (nat_eq port p.number && is_open p)
+  reads_phase port phase.Seen = reads_seen list clips p (is_selected p)
+  reads_phase port (phase.Exists k) = reads_exists k (slice_get list k) refl
+  reads_phase port (phase.Cue k) = reads_cue k (slice_get list k) refl
+  reads_phase port (phase.Wait k) = reads_wait list clips p k (is_selected p) refl
+  reads_phase port (phase.Play k) = reads_play k (is_selected p) refl
+  reads_phase port (phase.Probe k) = reads_probe list clips p k (is_selected p) refl
+  reads_phase port (phase.Check k) = reads_check k (is_selected p)
+  reads_phase port phase.Drain = reads_drain list clips p (is_selected p)
+  reads_phase port phase.Close = reads_close (nat_eq port p.number)
+  reads_phase port phase.Halt = reads_halt (is_selected p)
+  reads_phase port phase.HaltClose = reads_halt_close (nat_eq port p.number)
 
-pub reads : (list : List Item) (clips : List (ClipId × Timecode)) (p : PortState) (port : ℕ) (d : Phase) (c : Command)
-    → command_in list port d ≡ Some c
-    → RowReads list clips d p (command_row clips p c)
-reads list clips p port d c is = subst (IfRow list clips d p) is (reads_phase list clips p port d)
+  pub reads : (port : ℕ) (d : Phase) (c : Command) → command_in list port d ≡ Some c
+      → RowReads list clips d p (command_row clips p c)
+  reads port d c is = subst (IfRow list clips d p) is (reads_phase port d)

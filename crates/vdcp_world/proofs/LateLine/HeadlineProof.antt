@@ -84,32 +84,30 @@ means c (outcome.Refused k) h l e = refused_in c.plan.mode c.plan c.aired c.log 
 means c (outcome.Foreign k) h l e = exactly c.plan c.aired c.log c.state.settled (k + 1) h.0 l.is_settled
 means c (outcome.Strange k) h l e = exactly c.plan c.aired c.log c.state.settled k h.0 l.is_settled
 
-means_at : (c : LateChannel) (stage : Stage) → c.state.stage ≡ stage
-    → EndHoldsAt c.plan.mode c.plan.list c.port.clips c.aired c.state.settled stage
-    → IsLawful c.plan c.state c.log
-    → IfSome (outcome_of stage) (LateMeans c.port.clips c.plan c.aired c.log)
-means_at c (Ended o) e h l = means c o h l (ap outcome_of e)
-means_at c _ e h l = tt
+module _ (c : LateChannel) where
+  means_at : (stage : Stage) → c.state.stage ≡ stage → EndHoldsAt c.plan.mode c.plan.list c.port.clips c.aired
+      c.state.settled stage → IsLawful c.plan c.state c.log → IfSome (outcome_of stage) (LateMeans c.port.clips c.plan
+      c.aired c.log)
+  means_at (Ended o) e h l = means c o h l (ap outcome_of e)
+  means_at _ e h l = tt
 
--- all that went to air is reported
-complete_at : (c : LateChannel) (stage : Stage)
-    → EndHoldsAt c.plan.mode c.plan.list c.port.clips c.aired c.state.settled stage
-    → IfSome (outcome_of stage) (λ outcome. IsTrue (is_late_complete c.plan.mode outcome) → c.aired ≡ reported_of c)
-complete_at c (Ended o) h = λ e.
-    let (k, at) = complete_settles c.plan.mode (length c.plan.list) o e h.0 in
-    at.aired_is ∙ ap (λ (n : ℕ). take n c.plan.list) (sym at.settled_is)
-complete_at c _ h = tt
+  -- all that went to air is reported
+  complete_at : (stage : Stage) → EndHoldsAt c.plan.mode c.plan.list c.port.clips c.aired c.state.settled stage
+      → IfSome (outcome_of stage) (λ outcome. IsTrue (is_late_complete c.plan.mode outcome) → c.aired ≡ reported_of c)
+  complete_at (Ended o) h = λ e.
+      let (k, at) = complete_settles c.plan.mode (length c.plan.list) o e h.0 in
+      at.aired_is ∙ ap (λ (n : ℕ). take n c.plan.list) (sym at.settled_is)
+  complete_at _ h = tt
 
-pub headline : (c : LateChannel) → AirsIn c
-    → IsLawful c.plan c.state c.log → LateHeadline c
-headline c a l = record {
-  beginning = begins c.plan.list c.aired c.state.settled a.near;
-  reported = reports c.plan.list c.aired c.state.settled a.near;
-  exact = a.exact;
-  count = taken c.plan.list c.state.settled (omega (arith, a.near.low, a.near.within));
-  is_settled = l.is_settled;
-  keeps_rules = l.keeps_rules;
-  may_await = l.may_await;
-  ended = means_at c c.state.stage refl a.end_holds l;
-  complete = complete_at c c.state.stage a.end_holds;
-}
+  pub headline : AirsIn c → IsLawful c.plan c.state c.log → LateHeadline c
+  headline a l = record {
+    beginning = begins c.plan.list c.aired c.state.settled a.near;
+    reported = reports c.plan.list c.aired c.state.settled a.near;
+    exact = a.exact;
+    count = taken c.plan.list c.state.settled (omega (arith, a.near.low, a.near.within));
+    is_settled = l.is_settled;
+    keeps_rules = l.keeps_rules;
+    may_await = l.may_await;
+    ended = means_at c.state.stage refl a.end_holds l;
+    complete = complete_at c.state.stage a.end_holds;
+  }

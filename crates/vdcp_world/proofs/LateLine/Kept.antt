@@ -86,19 +86,17 @@ writable below plan d c items fits is = subst (λ (o : Option Command). IfSome o
     (below.given_written plan
     (record { stage = Ready d; take = false; stop = false; unanswered = 0; settled = 0; tries = 0 }) items fits)
 
--- an answer that is heard joins the queue
-answer_joins : (mode : Mode) (unit : ℕ) (up : List (List ℕ)) (ups : List Answer) (sent : List ℕ) (x : Answer)
-    → IsAnswer unit sent x
-    → UpCarries mode unit up ups → UpCarries mode unit (up ++ bursts_of sent) (ups ++ x ∷ [])
-answer_joins mode unit up ups [] x h c = cc
-answer_joins mode unit up ups (byte ∷ bytes) x h c =
-    carries_pushed (IsJunkUp mode unit) (IsAnswer unit) up ups (byte ∷ bytes) x h c
+module _ (mode : Mode) (unit : ℕ) (up : List (List ℕ)) (ups : List Answer) where
+  -- an answer that is heard joins the queue
+  answer_joins : (sent : List ℕ) (x : Answer) → IsAnswer unit sent x → UpCarries mode unit up ups
+      → UpCarries mode unit (up ++ bursts_of sent) (ups ++ x ∷ [])
+  answer_joins [] x h c = cc
+  answer_joins (byte ∷ bytes) x h c = carries_pushed (IsJunkUp mode unit) (IsAnswer unit) up ups (byte ∷ bytes) x h c
 
-junk_joins : (mode : Mode) (unit : ℕ) (up : List (List ℕ)) (ups : List Answer) (sent : List ℕ) → IsJunkUp mode unit sent
-    → UpCarries mode unit up ups → UpCarries mode unit (up ++ bursts_of sent) ups
-junk_joins mode unit up ups [] h c = carries_same (IsJunkUp mode unit) (IsAnswer unit) up ups c
-junk_joins mode unit up ups (byte ∷ bytes) h c =
-    carries_pushed_junk (IsJunkUp mode unit) (IsAnswer unit) up ups (byte ∷ bytes) h c
+  junk_joins : (sent : List ℕ) → IsJunkUp mode unit sent → UpCarries mode unit up ups
+      → UpCarries mode unit (up ++ bursts_of sent) ups
+  junk_joins [] h c = carries_same (IsJunkUp mode unit) (IsAnswer unit) up ups c
+  junk_joins (byte ∷ bytes) h c = carries_pushed_junk (IsJunkUp mode unit) (IsAnswer unit) up ups (byte ∷ bytes) h c
 
 nak_strays : (mode : Mode) (byte : ℕ) → is_no_answer mode (Some (heard.Reply (reply.Nak byte))) ≡ true
 nak_strays Plain byte = refl
@@ -124,144 +122,140 @@ pub record Delivered (mode : Mode) (S : Claim) (plan : Plan) (state : State) (p 
   pub up_is : UpCarries mode p.state.unit (up ++ bursts_of (sent_for p down)) ups
   pub stands : StandsAt S plan.list (after_burst p down) state.settled state.stage (aired ++ aired_for p down) ups downs
 
-pub delivered_nothing : (mode : Mode) (S : Claim) → Steady S
-    → (plan : Plan) (state : State) (p : ClockedPort) (up : List (List ℕ)) (aired : List Item) (down : List ℕ)
-    (ups : List Answer)
-    (downs : List Phase) → ReadsNothing p down → UpCarries mode p.state.unit up ups
-    → StandsAt S plan.list p state.settled state.stage aired ups downs
-    → Delivered mode S plan state p up aired down downs
-delivered_nothing mode S steady plan state p up aired down ups downs r u h = record {
-  unit_same = burst_unit plan p down;
-  ups = ups;
-  up_is = junk_joins mode p.state.unit up ups (sent_for p down) (says_junk mode p down r) u;
-  stands = subst (λ (q : ClockedPort). StandsAt S plan.list q state.settled state.stage
-      (aired ++ aired_for p down) ups downs) (sym r.stays)
-      (subst (λ (a : List Item). StandsAt S plan.list p state.settled state.stage a ups downs)
-      (sym (aired_same aired (aired_for p down) r.airs)) h);
-}
+module _ (mode : Mode) (S : Claim) where
+  pub delivered_nothing : Steady S → (plan : Plan) (state : State) (p : ClockedPort) (up : List (List ℕ))
+      (aired : List Item) (down : List ℕ) (ups : List Answer) (downs : List Phase) → ReadsNothing p down
+      → UpCarries mode p.state.unit up ups → StandsAt S plan.list p state.settled state.stage aired ups downs
+      → Delivered mode S plan state p up aired down downs
+  delivered_nothing steady plan state p up aired down ups downs r u h = record {
+    unit_same = burst_unit plan p down;
+    ups = ups;
+    up_is = junk_joins mode p.state.unit up ups (sent_for p down) (says_junk mode p down r) u;
+    stands = subst (λ (q : ClockedPort). StandsAt S plan.list q state.settled state.stage
+        (aired ++ aired_for p down) ups downs) (sym r.stays)
+        (subst (λ (a : List Item). StandsAt S plan.list p state.settled state.stage a ups downs)
+        (sym (aired_same aired (aired_for p down) r.airs)) h);
+  }
 
-pub delivered_command : (mode : Mode) (S : Claim) → Steady S
-    → (plan : Plan) (state : State) (p : ClockedPort) (up : List (List ℕ)) (aired : List Item) (down : List ℕ)
-    (ups : List Answer)
-    (d : Phase) (downs : List Phase) (c : Command) → command_in plan.list plan.port d ≡ Some c → ReadsCommand p down c
-    → UpCarries mode p.state.unit up ups
-    → StandsAt S plan.list p state.settled state.stage aired ups (d ∷ downs)
-    → Delivered mode S plan state p up aired down downs
-delivered_command mode S steady plan state p up aired down ups d downs c is r u h =
-    let change : Change = (command_row p.clips p.state c).change in
-    let x : Answer = record { to = d; reply = r.answer } in
-    let after = steady.reads plan.list p.clips state.settled (is_selected p.state) p.state.cued aired ups d downs
-    state.stage r.answer
-    (is_selected (changed change p.state)) (changed change p.state).cued (option_to_list (on_air change)) h
-    (reads plan.list p.clips p.state plan.port d c is r.answer r.answers) in
-    record {
-      unit_same = burst_unit plan p down;
-      ups = ups ++ x ∷ [];
-      up_is = answer_joins mode p.state.unit up ups (sent_for p down) x r.heard u;
-      stands = subst (λ (q : ClockedPort). StandsAt S plan.list q state.settled state.stage (aired ++ aired_for p down)
-          (ups ++ x ∷ []) downs) (sym r.leaves)
-          (subst (λ (more : List Item). StandsAt S plan.list (after_change change p) state.settled state.stage
-          (aired ++ more) (ups ++ x ∷ []) downs) (sym r.airs)
-          after);
-    }
+  pub delivered_command : Steady S → (plan : Plan) (state : State) (p : ClockedPort) (up : List (List ℕ))
+      (aired : List Item) (down : List ℕ) (ups : List Answer) (d : Phase) (downs : List Phase) (c : Command)
+      → command_in plan.list plan.port d ≡ Some c → ReadsCommand p down c → UpCarries mode p.state.unit up ups
+      → StandsAt S plan.list p state.settled state.stage aired ups (d ∷ downs)
+      → Delivered mode S plan state p up aired down downs
+  delivered_command steady plan state p up aired down ups d downs c is r u h =
+      let change : Change = (command_row p.clips p.state c).change in
+      let x : Answer = record { to = d; reply = r.answer } in
+      let after = steady.reads plan.list p.clips state.settled (is_selected p.state) p.state.cued aired ups d downs
+      state.stage r.answer
+      (is_selected (changed change p.state)) (changed change p.state).cued (option_to_list (on_air change)) h
+      (reads plan.list p.clips p.state plan.port d c is r.answer r.answers) in
+      record {
+        unit_same = burst_unit plan p down;
+        ups = ups ++ x ∷ [];
+        up_is = answer_joins mode p.state.unit up ups (sent_for p down) x r.heard u;
+        stands =
+            subst (λ (q : ClockedPort). StandsAt S plan.list q state.settled state.stage (aired ++ aired_for p down)
+            (ups ++ x ∷ []) downs) (sym r.leaves)
+            (subst (λ (more : List Item). StandsAt S plan.list (after_change change p) state.settled state.stage
+            (aired ++ more) (ups ++ x ∷ []) downs) (sym r.airs)
+            after);
+      }
 
--- ---- with parts of a channel changed
+  -- ---- with parts of a channel changed
 
--- with another controller
-pub with_state : (mode : Mode) (S T : Claim) (c : LateChannel) (k : IsKept mode S c) (state : State)
-    (log : List Exchange)
-    → StandsAt T c.plan.list c.port state.settled state.stage c.aired k.ups k.downs
-    → IsKept mode T (record c { state = state; log = log })
-with_state mode S T c k state log stands = record {
-  mode_is = k.mode_is;
-  unit_fits = k.unit_fits;
-  port_fits = k.port_fits;
-  of_bytes = k.of_bytes;
-  downs = k.downs;
-  ups = k.ups;
-  down_is = k.down_is;
-  up_is = k.up_is;
-  stands = stands;
-}
+  -- with another controller
+  pub with_state : (T : Claim) (c : LateChannel) (k : IsKept mode S c) (state : State) (log : List Exchange)
+      → StandsAt T c.plan.list c.port state.settled state.stage c.aired k.ups k.downs
+      → IsKept mode T (record c { state = state; log = log })
+  with_state T c k state log stands = record {
+    mode_is = k.mode_is;
+    unit_fits = k.unit_fits;
+    port_fits = k.port_fits;
+    of_bytes = k.of_bytes;
+    downs = k.downs;
+    ups = k.ups;
+    down_is = k.down_is;
+    up_is = k.up_is;
+    stands = stands;
+  }
 
--- with another port, of the same unit and the same catalogue
-pub with_port : (mode : Mode) (S : Claim) → Steady S → (c : LateChannel) (k : IsKept mode S c) (p : ClockedPort)
-    → p.state.unit ≡ c.port.state.unit → p.clips ≡ c.port.clips
-    → Ages (is_selected c.port.state) c.port.state.cued (is_selected p.state) p.state.cued
-    → IsKept mode S (record c { port = p })
-with_port mode S steady c k p same clips ages = record {
-  mode_is = k.mode_is;
-  unit_fits = subst (λ (unit : ℕ). unit < 16) (sym same) k.unit_fits;
-  port_fits = k.port_fits;
-  of_bytes = k.of_bytes;
-  downs = k.downs;
-  ups = k.ups;
-  down_is = subst (λ (unit : ℕ). DownCarries c.plan.list c.plan.port unit c.down k.downs) (sym same) k.down_is;
-  up_is = subst (λ (unit : ℕ). UpCarries mode unit c.up k.ups) (sym same) k.up_is;
-  stands = subst (λ (known : List (ClipId × Timecode)). S c.plan.list known c.state.settled
-      (is_selected p.state) p.state.cued c.aired k.ups k.downs
-      c.state.stage) (sym clips)
-      (steady.ages c.plan.list c.port.clips c.state.settled (is_selected c.port.state) c.port.state.cued
-      (is_selected p.state) p.state.cued c.aired k.ups k.downs
-      c.state.stage ages k.stands);
-}
+  -- with another port, of the same unit and the same catalogue
+  pub with_port : Steady S → (c : LateChannel) (k : IsKept mode S c) (p : ClockedPort)
+      → p.state.unit ≡ c.port.state.unit → p.clips ≡ c.port.clips
+      → Ages (is_selected c.port.state) c.port.state.cued (is_selected p.state) p.state.cued
+      → IsKept mode S (record c { port = p })
+  with_port steady c k p same clips ages = record {
+    mode_is = k.mode_is;
+    unit_fits = subst (λ (unit : ℕ). unit < 16) (sym same) k.unit_fits;
+    port_fits = k.port_fits;
+    of_bytes = k.of_bytes;
+    downs = k.downs;
+    ups = k.ups;
+    down_is = subst (λ (unit : ℕ). DownCarries c.plan.list c.plan.port unit c.down k.downs) (sym same) k.down_is;
+    up_is = subst (λ (unit : ℕ). UpCarries mode unit c.up k.ups) (sym same) k.up_is;
+    stands = subst (λ (known : List (ClipId × Timecode)). S c.plan.list known c.state.settled
+        (is_selected p.state) p.state.cued c.aired k.ups k.downs
+        c.state.stage) (sym clips)
+        (steady.ages c.plan.list c.port.clips c.state.settled (is_selected c.port.state) c.port.state.cued
+        (is_selected p.state) p.state.cued c.aired k.ups k.downs
+        c.state.stage ages k.stands);
+  }
 
--- with other bursts on the way, of which some may be left out
-pub with_down : (mode : Mode) (S : Claim) → Steady S
-    → (c : LateChannel) (k : IsKept mode S c) (down : List (List ℕ))
-    → Left IsJunkDown (IsCommand c.plan.list c.plan.port c.port.state.unit) down k.downs
-    → IsKept mode S (record c { down = down })
-with_down mode S steady c k down l = record {
-  mode_is = k.mode_is;
-  unit_fits = k.unit_fits;
-  port_fits = k.port_fits;
-  of_bytes = k.of_bytes;
-  downs = l.left;
-  ups = k.ups;
-  down_is = l.carries;
-  up_is = k.up_is;
-  stands = steady.thins c.plan.list c.port.clips c.state.settled (is_selected c.port.state) c.port.state.cued c.aired
-      k.ups k.ups k.downs l.left c.state.stage
-      (all_left k.ups) l.thins k.stands;
-}
+  -- with other bursts on the way, of which some may be left out
+  pub with_down : Steady S → (c : LateChannel) (k : IsKept mode S c) (down : List (List ℕ))
+      → Left IsJunkDown (IsCommand c.plan.list c.plan.port c.port.state.unit) down k.downs
+      → IsKept mode S (record c { down = down })
+  with_down steady c k down l = record {
+    mode_is = k.mode_is;
+    unit_fits = k.unit_fits;
+    port_fits = k.port_fits;
+    of_bytes = k.of_bytes;
+    downs = l.left;
+    ups = k.ups;
+    down_is = l.carries;
+    up_is = k.up_is;
+    stands = steady.thins c.plan.list c.port.clips c.state.settled (is_selected c.port.state) c.port.state.cued c.aired
+        k.ups k.ups k.downs l.left c.state.stage
+        (all_left k.ups) l.thins k.stands;
+  }
 
-pub with_up : (mode : Mode) (S : Claim) → Steady S → (c : LateChannel) (k : IsKept mode S c) (up : List (List ℕ))
-    → Left (IsJunkUp mode c.port.state.unit) (IsAnswer c.port.state.unit) up k.ups
-    → IsKept mode S (record c { up = up })
-with_up mode S steady c k up l = record {
-  mode_is = k.mode_is;
-  unit_fits = k.unit_fits;
-  port_fits = k.port_fits;
-  of_bytes = k.of_bytes;
-  downs = k.downs;
-  ups = l.left;
-  down_is = k.down_is;
-  up_is = l.carries;
-  stands = steady.thins c.plan.list c.port.clips c.state.settled (is_selected c.port.state) c.port.state.cued c.aired
-      k.ups l.left k.downs k.downs c.state.stage
-      l.thins (all_left k.downs) k.stands;
-}
+  pub with_up : Steady S → (c : LateChannel) (k : IsKept mode S c) (up : List (List ℕ))
+      → Left (IsJunkUp mode c.port.state.unit) (IsAnswer c.port.state.unit) up k.ups
+      → IsKept mode S (record c { up = up })
+  with_up steady c k up l = record {
+    mode_is = k.mode_is;
+    unit_fits = k.unit_fits;
+    port_fits = k.port_fits;
+    of_bytes = k.of_bytes;
+    downs = k.downs;
+    ups = l.left;
+    down_is = k.down_is;
+    up_is = l.carries;
+    stands = steady.thins c.plan.list c.port.clips c.state.settled (is_selected c.port.state) c.port.state.cued c.aired
+        k.ups l.left k.downs k.downs c.state.stage
+        l.thins (all_left k.downs) k.stands;
+  }
 
--- after a delivery to the port
-pub with_delivery : (mode : Mode) (S : Claim) → Steady S
-    → (c : LateChannel) (k : IsKept mode S c) (burst : List ℕ) (down : List (List ℕ)) (downs : List Phase)
-    → DownCarries c.plan.list c.plan.port c.port.state.unit down downs
-    → Delivered mode S c.plan c.state c.port c.up c.aired burst downs
-    → IsKept mode S (record c {
-      port = after_burst c.port burst;
-      down = down;
-      up = c.up ++ bursts_of (sent_for c.port burst);
-      aired = c.aired ++ aired_for c.port burst;
-    })
-with_delivery mode S steady c k burst down downs down_is d = record {
-  mode_is = k.mode_is;
-  unit_fits = subst (λ (unit : ℕ). unit < 16) (sym d.unit_same) k.unit_fits;
-  port_fits = k.port_fits;
-  of_bytes = k.of_bytes;
-  downs = downs;
-  ups = d.ups;
-  down_is = subst (λ (unit : ℕ). DownCarries c.plan.list c.plan.port unit down downs) (sym d.unit_same) down_is;
-  up_is = subst (λ (unit : ℕ). UpCarries mode unit (c.up ++ bursts_of (sent_for c.port burst)) d.ups)
-      (sym d.unit_same) d.up_is;
-  stands = d.stands;
-}
+  -- after a delivery to the port
+  pub with_delivery : Steady S → (c : LateChannel) (k : IsKept mode S c) (burst : List ℕ) (down : List (List ℕ))
+      (downs : List Phase) → DownCarries c.plan.list c.plan.port c.port.state.unit down downs
+      → Delivered mode S c.plan c.state c.port c.up c.aired burst downs
+      → IsKept mode S (record c {
+        port = after_burst c.port burst;
+        down = down;
+        up = c.up ++ bursts_of
+            (sent_for c.port burst);
+        aired = c.aired ++ aired_for c.port burst;
+      })
+  with_delivery steady c k burst down downs down_is d = record {
+    mode_is = k.mode_is;
+    unit_fits = subst (λ (unit : ℕ). unit < 16) (sym d.unit_same) k.unit_fits;
+    port_fits = k.port_fits;
+    of_bytes = k.of_bytes;
+    downs = downs;
+    ups = d.ups;
+    down_is = subst (λ (unit : ℕ). DownCarries c.plan.list c.plan.port unit down downs) (sym d.unit_same) down_is;
+    up_is = subst (λ (unit : ℕ). UpCarries mode unit (c.up ++ bursts_of (sent_for c.port burst)) d.ups)
+        (sym d.unit_same) d.up_is;
+    stands = d.stands;
+  }

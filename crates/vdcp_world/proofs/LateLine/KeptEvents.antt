@@ -68,90 +68,89 @@ pub record Ticked (mode : Mode) (S : Claim) (c : LateChannel) (ups : List Answer
   pub stands : StandsAt (ExactlyIn S (after_late_event c event.Tick)) c.plan.list c.port (ticked c.state).settled
       (ticked c.state).stage c.aired ups downs
 
--- what is sent neither plays nor arms, or its phase says what aired
-exact_sent : (mode : Mode) (S : Claim) → Closed mode S
-    → (list : List Item) (clips : List (ClipId × Timecode)) (settled : ℕ) (s : Bool) (a : Cued) (aired : List Item)
-    (ups : List Answer) (downs : List Phase) (q : Phase) (b : Bool) → is_exact_in q ≡ b → plays q ≡ false
-    → S list clips settled s a aired ups (downs ++ q ∷ []) (Awaiting q) → Exact list settled s a aired downs
-    → Exact list settled s a aired (downs ++ q ∷ [])
-exact_sent mode S closed list clips settled s a aired ups downs q true is silent h e =
-    closed.exact list clips settled s a aired ups (downs ++ q ∷ []) (Awaiting q) is h
-exact_sent mode S closed list clips settled s a aired ups downs q false is silent h e =
-    exact_sends list settled s a aired downs q silent (no_arm q is) e
+module _ (mode : Mode) (S : Claim) where
+  -- what is sent neither plays nor arms, or its phase says what aired
+  exact_sent : Closed mode S → (list : List Item) (clips : List (ClipId × Timecode)) (settled : ℕ) (s : Bool) (a : Cued)
+      (aired : List Item) (ups : List Answer) (downs : List Phase) (q : Phase) (b : Bool) → is_exact_in q ≡ b
+      → plays q ≡ false → S list clips settled s a aired ups (downs ++ q ∷ []) (Awaiting q)
+      → Exact list settled s a aired downs → Exact list settled s a aired (downs ++ q ∷ [])
+  exact_sent closed list clips settled s a aired ups downs q true is silent h e =
+      closed.exact list clips settled s a aired ups (downs ++ q ∷ []) (Awaiting q) is h
+  exact_sent closed list clips settled s a aired ups downs q false is silent h e =
+      exact_sends list settled s a aired downs q silent (no_arm q is) e
 
-ticked_kept : (mode : Mode) (S : Claim) → Closed mode S → Below
-    → (c : LateChannel) (k : IsKept mode (ExactlyIn S c) c) → Ticked mode S c k.ups
-ticked_kept mode S closed below c k =
-    let (downs, queue, h) = at c.state.stage k.stands in record { downs = downs; down_is = queue; stands = h }
-  where
-    unit : ℕ
-    unit = c.port.state.unit
+  ticked_kept : Closed mode S → Below → (c : LateChannel) (k : IsKept mode (ExactlyIn S c) c) → Ticked mode S c k.ups
+  ticked_kept closed below c k =
+      let (downs, queue, h) = at c.state.stage k.stands in record { downs = downs; down_is = queue; stands = h }
+    where
+      unit : ℕ
+      unit = c.port.state.unit
 
-    -- what may have aired, if the controller is at this stage
-    may_at : Stage → Bool
-    may_at stage =
-        may_have_aired c.plan.mode (logged c.log (exchange_of c.plan.mode None (awaited_in c.plan stage)))
+      -- what may have aired, if the controller is at this stage
+      may_at : Stage → Bool
+      may_at stage =
+          may_have_aired c.plan.mode (logged c.log (exchange_of c.plan.mode None (awaited_in c.plan stage)))
 
-    Queue : Option Command → List Phase → Type 0
-    Queue o downs = DownCarries c.plan.list c.plan.port unit (c.down ++ command_bursts unit o) downs
+      Queue : Option Command → List Phase → Type 0
+      Queue o downs = DownCarries c.plan.list c.plan.port unit (c.down ++ command_bursts unit o) downs
 
-    After : State → List Phase → Type 0
-    After state downs =
-        StandsAt (Exactly S (may_at state.stage)) c.plan.list c.port state.settled state.stage c.aired k.ups downs
+      After : State → List Phase → Type 0
+      After state downs =
+          StandsAt (Exactly S (may_at state.stage)) c.plan.list c.port state.settled state.stage c.aired k.ups downs
 
-    Goal : Stage → Type 0
-    Goal stage =
-        (downs : List Phase) × Queue (given_in c.plan c.state.stop stage) downs × After (tick_in stage c.state) downs
+      Goal : Stage → Type 0
+      Goal stage =
+          (downs : List Phase) × Queue (given_in c.plan c.state.stop stage) downs × After (tick_in stage c.state) downs
 
-    sent : (q : Phase) → (o : Option Command) → command_in c.plan.list c.plan.port q ≡ o
-        → StandsAt (Exactly S (may_at (Awaiting q))) c.plan.list c.port c.state.settled (Awaiting q) c.aired k.ups
-        (k.downs ++ q ∷ [])
-        → (downs : List Phase) × Queue o downs × StandsAt (Exactly S (may_at (Awaiting q))) c.plan.list c.port
-        c.state.settled (Awaiting q) c.aired k.ups downs
-    sent q None is h = (
-      k.downs,
-      carries_same IsJunkDown (IsCommand c.plan.list c.plan.port unit) c.down k.downs k.down_is,
-      (exactly S (may_at (Awaiting q)) closed.steady).thins c.plan.list c.port.clips c.state.settled
-          (is_selected c.port.state) c.port.state.cued c.aired k.ups k.ups (k.downs ++ q ∷ []) k.downs (Awaiting q)
-          (all_left k.ups) (last_left k.downs q) h,
-    )
-    sent q (Some d) is h = (
-      k.downs ++ q ∷ [],
-      carries_pushed IsJunkDown (IsCommand c.plan.list c.plan.port unit) c.down k.downs
-          (spelling (command_message unit d)) q (
-            d,
-            is,
-            below.alone (command_message unit d) (below.command_fits unit d (omega (arith, k.unit_fits))
-                (writable below c.plan q d k.of_bytes k.port_fits is)),
-          )
-          k.down_is,
-      h,
-    )
+      sent : (q : Phase) → (o : Option Command) → command_in c.plan.list c.plan.port q ≡ o
+          → StandsAt (Exactly S (may_at (Awaiting q))) c.plan.list c.port c.state.settled (Awaiting q) c.aired k.ups
+          (k.downs ++ q ∷ [])
+          → (downs : List Phase) × Queue o downs × StandsAt (Exactly S (may_at (Awaiting q))) c.plan.list c.port
+          c.state.settled (Awaiting q) c.aired k.ups downs
+      sent q None is h = (
+        k.downs,
+        carries_same IsJunkDown (IsCommand c.plan.list c.plan.port unit) c.down k.downs k.down_is,
+        (exactly S (may_at (Awaiting q)) closed.steady).thins c.plan.list c.port.clips c.state.settled
+            (is_selected c.port.state) c.port.state.cued c.aired k.ups k.ups (k.downs ++ q ∷ []) k.downs (Awaiting q)
+            (all_left k.ups) (last_left k.downs q) h,
+      )
+      sent q (Some d) is h = (
+        k.downs ++ q ∷ [],
+        carries_pushed IsJunkDown (IsCommand c.plan.list c.plan.port unit) c.down k.downs
+            (spelling (command_message unit d)) q (
+              d,
+              is,
+              below.alone (command_message unit d) (below.command_fits unit d (omega (arith, k.unit_fits))
+                  (writable below c.plan q d k.of_bytes k.port_fits is)),
+            )
+            k.down_is,
+        h,
+      )
 
-    sending : (q : Phase) → S c.plan.list c.port.clips c.state.settled (is_selected c.port.state) c.port.state.cued
-        c.aired k.ups (k.downs ++ q ∷ []) (Awaiting q)
-        → (may_have_aired c.plan.mode c.log ≡ false → Exact c.plan.list c.state.settled (is_selected c.port.state)
-        c.port.state.cued c.aired k.downs)
-        → StandsAt (Exactly S (may_at (Awaiting q))) c.plan.list c.port c.state.settled (Awaiting q) c.aired k.ups
-        (k.downs ++ q ∷ [])
-    sending q h was = record {
-      stands = h;
-      exact = λ e.
-          let none = sent_may below.airing_grows c.plan c.log q (command_in c.plan.list c.plan.port q) refl e in
-          exact_sent mode S closed c.plan.list c.port.clips c.state.settled (is_selected c.port.state) c.port.state.cued
-          c.aired k.ups k.downs q (is_exact_in q) refl none.0 h (was none.1);
-    }
+      sending : (q : Phase) → S c.plan.list c.port.clips c.state.settled (is_selected c.port.state) c.port.state.cued
+          c.aired k.ups (k.downs ++ q ∷ []) (Awaiting q)
+          → (may_have_aired c.plan.mode c.log ≡ false → Exact c.plan.list c.state.settled (is_selected c.port.state)
+          c.port.state.cued c.aired k.downs)
+          → StandsAt (Exactly S (may_at (Awaiting q))) c.plan.list c.port c.state.settled (Awaiting q) c.aired k.ups
+          (k.downs ++ q ∷ [])
+      sending q h was = record {
+        stands = h;
+        exact = λ e.
+            let none = sent_may below.airing_grows c.plan c.log q (command_in c.plan.list c.plan.port q) refl e in
+            exact_sent closed c.plan.list c.port.clips c.state.settled (is_selected c.port.state) c.port.state.cued
+            c.aired k.ups k.downs q (is_exact_in q) refl none.0 h (was none.1);
+      }
 
-    at : (stage : Stage)
-        → StandsAt (Exactly S (may_at stage)) c.plan.list c.port c.state.settled stage c.aired k.ups k.downs
-        → Goal stage
-    at (Ready q) h =
-        sent (phase_to_send c.state.stop q) (command_in c.plan.list c.plan.port (phase_to_send c.state.stop q)) refl
-        (sending (phase_to_send c.state.stop q)
-        (closed.sends c.plan.list c.port.clips c.state.settled (is_selected c.port.state) c.port.state.cued c.aired
-        k.ups k.downs c.state.stop q h.stands) h.exact)
-    at _ h =
-        (k.downs, carries_same IsJunkDown (IsCommand c.plan.list c.plan.port unit) c.down k.downs k.down_is, k.stands)
+      at : (stage : Stage)
+          → StandsAt (Exactly S (may_at stage)) c.plan.list c.port c.state.settled stage c.aired k.ups k.downs
+          → Goal stage
+      at (Ready q) h =
+          sent (phase_to_send c.state.stop q) (command_in c.plan.list c.plan.port (phase_to_send c.state.stop q)) refl
+          (sending (phase_to_send c.state.stop q)
+          (closed.sends c.plan.list c.port.clips c.state.settled (is_selected c.port.state) c.port.state.cued c.aired
+          k.ups k.downs c.state.stop q h.stands) h.exact)
+      at _ h =
+          (k.downs, carries_same IsJunkDown (IsCommand c.plan.list c.plan.port unit) c.down k.downs k.down_is, k.stands)
 
 -- ---- the port reads the oldest burst
 
@@ -283,58 +282,56 @@ hears mode S c k (burst ∷ rest) e =
     by (inl (junk, more)) = inl junk
     by (inr (x, others, first, is, more)) = inr (x, others, first, is)
 
-hearing_kept : (mode : Mode) (S : Claim) → Closed mode S → Below
-    → (c : LateChannel) (k : IsKept mode (ExactlyIn S c) c) → Reached c.plan c.state c.log → (came : Option Heard)
-    → Comes mode k.ups came
-    → Heard_at S c k.ups k.downs (state_hearing c.plan came c.state) (log_hearing c.plan came c.state c.log)
-hearing_kept mode S closed below c k r None comes = k.stands
-hearing_kept mode S closed below c k r (Some h) comes = came_kept mode S closed below c k r (Some h) comes
+module _ (mode : Mode) where
+  hearing_kept : (S : Claim) → Closed mode S → Below → (c : LateChannel) (k : IsKept mode (ExactlyIn S c) c)
+      → Reached c.plan c.state c.log → (came : Option Heard) → Comes mode k.ups came
+      → Heard_at S c k.ups k.downs (state_hearing c.plan came c.state) (log_hearing c.plan came c.state c.log)
+  hearing_kept S closed below c k r None comes = k.stands
+  hearing_kept S closed below c k r (Some h) comes = came_kept mode S closed below c k r (Some h) comes
 
-up_copy_kept : (mode : Mode) (S : Claim) → Closed mode S → Below
-    → (c : LateChannel) (k : IsKept mode (ExactlyIn S c) c) → Reached c.plan c.state c.log
-    → IsKept mode (ExactlyIn S (after_late_event c event.UpCopy)) (after_late_event c event.UpCopy)
-up_copy_kept mode S closed below c k r =
-    let came : Option Heard = heard_in c.port.state.unit (oldest c.up) in
-    with_state mode (ExactlyIn S c) (ExactlyIn S (after_late_event c event.UpCopy)) c k
-    (state_hearing c.plan came c.state) (log_hearing c.plan came c.state c.log)
-    (hearing_kept mode S closed below c k r came (hears mode (ExactlyIn S c) c k c.up refl))
+  up_copy_kept : (S : Claim) → Closed mode S → Below → (c : LateChannel) (k : IsKept mode (ExactlyIn S c) c)
+      → Reached c.plan c.state c.log → IsKept mode (ExactlyIn S (after_late_event c event.UpCopy))
+      (after_late_event c event.UpCopy)
+  up_copy_kept S closed below c k r =
+      let came : Option Heard = heard_in c.port.state.unit (oldest c.up) in
+      with_state mode (ExactlyIn S c) (ExactlyIn S (after_late_event c event.UpCopy)) c k
+      (state_hearing c.plan came c.state) (log_hearing c.plan came c.state c.log)
+      (hearing_kept S closed below c k r came (hears mode (ExactlyIn S c) c k c.up refl))
 
--- a receipt from nowhere
-stray_kept : (mode : Mode) (S : Claim) → Closed mode S → Below
-    → (c : LateChannel) (k : IsKept mode (ExactlyIn S c) c) → Reached c.plan c.state c.log → (receipt : Reply)
-    → is_receipt receipt ≡ true
-    → Heard_at S c k.ups k.downs (state_straying c.plan.mode c.plan receipt c.state)
-    (log_straying c.plan.mode c.plan receipt c.state c.log)
-stray_kept mode S closed below c k r receipt is = subst Goal (sym k.mode_is) (by mode refl)
-  where
-    Goal : Mode → Type 0
-    Goal m = Heard_at S c k.ups k.downs (state_straying m c.plan receipt c.state)
-        (log_straying m c.plan receipt c.state c.log)
+  -- a receipt from nowhere
+  stray_kept : (S : Claim) → Closed mode S → Below → (c : LateChannel) (k : IsKept mode (ExactlyIn S c) c)
+      → Reached c.plan c.state c.log → (receipt : Reply) → is_receipt receipt ≡ true
+      → Heard_at S c k.ups k.downs (state_straying c.plan.mode c.plan receipt c.state) (log_straying c.plan.mode c.plan
+      receipt c.state c.log)
+  stray_kept S closed below c k r receipt is = subst Goal (sym k.mode_is) (by mode refl)
+    where
+      Goal : Mode → Type 0
+      Goal m = Heard_at S c k.ups k.downs (state_straying m c.plan receipt c.state)
+          (log_straying m c.plan receipt c.state c.log)
 
-    by : (m : Mode) → mode ≡ m → Goal m
-    by Plain e = k.stands
-    by Confirming e = came_kept mode S closed below c k r (Some (heard.Reply receipt))
-        (inl (ap (λ (x : Mode). is_no_answer x (Some (heard.Reply receipt))) e ∙ is))
+      by : (m : Mode) → mode ≡ m → Goal m
+      by Plain e = k.stands
+      by Confirming e = came_kept mode S closed below c k r (Some (heard.Reply receipt))
+          (inl (ap (λ (x : Mode). is_no_answer x (Some (heard.Reply receipt))) e ∙ is))
 
--- something was heard, and the oldest burst is gone
-with_hearing : (mode : Mode) (S T : Claim) → Steady T
-    → (c : LateChannel) (k : IsKept mode S c) (state : State) (up : List (List ℕ)) (log : List Exchange)
-    → Left (IsJunkUp mode c.port.state.unit) (IsAnswer c.port.state.unit) up k.ups
-    → StandsAt T c.plan.list c.port state.settled state.stage c.aired k.ups k.downs
-    → IsKept mode T (record c { state = state; up = up; log = log })
-with_hearing mode S T steady c k state up log l stands = record {
-  mode_is = k.mode_is;
-  unit_fits = k.unit_fits;
-  port_fits = k.port_fits;
-  of_bytes = k.of_bytes;
-  downs = k.downs;
-  ups = l.left;
-  down_is = k.down_is;
-  up_is = l.carries;
-  stands = steady.thins c.plan.list c.port.clips state.settled (is_selected c.port.state) c.port.state.cued c.aired
-      k.ups l.left k.downs k.downs state.stage
-      l.thins (all_left k.downs) stands;
-}
+  -- something was heard, and the oldest burst is gone
+  with_hearing : (S T : Claim) → Steady T → (c : LateChannel) (k : IsKept mode S c) (state : State) (up : List (List ℕ))
+      (log : List Exchange) → Left (IsJunkUp mode c.port.state.unit) (IsAnswer c.port.state.unit) up k.ups
+      → StandsAt T c.plan.list c.port state.settled state.stage c.aired k.ups k.downs
+      → IsKept mode T (record c { state = state; up = up; log = log })
+  with_hearing S T steady c k state up log l stands = record {
+    mode_is = k.mode_is;
+    unit_fits = k.unit_fits;
+    port_fits = k.port_fits;
+    of_bytes = k.of_bytes;
+    downs = k.downs;
+    ups = l.left;
+    down_is = k.down_is;
+    up_is = l.carries;
+    stands = steady.thins c.plan.list c.port.clips state.settled (is_selected c.port.state) c.port.state.cued c.aired
+        k.ups l.left k.downs k.downs state.stage
+        l.thins (all_left k.downs) stands;
+  }
 
 up_kept : (mode : Mode) (S : Claim) → Closed mode S → Below
     → (c : LateChannel) (k : IsKept mode (ExactlyIn S c) c) → Reached c.plan c.state c.log

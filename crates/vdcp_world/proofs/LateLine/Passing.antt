@@ -138,37 +138,38 @@ own_wait n k d below l = absurd (omega arith)
 pub fits_as : (a : Answer) (q : Phase) → a.to ≡ q → misfits a ≡ false → fits_phase q a.reply ≡ true
 fits_as a q is m = subst (λ (p : Phase). fits_phase p a.reply ≡ true) is (not-false (fits_phase a.to a.reply) m)
 
-pub exists_no_ack : (n k : ℕ) (ups : List Answer) (downs : List Phase) → k < n → list_any misfits ups ≡ false
-    → Climbs (5 * k + 2) (5 * k + 2) (stretches Plain n (pipe_of ups downs)) → list_any says_ack ups ≡ false
-exists_no_ack n k ups downs below fit c =
-    none_answers Plain n (5 * k + 2) (5 * k + 2) misfits says_ack ups
-    (λ a l m. presence_fits a.reply (fits_as a (phase.Exists k) (own_exists n k a.to below l) m))
-    (ups_climb Plain n (5 * k + 2) (5 * k + 2) ups downs c) fit
+module _ (n k : ℕ) (ups : List Answer) (downs : List Phase) where
+  pub exists_no_ack : k < n → list_any misfits ups ≡ false → Climbs (5 * k + 2) (5 * k + 2)
+      (stretches Plain n (pipe_of ups downs)) → list_any says_ack ups ≡ false
+  exists_no_ack below fit c =
+      none_answers Plain n (5 * k + 2) (5 * k + 2) misfits says_ack ups (λ a l m. presence_fits a.reply
+      (fits_as a (phase.Exists k) (own_exists n k a.to below l) m)) (ups_climb Plain n (5 * k + 2) (5 * k + 2) ups downs
+      c) fit
 
-pub cue_no_state : (n k : ℕ) (ups : List Answer) (downs : List Phase) → k < n → list_any misfits ups ≡ false
-    → Climbs (5 * k + 3) (5 * k + 3) (stretches Plain n (pipe_of ups downs)) → list_any says_done ups ≡ false
-cue_no_state n k ups downs below fit c =
-    none_answers Plain n (5 * k + 3) (5 * k + 3) misfits says_done ups
-    (λ a l m. (ack_fits a.reply (fits_as a (phase.Cue k) (own_cue n k a.to below l) m)).0)
-    (ups_climb Plain n (5 * k + 3) (5 * k + 3) ups downs c) fit
+  pub cue_no_state : k < n → list_any misfits ups ≡ false → Climbs (5 * k + 3) (5 * k + 3)
+      (stretches Plain n (pipe_of ups downs)) → list_any says_done ups ≡ false
+  cue_no_state below fit c =
+      none_answers Plain n (5 * k + 3) (5 * k + 3) misfits says_done ups
+      (λ a l m. (ack_fits a.reply (fits_as a (phase.Cue k) (own_cue n k a.to below l) m)).0)
+      (ups_climb Plain n (5 * k + 3) (5 * k + 3) ups downs c) fit
 
-pub cue_shows_none : (n k : ℕ) (ups : List Answer) (downs : List Phase) → k < n → list_any misfits ups ≡ false
-    → Climbs (5 * k + 3) (5 * k + 3) (stretches Plain n (pipe_of ups downs)) → list_any shows_no_cue ups ≡ false
-cue_shows_none n k ups downs below fit c =
-    none_answers Plain n (5 * k + 3) (5 * k + 3) misfits shows_no_cue ups
-    (λ a l m. ap (λ (p : Phase). waits p && is_empty a.reply) (own_cue n k a.to below l))
-    (ups_climb Plain n (5 * k + 3) (5 * k + 3) ups downs c) fit
+  pub cue_shows_none : k < n → list_any misfits ups ≡ false → Climbs (5 * k + 3) (5 * k + 3)
+      (stretches Plain n (pipe_of ups downs)) → list_any shows_no_cue ups ≡ false
+  cue_shows_none below fit c =
+      none_answers Plain n (5 * k + 3) (5 * k + 3) misfits shows_no_cue ups
+      (λ a l m. ap (λ (p : Phase). waits p && is_empty a.reply) (own_cue n k a.to below l))
+      (ups_climb Plain n (5 * k + 3) (5 * k + 3) ups downs c) fit
 
-pub wait_no_ack : (n k : ℕ) (ups : List Answer) (downs : List Phase) → k < n → list_any misfits ups ≡ false
-    → Climbs (5 * k + 4) (5 * k + 4) (stretches Plain n (pipe_of ups downs)) → list_any says_ack ups ≡ false
-wait_no_ack n k ups downs below fit c =
-    none_answers Plain n (5 * k + 4) (5 * k + 4) misfits says_ack ups
-    (λ a l m. state_fits a.reply (fits_as a (phase.Wait k) (own_wait n k a.to below l) m))
-    (ups_climb Plain n (5 * k + 4) (5 * k + 4) ups downs c) fit
+  pub wait_no_ack : k < n → list_any misfits ups ≡ false → Climbs (5 * k + 4) (5 * k + 4)
+      (stretches Plain n (pipe_of ups downs)) → list_any says_ack ups ≡ false
+  wait_no_ack below fit c =
+      none_answers Plain n (5 * k + 4) (5 * k + 4) misfits says_ack ups (λ a l m. state_fits a.reply
+      (fits_as a (phase.Wait k) (own_wait n k a.to below l) m)) (ups_climb Plain n (5 * k + 4) (5 * k + 4) ups downs c)
+      fit
 
-pub wait_no_empty : (n k : ℕ) (ups : List Answer) (downs : List Phase) → k < n → list_any shows_no_cue ups ≡ false
-    → Climbs (5 * k + 4) (5 * k + 4) (stretches Plain n (pipe_of ups downs)) → list_any says_empty ups ≡ false
-wait_no_empty n k ups downs below none c =
-    none_answers Plain n (5 * k + 4) (5 * k + 4) shows_no_cue says_empty ups
-    (λ a l m. sym (ap (λ (p : Phase). waits p && is_empty a.reply) (own_wait n k a.to below l)) ∙ m)
-    (ups_climb Plain n (5 * k + 4) (5 * k + 4) ups downs c) none
+  pub wait_no_empty : k < n → list_any shows_no_cue ups ≡ false
+      → Climbs (5 * k + 4) (5 * k + 4) (stretches Plain n (pipe_of ups downs)) → list_any says_empty ups ≡ false
+  wait_no_empty below none c =
+      none_answers Plain n (5 * k + 4) (5 * k + 4) shows_no_cue says_empty ups
+      (λ a l m. sym (ap (λ (p : Phase). waits p && is_empty a.reply) (own_wait n k a.to below l)) ∙ m)
+      (ups_climb Plain n (5 * k + 4) (5 * k + 4) ups downs c) none

@@ -29,99 +29,93 @@ near_same list aired airs settled e h = subst (λ (a : List Item). Near list a s
 
 -- ---- the port reads the oldest command
 
-last_same : (list : List Item) (settled : ℕ) (s : Bool) (a : Cued) (aired : List Item) (t : Bool) (b : Cued)
-    (airs : List Item)
-    → (t ≡ true → s ≡ true) → (b ≡ empty) ⊎ (b ≡ a) → airs ≡ [] → LastCue list settled s a aired
-    → LastCue list settled t b (aired ++ airs)
-last_same list settled s a aired t b airs ts (inl none) e h = inl (λ _. none)
-last_same list settled s a aired t b airs ts (inr ba) e (inl h) = inl (none_same s t a b ts ba h)
-last_same list settled s a aired t b airs ts (inr ba) e (inr (is, within, h)) =
-    inr (aired_same aired airs e ∙ is, within, item_same list s t a b settled ts ba h)
+module _ (list : List Item) (settled : ℕ) (s : Bool) where
+  last_same : (a : Cued) (aired : List Item) (t : Bool) (b : Cued) (airs : List Item) → (t ≡ true → s ≡ true)
+      → (b ≡ empty) ⊎ (b ≡ a) → airs ≡ [] → LastCue list settled s a aired → LastCue list settled t b (aired ++ airs)
+  last_same a aired t b airs ts (inl none) e h = inl (λ _. none)
+  last_same a aired t b airs ts (inr ba) e (inl h) = inl (none_same s t a b ts ba h)
+  last_same a aired t b airs ts (inr ba) e (inr (is, within, h)) =
+      inr (aired_same aired airs e ∙ is, within, item_same list s t a b settled ts ba h)
 
--- a port that airs its item, whatever its cue
-last_played : (list : List Item) (settled : ℕ) (s : Bool) (a : Cued) (aired : List Item) (t : Bool) (b : Cued)
-    (airs : List Item)
-    → s ≡ true → t ≡ s → b ≡ left_cued a → airs ≡ put_on_air a → Near list aired settled
-    → LastCue list settled s a aired
-    → Near list (aired ++ airs) settled × LastCue list settled t b (aired ++ airs)
-last_played list settled s a aired t b airs on ts ba plays near (inl h) =
-    let e = airs_nothing a (h on) in (
-      near_same list aired airs settled (plays ∙ e.0) near,
-      last_same list settled s a aired t b airs (no_more s t ts)
-          (inr (ba ∙ e.1)) (plays ∙ e.0) (inl h),
-    )
-last_played list settled s empty aired t b airs on ts ba plays near (inr h) =
-    (near_same list aired airs settled plays near, inl (λ _. ba))
-last_played list settled s (cueing x) aired t b airs on ts ba plays near (inr h) = (
-  near_same list aired airs settled plays near,
-  last_same list settled s (cueing x) aired t b airs (no_more s t ts)
-      (inr ba) plays (inr h),
-)
-last_played list settled s (done x) aired t b airs on ts ba plays near (inr (is, within, h)) =
-    let e = ap (λ (more : List Item). aired ++ more) plays ∙ airs_item list aired settled (done x) within is
-    (h on) refl in
-    (near_of list (aired ++ airs) settled (settled + 1) e (omega arith) (omega arith) (omega arith), inl (λ _. ba))
+  -- a port that airs its item, whatever its cue
+  last_played : (a : Cued) (aired : List Item) (t : Bool) (b : Cued) (airs : List Item) → s ≡ true → t ≡ s
+      → b ≡ left_cued a → airs ≡ put_on_air a → Near list aired settled → LastCue list settled s a aired
+      → Near list (aired ++ airs) settled × LastCue list settled t b (aired ++ airs)
+  last_played a aired t b airs on ts ba plays near (inl h) =
+      let e = airs_nothing a (h on) in (
+        near_same list aired airs settled (plays ∙ e.0) near,
+        last_same a aired t b airs (no_more s t ts)
+            (inr (ba ∙ e.1)) (plays ∙ e.0) (inl h),
+      )
+  last_played empty aired t b airs on ts ba plays near (inr h) =
+      (near_same list aired airs settled plays near, inl (λ _. ba))
+  last_played (cueing x) aired t b airs on ts ba plays near (inr h) = (
+    near_same list aired airs settled plays near,
+    last_same (cueing x) aired t b airs (no_more s t ts)
+        (inr ba) plays (inr h),
+  )
+  last_played (done x) aired t b airs on ts ba plays near (inr (is, within, h)) =
+      let e = ap (λ (more : List Item). aired ++ more) plays ∙ airs_item list aired settled (done x) within is
+      (h on) refl in
+      (near_of list (aired ++ airs) settled (settled + 1) e (omega arith) (omega arith) (omega arith), inl (λ _. ba))
 
-unarmed_does : (list : List Item) (settled : ℕ) (s : Bool) (a : Cued) (aired : List Item) (d : Phase) (r : Reply)
-    (t : Bool) (b : Cued) (airs : List Item)
-    → arms d ≡ false → Near list aired settled → LastCue list settled s a aired → Does list d s a r t b airs
-    → Near list (aired ++ airs) settled × LastCue list settled t b (aired ++ airs)
-unarmed_does list settled s a aired phase.Select r t b airs e near h x = cc
-unarmed_does list settled s a aired (phase.Cue k) r t b airs e near h x = cc
-unarmed_does list settled s a aired (phase.Wait k) r t b airs e near h x = (
-  near_same list aired airs settled x.0.2 near,
-  last_same list settled s a aired t b airs (no_more s t x.0.0)
-      (inr x.0.1) x.0.2 h,
-)
-unarmed_does list settled s a aired (phase.Play k) r t b airs e near h x = by x.1
-  where
-    by : ((s ≡ false) × (b ≡ a) × (airs ≡ []) × (is_ack r ≡ false)) ⊎
-        ((s ≡ true) × (b ≡ left_cued a) × (airs ≡ put_on_air a))
-        → Near list (aired ++ airs) settled × LastCue list settled t b (aired ++ airs)
-    by (inl (off, ba, none, no_ack)) = (
-      near_same list aired airs settled none near,
-      last_same list settled s a aired t
-          b airs (no_more s t x.0) (inr ba) none h,
-    )
-    by (inr (on, ba, plays)) = last_played list settled s a aired t b airs on x.0 ba plays near h
-unarmed_does list settled s a aired (phase.Probe k) r t b airs e near h x = (
-  near_same list aired airs settled x.0.2 near,
-  last_same list settled s a aired t b airs (no_more s t x.0.0)
-      (inr x.0.1) x.0.2 h,
-)
-unarmed_does list settled s a aired phase.Close r t b airs e near h x =
-    (near_same list aired airs settled x.1 near, last_same list settled s a aired t b airs x.0 x.2 x.1 h)
-unarmed_does list settled s a aired phase.Halt r t b airs e near h x =
-    (near_same list aired airs settled x.1 near, last_same list settled s a aired t b airs x.0 x.2 x.1 h)
-unarmed_does list settled s a aired phase.HaltClose r t b airs e near h x =
-    (near_same list aired airs settled x.1 near, last_same list settled s a aired t b airs x.0 x.2 x.1 h)
-unarmed_does list settled s a aired _ r t b airs e near h x = (
-  near_same list aired airs settled x.2 near,
-  last_same list settled s a aired t b airs (no_more s t x.0) (inr x.1)
-      x.2 h,
-)
+  unarmed_does : (a : Cued) (aired : List Item) (d : Phase) (r : Reply) (t : Bool) (b : Cued) (airs : List Item)
+      → arms d ≡ false → Near list aired settled → LastCue list settled s a aired → Does list d s a r t b airs
+      → Near list (aired ++ airs) settled × LastCue list settled t b (aired ++ airs)
+  unarmed_does a aired phase.Select r t b airs e near h x = cc
+  unarmed_does a aired (phase.Cue k) r t b airs e near h x = cc
+  unarmed_does a aired (phase.Wait k) r t b airs e near h x = (
+    near_same list aired airs settled x.0.2 near,
+    last_same a aired t b airs (no_more s t x.0.0)
+        (inr x.0.1) x.0.2 h,
+  )
+  unarmed_does a aired (phase.Play k) r t b airs e near h x = by x.1
+    where
+      by : ((s ≡ false) × (b ≡ a) × (airs ≡ []) × (is_ack r ≡ false)) ⊎
+          ((s ≡ true) × (b ≡ left_cued a) × (airs ≡ put_on_air a))
+          → Near list (aired ++ airs) settled × LastCue list settled t b (aired ++ airs)
+      by (inl (off, ba, none, no_ack)) = (
+        near_same list aired airs settled none near,
+        last_same a aired t
+            b airs (no_more s t x.0) (inr ba) none h,
+      )
+      by (inr (on, ba, plays)) = last_played a aired t b airs on x.0 ba plays near h
+  unarmed_does a aired (phase.Probe k) r t b airs e near h x = (
+    near_same list aired airs settled x.0.2 near,
+    last_same a aired t b airs (no_more s t x.0.0)
+        (inr x.0.1) x.0.2 h,
+  )
+  unarmed_does a aired phase.Close r t b airs e near h x =
+      (near_same list aired airs settled x.1 near, last_same a aired t b airs x.0 x.2 x.1 h)
+  unarmed_does a aired phase.Halt r t b airs e near h x =
+      (near_same list aired airs settled x.1 near, last_same a aired t b airs x.0 x.2 x.1 h)
+  unarmed_does a aired phase.HaltClose r t b airs e near h x =
+      (near_same list aired airs settled x.1 near, last_same a aired t b airs x.0 x.2 x.1 h)
+  unarmed_does a aired _ r t b airs e near h x = (
+    near_same list aired airs settled x.2 near,
+    last_same a aired t b airs (no_more s t x.0) (inr x.1)
+        x.2 h,
+  )
 
-pub safe_keeps : (list : List Item) (settled : ℕ) (s : Bool) (a : Cued) (aired : List Item) (d : Phase)
-    (downs : List Phase) (r : Reply) (t : Bool) (b : Cued)
-    (airs : List Item)
-    → Safe list settled s a aired (d ∷ downs) → Executed list d s a r t b airs
-    → Safe list settled t b (aired ++ airs) downs
-safe_keeps list settled s a aired d downs r t b airs h x = by h.calm
-  where
-    by : (list_any plays (d ∷ downs) ≡ false) ⊎ Unarmed list settled s a aired (d ∷ downs)
-        → Safe list settled t b (aired ++ airs) downs
-    by (inl none) = record {
-      near = near_same list aired airs settled
-          (airs_none list d s a r t b airs (or_parts (plays d) (list_any plays downs) none).0 x.does) h.near;
-      calm = inl (or_parts (plays d) (list_any plays downs) none).1;
-    }
-    by (inr u) =
-        let after = unarmed_does list settled s a aired d r t b airs
-        (or_parts (arms d) (list_any arms downs) u.none_arms).0 h.near u.last x.does in
-        record {
-          near = after.0;
-          calm = inr (record { none_arms = (or_parts (arms d) (list_any arms downs) u.none_arms).1; last = after.1 });
-        }
+  pub safe_keeps : (a : Cued) (aired : List Item) (d : Phase) (downs : List Phase) (r : Reply) (t : Bool) (b : Cued)
+      (airs : List Item) → Safe list settled s a aired (d ∷ downs) → Executed list d s a r t b airs
+      → Safe list settled t b (aired ++ airs) downs
+  safe_keeps a aired d downs r t b airs h x = by h.calm
+    where
+      by : (list_any plays (d ∷ downs) ≡ false) ⊎ Unarmed list settled s a aired (d ∷ downs)
+          → Safe list settled t b (aired ++ airs) downs
+      by (inl none) = record {
+        near = near_same list aired airs settled
+            (airs_none list d s a r t b airs (or_parts (plays d) (list_any plays downs) none).0 x.does) h.near;
+        calm = inl (or_parts (plays d) (list_any plays downs) none).1;
+      }
+      by (inr u) =
+          let after = unarmed_does a aired d r t b airs
+          (or_parts (arms d) (list_any arms downs) u.none_arms).0 h.near u.last x.does in
+          record {
+            near = after.0;
+            calm = inr (record { none_arms = (or_parts (arms d) (list_any arms downs) u.none_arms).1; last = after.1 });
+          }
 
 -- ---- from each phase
 
@@ -159,33 +153,33 @@ no_arms : (n low high : ℕ) (ups : List Answer) (downs : List Phase)
     → Climbs low high (stretches Plain n (pipe_of ups downs)) → list_any arms downs ≡ false
 no_arms n low high ups downs f c = none_within Plain n low high arms downs f (downs_climb Plain n low high ups downs c)
 
-safe_playing : (list : List Item) (settled : ℕ) (s : Bool) (a : Cued) (aired : List Item) (ups : List Answer)
-    (downs : List Phase) (k : ℕ)
-    → Playing list settled s a aired ups downs k → list_any arms downs ≡ false → Safe list settled s a aired downs
-safe_playing list settled s a aired ups downs k h e = by h.stands
-  where
-    by : ToAir list s a aired ups k ⊎ OnAir list s a aired downs k → Safe list settled s a aired downs
-    by (inl q) = record {
-      near = near_of list aired settled k q.aired_is (omega (arith, h.within)) (omega (arith, h.settled_is))
-          (omega (arith, h.settled_is));
-      calm = inr (record {
-        none_arms = e;
-        last = inr (
-          q.aired_is ∙ sym (ap (λ (n : ℕ). take n list) h.settled_is),
-          omega (arith, h.settled_is, h.within),
-          subst (λ (n : ℕ). HasItem list s a n) (sym h.settled_is) q.has_item,
-        );
-      });
-    }
-    by (inr q) = record {
-      near = near_of list aired settled (k + 1) q.aired_is (omega (arith, h.within)) (omega (arith, h.settled_is))
-          (omega (arith, h.settled_is));
-      calm = inr (record { none_arms = e; last = inl q.has_none });
-    }
+module _ (list : List Item) (settled : ℕ) (s : Bool) (a : Cued) where
+  safe_playing : (aired : List Item) (ups : List Answer) (downs : List Phase) (k : ℕ)
+      → Playing list settled s a aired ups downs k → list_any arms downs ≡ false → Safe list settled s a aired downs
+  safe_playing aired ups downs k h e = by h.stands
+    where
+      by : ToAir list s a aired ups k ⊎ OnAir list s a aired downs k → Safe list settled s a aired downs
+      by (inl q) = record {
+        near = near_of list aired settled k q.aired_is (omega (arith, h.within)) (omega (arith, h.settled_is))
+            (omega (arith, h.settled_is));
+        calm = inr (record {
+          none_arms = e;
+          last = inr (
+            q.aired_is ∙ sym (ap (λ (n : ℕ). take n list) h.settled_is),
+            omega (arith, h.settled_is, h.within),
+            subst (λ (n : ℕ). HasItem list s a n) (sym h.settled_is) q.has_item,
+          );
+        });
+      }
+      by (inr q) = record {
+        near = near_of list aired settled (k + 1) q.aired_is (omega (arith, h.within)) (omega (arith, h.settled_is))
+            (omega (arith, h.settled_is));
+        calm = inr (record { none_arms = e; last = inl q.has_none });
+      }
 
-safe_calm : (list : List Item) (settled : ℕ) (s : Bool) (a : Cued) (aired : List Item) (downs : List Phase) (k : ℕ)
-    → At list aired settled k → list_any plays downs ≡ false → Safe list settled s a aired downs
-safe_calm list settled s a aired downs k h e = record { near = near_at list aired settled k h; calm = inl e }
+  safe_calm : (aired : List Item) (downs : List Phase) (k : ℕ) → At list aired settled k → list_any plays downs ≡ false
+      → Safe list settled s a aired downs
+  safe_calm aired downs k h e = record { near = near_at list aired settled k h; calm = inl e }
 
 -- in these phases no PLAY is on the way
 abbrev pub is_silent : Phase → Bool

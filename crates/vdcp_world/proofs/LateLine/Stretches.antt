@@ -46,72 +46,70 @@ check_or_before mode n k d below l = absurd (omega arith)
 
 -- ---- lists of phases between bounds
 
--- none passes a test that none between the bounds passes
-pub none_within : (mode : Mode) (n low high : ℕ) (test : Phase → Bool) (ds : List Phase)
-    → ((d : Phase) → Lies mode n low high d → test d ≡ false)
-    → Climbs low high (stretches mode n ds) → list_any test ds ≡ false
-none_within mode n low high test [] f c = refl
-none_within mode n low high test (d ∷ ds) f c =
-    let here = f d (c.0, c.1) in
-    let rest = none_within mode n low high test ds f (climbs_within (stretch mode n d) high low high
-    (stretches mode n ds) c.0 (omega arith) c.2) in
-    rw here rest
+module _ (mode : Mode) (n low high : ℕ) where
+  -- none passes a test that none between the bounds passes
+  pub none_within : (test : Phase → Bool) (ds : List Phase) → ((d : Phase) → Lies mode n low high d → test d ≡ false)
+      → Climbs low high (stretches mode n ds) → list_any test ds ≡ false
+  none_within test [] f c = refl
+  none_within test (d ∷ ds) f c =
+      let here = f d (c.0, c.1) in
+      let rest = none_within test ds f (climbs_within (stretch mode n d) high low high
+      (stretches mode n ds) c.0 (omega arith) c.2) in
+      rw here rest
 
--- what is on the way down climbs as the pipe does
-pub downs_climb : (mode : Mode) (n low high : ℕ) (ups : List Answer) (downs : List Phase)
-    → Climbs low high (stretches mode n (pipe_of ups downs))
-    → Climbs low high (stretches mode n downs)
-downs_climb mode n low high [] downs c = c
-downs_climb mode n low high (a ∷ ups) downs c =
-    downs_climb mode n low high ups downs (climbs_within (stretch mode n a.to) high low high
-    (stretches mode n (pipe_of ups downs)) c.0 (omega arith) c.2)
+  -- what is on the way down climbs as the pipe does
+  pub downs_climb : (ups : List Answer) (downs : List Phase) → Climbs low high (stretches mode n (pipe_of ups downs))
+      → Climbs low high (stretches mode n downs)
+  downs_climb [] downs c = c
+  downs_climb (a ∷ ups) downs c =
+      downs_climb ups downs (climbs_within (stretch mode n a.to) high low high (stretches mode n (pipe_of ups downs))
+      c.0 (omega arith) c.2)
 
--- and after one of it, from that one on
-pub climbs_after : (mode : Mode) (n low high : ℕ) (ups : List Answer) (d : Phase) (downs : List Phase)
-    → Climbs low high (stretches mode n (pipe_of ups (d ∷ downs)))
-    → Climbs (stretch mode n d) high (stretches mode n downs)
-climbs_after mode n low high ups d downs c = (downs_climb mode n low high ups (d ∷ downs) c).2
+module _ (mode : Mode) (n low high : ℕ) (ups : List Answer) (d : Phase) (downs : List Phase) where
+  -- and after one of it, from that one on
+  pub climbs_after : Climbs low high (stretches mode n (pipe_of ups (d ∷ downs)))
+      → Climbs (stretch mode n d) high (stretches mode n downs)
+  climbs_after c = (downs_climb mode n low high ups (d ∷ downs) c).2
 
--- of numbers that climb each is as high as the first ones at least
-lowest_at : (mode : Mode) (n low high : ℕ) (ups : List Answer) (d : Phase) (downs : List Phase)
-    → Climbs low high (stretches mode n (pipe_of ups (d ∷ downs))) → low ≤ stretch mode n d
-lowest_at mode n low high ups d downs c = (downs_climb mode n low high ups (d ∷ downs) c).0
+  -- of numbers that climb each is as high as the first ones at least
+  lowest_at : Climbs low high (stretches mode n (pipe_of ups (d ∷ downs))) → low ≤ stretch mode n d
+  lowest_at c = (downs_climb mode n low high ups (d ∷ downs) c).0
 
--- the answers climb up to what is on the way down
-pub climbs_before : (mode : Mode) (n low high : ℕ) (ups : List Answer) (d : Phase) (downs : List Phase)
-    → Climbs low high (stretches mode n (pipe_of ups (d ∷ downs)))
-    → Climbs low (stretch mode n d) (stretches mode n (pipe_of ups []))
-climbs_before mode n low high [] d downs c = tt
-climbs_before mode n low high (a ∷ ups) d downs c = (
-  c.0,
-  lowest_at mode n (stretch mode n a.to) high ups d downs c.2,
-  climbs_before mode n
-      (stretch mode n a.to) high ups d downs c.2,
-)
+module _ (mode : Mode) where
+  -- the answers climb up to what is on the way down
+  pub climbs_before : (n low high : ℕ) (ups : List Answer) (d : Phase) (downs : List Phase)
+      → Climbs low high (stretches mode n (pipe_of ups (d ∷ downs)))
+      → Climbs low (stretch mode n d) (stretches mode n (pipe_of ups []))
+  climbs_before n low high [] d downs c = tt
+  climbs_before n low high (a ∷ ups) d downs c = (
+    c.0,
+    lowest_at mode n (stretch mode n a.to) high ups d downs c.2,
+    climbs_before n
+        (stretch mode n a.to) high ups d downs c.2,
+  )
 
--- the answers climb as the pipe does
-pub ups_climb : (mode : Mode) (n low high : ℕ) (ups : List Answer) (downs : List Phase)
-    → Climbs low high (stretches mode n (pipe_of ups downs))
-    → Climbs low high (stretches mode n (pipe_of ups []))
-ups_climb mode n low high [] downs c = tt
-ups_climb mode n low high (a ∷ ups) downs c = (c.0, c.1, ups_climb mode n (stretch mode n a.to) high ups downs c.2)
+  -- the answers climb as the pipe does
+  pub ups_climb : (n low high : ℕ) (ups : List Answer) (downs : List Phase)
+      → Climbs low high (stretches mode n (pipe_of ups downs)) → Climbs low high (stretches mode n (pipe_of ups []))
+  ups_climb n low high [] downs c = tt
+  ups_climb n low high (a ∷ ups) downs c = (c.0, c.1, ups_climb n (stretch mode n a.to) high ups downs c.2)
 
--- of answers between bounds, of which none passes one test, none passes another
-pub none_answers : (mode : Mode) (n low high : ℕ) (given test : Answer → Bool) (ups : List Answer)
-    → ((a : Answer) → Lies mode n low high a.to → given a ≡ false → test a ≡ false)
-    → Climbs low high (stretches mode n (pipe_of ups [])) → list_any given ups ≡ false → list_any test ups ≡ false
-none_answers mode n low high given test [] f c m = refl
-none_answers mode n low high given test (a ∷ ups) f c m =
-    let here = f a (c.0, c.1) (or_parts (given a) (list_any given ups) m).0 in
-    let rest = none_answers mode n low high given test ups f
-    (climbs_within (stretch mode n a.to) high low high (stretches mode n (pipe_of ups [])) c.0 (omega arith) c.2)
-    (or_parts (given a) (list_any given ups) m).1 in
-    rw here rest
+  -- of answers between bounds, of which none passes one test, none passes another
+  pub none_answers : (n low high : ℕ) (given test : Answer → Bool) (ups : List Answer)
+      → ((a : Answer) → Lies mode n low high a.to → given a ≡ false → test a ≡ false)
+      → Climbs low high (stretches mode n (pipe_of ups [])) → list_any given ups ≡ false → list_any test ups ≡ false
+  none_answers n low high given test [] f c m = refl
+  none_answers n low high given test (a ∷ ups) f c m =
+      let here = f a (c.0, c.1) (or_parts (given a) (list_any given ups) m).0 in
+      let rest = none_answers n low high given test ups f
+      (climbs_within (stretch mode n a.to) high low high (stretches mode n (pipe_of ups [])) c.0 (omega arith) c.2)
+      (or_parts (given a) (list_any given ups) m).1 in
+      rw here rest
 
--- one on the way down lies between the bounds
-pub lies_at : (mode : Mode) (n low high : ℕ) (ups : List Answer) (d : Phase) (downs : List Phase)
-    → Climbs low high (stretches mode n (pipe_of ups (d ∷ downs))) → Lies mode n low high d
-lies_at mode n low high ups d downs c = let h = downs_climb mode n low high ups (d ∷ downs) c in (h.0, h.1)
+  -- one on the way down lies between the bounds
+  pub lies_at : (n low high : ℕ) (ups : List Answer) (d : Phase) (downs : List Phase)
+      → Climbs low high (stretches mode n (pipe_of ups (d ∷ downs))) → Lies mode n low high d
+  lies_at n low high ups d downs c = let h = downs_climb mode n low high ups (d ∷ downs) c in (h.0, h.1)
 
 -- one that is delivered moves within the pipe
 pub pipe_delivered : (ups : List Answer) (a : Answer) (downs : List Phase)
