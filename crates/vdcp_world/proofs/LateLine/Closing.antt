@@ -154,37 +154,6 @@ done_ages s a t b g h = λ e. g.done e (h (g.no_more e))
 pub none_ages : (s : Bool) (a : Cued) (t : Bool) (b : Cued) → Ages s a t b → HasNone s a → HasNone t b
 none_ages s a t b g h = λ e. g.none e (h (g.no_more e))
 
-pub ready_ages : (s : Bool) (a : Cued) → Ages s a s (made_ready a)
-ready_ages s empty =
-    record {
-      no_more = λ e. e;
-      item = λ _. refl;
-      done = λ _ e. e;
-      none = λ _ e. e;
-      still_empty = λ e. e;
-      nothing_else =
-          inr refl;
-    }
-ready_ages s (cueing x) =
-    record {
-      no_more = λ e. e;
-      item = λ _. refl;
-      done = λ _ _. refl;
-      none = λ _ e. cc;
-      still_empty = λ e. cc;
-      nothing_else = inr refl;
-    }
-ready_ages s (done x) =
-    record {
-      no_more = λ e. e;
-      item = λ _. refl;
-      done = λ _ e. e;
-      none = λ _ e. e;
-      still_empty = λ e. e;
-      nothing_else =
-          inr refl;
-    }
-
 pub same_ages : (s : Bool) (a : Cued) → Ages s a s a
 same_ages s a =
     record {
@@ -196,6 +165,19 @@ same_ages s a =
       nothing_else =
           inr refl;
     }
+
+pub ready_ages : (s : Bool) (a : Cued) → Ages s a s (made_ready a)
+ready_ages s empty = same_ages s empty
+ready_ages s (cueing x) =
+    record {
+      no_more = λ e. e;
+      item = λ _. refl;
+      done = λ _ _. refl;
+      none = λ _ e. cc;
+      still_empty = λ e. cc;
+      nothing_else = inr refl;
+    }
+ready_ages s (done x) = same_ages s (done x)
 
 pub anew_ages : (s : Bool) (a : Cued) → Ages s a false empty
 anew_ages s a =

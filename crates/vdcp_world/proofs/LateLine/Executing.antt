@@ -18,9 +18,10 @@ use Rattle.vdcp_auto.specs.Commands.{cue_of, cue_for}
 use Rattle.vdcp_auto.specs.Table.{command_in}
 use Rattle.vdcp_auto.specs.declared.phase.Phase.{Phase}
 use Rattle.vdcp_auto.specs.declared.phase.Phase.TheVariants as phase
-use Rattle.vdcp_world.proofs.LateLine.Executed.{Shows, left_cued, put_on_air}
+use Rattle.vdcp_world.proofs.LateLine.Executed.{Shows, left_cued, put_on_air, Does}
 use Rattle.vdcp_world.proofs.PhaseTable.{knows}
-use Rattle.vdcp_world.proofs.LateLine.Reads.{Reads, differs}
+use Rattle.vdcp_world.proofs.LateLine.Reads.{Reads, differs, misleads_at}
+use Rattle.vdcp_world.proofs.LateLine.Places.{fits_phase}
 
 -- a row of the table does what the phase's command is to do
 abbrev pub RowReads : List Item → List (ClipId × Timecode) → Phase → PortState → Row → Type 0
@@ -32,15 +33,14 @@ RowReads list clips d p x =
 same_reply : (a r : Reply) → Some a ≡ Some r → a ≡ r
 same_reply a r e = cc
 
-answers : (list : List Item) (clips : List (ClipId × Timecode)) (d : Phase) (p : PortState) (a : Reply)
-    (change : Change)
-    → Reads list clips d (is_selected p) p.cued a (is_selected (changed change p)) (changed change p).cued
-    (option_to_list (on_air change))
-    → RowReads list clips d p (row a change)
-answers list clips d p a change h = λ r e.
+reads_as : (list : List Item) (clips : List (ClipId × Timecode)) (d : Phase) (p : PortState) (a : Reply)
+    (change : Change) → fits_phase d a ≡ true → misleads_at list clips d a ≡ false
+    → Does list d (is_selected p) p.cued a (is_selected (changed change p)) (changed change p).cued
+    (option_to_list (on_air change)) → RowReads list clips d p (row a change)
+reads_as list clips d p a change fit told h = λ r e.
     subst (λ (r : Reply). Reads list clips d (is_selected p) p.cued r (is_selected (changed change p))
     (changed change p).cued (option_to_list (on_air change)))
-    (same_reply a r e) h
+    (same_reply a r e) (record { executed = record { fits = fit; does = h }; true_told = told })
 
 -- ---- each phase's command
 
@@ -50,16 +50,13 @@ still_selected a = grind arith
 module _ (list : List Item) (clips : List (ClipId × Timecode)) (p : PortState) where
   reads_open : (same : Bool) → RowReads list clips phase.Open p (if same then row (reply.Opened true) opens else row
       (reply.Opened false) keeps)
-  reads_open true = answers list clips phase.Open p (reply.Opened true) opens
-      (record { executed = record { fits = refl; does = (still_selected p.access, refl, refl) }; true_told = refl })
-  reads_open false = answers list clips phase.Open p (reply.Opened false) keeps
-      (record { executed = record { fits = refl; does = (refl, refl, refl) }; true_told = refl })
+  reads_open true =
+      reads_as list clips phase.Open p (reply.Opened true) opens refl refl (still_selected p.access, refl, refl)
+  reads_open false = reads_as list clips phase.Open p (reply.Opened false) keeps refl refl (refl, refl, refl)
 
   reads_select : (can : Bool) → RowReads list clips phase.Select p (if can then row reply.Ack selects else refused)
-  reads_select true = answers list clips phase.Select p reply.Ack selects
-      (record { executed = record { fits = refl; does = (refl, refl) }; true_told = refl })
-  reads_select false = answers list clips phase.Select p (reply.Nak 0x01) keeps
-      (record { executed = record { fits = refl; does = (refl, refl) }; true_told = refl })
+  reads_select true = reads_as list clips phase.Select p reply.Ack selects refl refl (refl, refl)
+  reads_select false = reads_as list clips phase.Select p (reply.Nak 0x01) keeps refl refl (refl, refl)
 
 -- a state byte shows what is cued
 shows_state : (selected : Bool) (a : Cued) (playing : Option Item) → selected ≡ true
@@ -78,45 +75,37 @@ module _ (list : List Item) (clips : List (ClipId × Timecode)) (p : PortState) 
   -- of a status that is asked for in Wait or in Probe, and in Seen or in Drain
   reads_wait : (k : ℕ) (selected : Bool) → is_selected p ≡ selected
       → RowReads list clips (phase.Wait k) p (if selected then row (state_reply 1 (state_byte p)) keeps else refused)
-  reads_wait k true e = answers list clips (phase.Wait k) p (state_reply 1 (state_byte p)) keeps
-      (record {
-        executed = record
-            { fits = refl; does = ((refl, refl, refl), shows_state (is_selected p) p.cued p.playing e) };
-        true_told = refl;
-      })
-  reads_wait k false e = answers list clips (phase.Wait k) p (reply.Nak 0x01) keeps
-      (record {
-        executed = record { fits = refl; does = ((refl, refl, refl), shows_refusal (is_selected p) p.cued) };
-        true_told = refl;
-      })
+  reads_wait k true e =
+      reads_as list clips (phase.Wait k) p (state_reply 1 (state_byte p)) keeps refl refl
+      ((refl, refl, refl), shows_state (is_selected p) p.cued p.playing e)
+  reads_wait k false e =
+      reads_as list clips (phase.Wait k) p (reply.Nak 0x01) keeps refl refl (
+        (refl, refl, refl),
+        shows_refusal
+            (is_selected p) p.cued,
+      )
 
   reads_probe : (k : ℕ) (selected : Bool) → is_selected p ≡ selected
       → RowReads list clips (phase.Probe k) p (if selected then row (state_reply 1 (state_byte p)) keeps else refused)
-  reads_probe k true e = answers list clips (phase.Probe k) p (state_reply 1 (state_byte p)) keeps
-      (record {
-        executed = record
-            { fits = refl; does = ((refl, refl, refl), shows_state (is_selected p) p.cued p.playing e) };
-        true_told = refl;
-      })
-  reads_probe k false e = answers list clips (phase.Probe k) p (reply.Nak 0x01) keeps
-      (record {
-        executed = record { fits = refl; does = ((refl, refl, refl), shows_refusal (is_selected p) p.cued) };
-        true_told = refl;
-      })
+  reads_probe k true e =
+      reads_as list clips (phase.Probe k) p (state_reply 1 (state_byte p)) keeps refl refl
+      ((refl, refl, refl), shows_state (is_selected p) p.cued p.playing e)
+  reads_probe k false e =
+      reads_as list clips (phase.Probe k) p (reply.Nak 0x01) keeps refl refl (
+        (refl, refl, refl),
+        shows_refusal
+            (is_selected p) p.cued,
+      )
 
   reads_seen : (selected : Bool) → RowReads list clips phase.Seen p (if selected then row (state_reply 1 (state_byte p))
       keeps else refused)
-  reads_seen true = answers list clips phase.Seen p (state_reply 1 (state_byte p)) keeps
-      (record { executed = record { fits = refl; does = (refl, refl, refl) }; true_told = refl })
-  reads_seen false = answers list clips phase.Seen p (reply.Nak 0x01) keeps
-      (record { executed = record { fits = refl; does = (refl, refl, refl) }; true_told = refl })
+  reads_seen true = reads_as list clips phase.Seen p (state_reply 1 (state_byte p)) keeps refl refl (refl, refl, refl)
+  reads_seen false = reads_as list clips phase.Seen p (reply.Nak 0x01) keeps refl refl (refl, refl, refl)
 
   reads_drain : (selected : Bool) → RowReads list clips phase.Drain p (if selected then row
       (state_reply 1 (state_byte p)) keeps else refused)
-  reads_drain true = answers list clips phase.Drain p (state_reply 1 (state_byte p)) keeps
-      (record { executed = record { fits = refl; does = (refl, refl, refl) }; true_told = refl })
-  reads_drain false = answers list clips phase.Drain p (reply.Nak 0x01) keeps
-      (record { executed = record { fits = refl; does = (refl, refl, refl) }; true_told = refl })
+  reads_drain true = reads_as list clips phase.Drain p (state_reply 1 (state_byte p)) keeps refl refl (refl, refl, refl)
+  reads_drain false = reads_as list clips phase.Drain p (reply.Nak 0x01) keeps refl refl (refl, refl, refl)
 
 -- where there is such a command
 abbrev pub IfRow : List Item → List (ClipId × Timecode) → Phase → PortState → Option Command → Type 0
@@ -132,19 +121,15 @@ module _ (list : List Item) (clips : List (ClipId × Timecode)) (p : PortState) 
       → IfRow list clips (phase.Exists k) p (option_map (λ item. command.IdRequest item.id) o)
   reads_exists k None e = tt
   reads_exists k (Some item) e =
-      answers list clips (phase.Exists k) p (reply.Present (is_known clips item.id)) keeps
-      (record {
-        executed = record { fits = refl; does = (refl, refl, refl) };
-        true_told = ap (λ (o : Option Item). differs (is_known clips item.id) (knows clips o)) e ∙ same_known
-            (is_known clips item.id);
-      })
+      reads_as list clips (phase.Exists k) p (reply.Present (is_known clips item.id)) keeps refl
+      (ap (λ (o : Option Item). differs (is_known clips item.id) (knows clips o)) e ∙ same_known
+      (is_known clips item.id)) (refl, refl, refl)
 
   reads_cue_row : (k : ℕ) (item : Item) (can : Bool) → Some item ≡ slice_get list k
       → RowReads list clips (phase.Cue k) p (if can then row reply.Ack (cues item) else refused)
-  reads_cue_row k item true e = answers list clips (phase.Cue k) p reply.Ack (cues item)
-      (record { executed = record { fits = refl; does = (refl, refl, inr e) }; true_told = refl })
-  reads_cue_row k item false e = answers list clips (phase.Cue k) p (reply.Nak 0x01) keeps
-      (record { executed = record { fits = refl; does = (refl, refl, inl (refl, refl)) }; true_told = refl })
+  reads_cue_row k item true e = reads_as list clips (phase.Cue k) p reply.Ack (cues item) refl refl (refl, refl, inr e)
+  reads_cue_row k item false e =
+      reads_as list clips (phase.Cue k) p (reply.Nak 0x01) keeps refl refl (refl, refl, inl (refl, refl))
 
   reads_cue : (k : ℕ) (o : Option Item) → slice_get list k ≡ o → IfRow list clips (phase.Cue k) p (option_map cue_of o)
   reads_cue k None e = tt
@@ -164,56 +149,56 @@ module _ (list : List Item) (clips : List (ClipId × Timecode)) (p : PortState) 
 
   reads_play_row : (k : ℕ) (a : Cued) → p.cued ≡ a → is_selected p ≡ true
       → RowReads list clips (phase.Play k) p (play_row a)
-  reads_play_row k empty e on = answers list clips (phase.Play k) p reply.Ack keeps
-      (record {
-        executed = record
-            { fits = refl; does = (refl, inr (on, e ∙ sym (ap left_cued e), sym (ap put_on_air e))) };
-        true_told = refl;
-      })
-  reads_play_row k (cueing item) e on = answers list clips (phase.Play k) p reply.Ack keeps
-      (record {
-        executed = record
-            { fits = refl; does = (refl, inr (on, e ∙ sym (ap left_cued e), sym (ap put_on_air e))) };
-        true_told = refl;
-      })
-  reads_play_row k (done item) e on = answers list clips (phase.Play k) p reply.Ack (airs item)
-      (record {
-        executed = record { fits = refl; does = (refl, inr (on, sym (ap left_cued e), sym (ap put_on_air e))) };
-        true_told = refl;
-      })
+  reads_play_row k empty e on =
+      reads_as list clips (phase.Play k) p reply.Ack keeps refl refl (
+        refl,
+        inr (
+          on,
+          e ∙ sym (ap left_cued e),
+          sym
+              (ap put_on_air e),
+        ),
+      )
+  reads_play_row k (cueing item) e on =
+      reads_as list clips (phase.Play k) p reply.Ack keeps refl refl (
+        refl,
+        inr (
+          on,
+          e ∙ sym (ap left_cued e),
+          sym
+              (ap put_on_air e),
+        ),
+      )
+  reads_play_row k (done item) e on =
+      reads_as list clips (phase.Play k) p reply.Ack (airs item) refl refl
+      (refl, inr (on, sym (ap left_cued e), sym (ap put_on_air e)))
 
   reads_play : (k : ℕ) (selected : Bool) → is_selected p ≡ selected
       → RowReads list clips (phase.Play k) p (if selected then play_row p.cued else refused)
   reads_play k true e = reads_play_row k p.cued refl e
-  reads_play k false e = answers list clips (phase.Play k) p (reply.Nak 0x01) keeps
-      (record { executed = record { fits = refl; does = (refl, inl (e, refl, refl, refl)) }; true_told = refl })
+  reads_play k false e =
+      reads_as list clips (phase.Play k) p (reply.Nak 0x01) keeps refl refl (refl, inl (e, refl, refl, refl))
 
   reads_check : (k : ℕ) (selected : Bool) → RowReads list clips (phase.Check k) p (if selected then row
       (reply.Active (option_map (λ item. item.id) p.playing)) keeps else refused)
   reads_check k true =
-      answers list clips (phase.Check k) p (reply.Active (option_map (λ item. item.id) p.playing)) keeps
-      (record { executed = record { fits = refl; does = (refl, refl, refl) }; true_told = refl })
-  reads_check k false = answers list clips (phase.Check k) p (reply.Nak 0x01) keeps
-      (record { executed = record { fits = refl; does = (refl, refl, refl) }; true_told = refl })
+      reads_as list clips (phase.Check k) p (reply.Active (option_map (λ item. item.id) p.playing)) keeps refl refl
+      (refl, refl, refl)
+  reads_check k false = reads_as list clips (phase.Check k) p (reply.Nak 0x01) keeps refl refl (refl, refl, refl)
 
   reads_close : (same : Bool) → RowReads list clips phase.Close p (if same then row reply.Ack closes else refused)
-  reads_close true = answers list clips phase.Close p reply.Ack closes
-      (record { executed = record { fits = refl; does = (λ e. cc, refl, inl refl) }; true_told = refl })
-  reads_close false = answers list clips phase.Close p (reply.Nak 0x01) keeps
-      (record { executed = record { fits = refl; does = (λ e. e, refl, inr refl) }; true_told = refl })
+  reads_close true = reads_as list clips phase.Close p reply.Ack closes refl refl (λ e. cc, refl, inl refl)
+  reads_close false = reads_as list clips phase.Close p (reply.Nak 0x01) keeps refl refl (λ e. e, refl, inr refl)
 
   reads_halt : (selected : Bool) → RowReads list clips phase.Halt p (if selected then row reply.Ack stops else refused)
-  reads_halt true = answers list clips phase.Halt p reply.Ack stops
-      (record { executed = record { fits = refl; does = (λ e. e, refl, inl refl) }; true_told = refl })
-  reads_halt false = answers list clips phase.Halt p (reply.Nak 0x01) keeps
-      (record { executed = record { fits = refl; does = (λ e. e, refl, inr refl) }; true_told = refl })
+  reads_halt true = reads_as list clips phase.Halt p reply.Ack stops refl refl (λ e. e, refl, inl refl)
+  reads_halt false = reads_as list clips phase.Halt p (reply.Nak 0x01) keeps refl refl (λ e. e, refl, inr refl)
 
   reads_halt_close : (same : Bool) → RowReads list clips phase.HaltClose p (if same then row reply.Ack closes else
       refused)
-  reads_halt_close true = answers list clips phase.HaltClose p reply.Ack closes
-      (record { executed = record { fits = refl; does = (λ e. cc, refl, inl refl) }; true_told = refl })
-  reads_halt_close false = answers list clips phase.HaltClose p (reply.Nak 0x01) keeps
-      (record { executed = record { fits = refl; does = (λ e. e, refl, inr refl) }; true_told = refl })
+  reads_halt_close true = reads_as list clips phase.HaltClose p reply.Ack closes refl refl (λ e. cc, refl, inl refl)
+  reads_halt_close false =
+      reads_as list clips phase.HaltClose p (reply.Nak 0x01) keeps refl refl (λ e. e, refl, inr refl)
 
   reads_phase : (port : ℕ) (d : Phase) → IfRow list clips d p (command_in list port d)
   reads_phase port phase.Open = reads_open list clips p (nat_eq port p.number)

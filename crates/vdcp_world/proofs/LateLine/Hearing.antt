@@ -116,9 +116,11 @@ module _ (list : List Item) (clips : List (ClipId × Timecode)) (settled : ℕ) 
     from_open ups downs true h = h
     from_open ups downs false h = (over list settled s a aired ups downs 0 phase.Open refl h.1 h.0, tt)
 
-    from_exists : (x : Answer) (ups : List Answer) (downs : List Phase) (k : ℕ) → Asked list clips x ups (phase.Exists k)
+    from_exists : (x : Answer) (ups : List Answer) (downs : List Phase) (k : ℕ)
+        → Asked list clips x ups (phase.Exists k)
         → Here list settled s a aired (x ∷ ups) downs (phase.Exists k) → (b : Bool) → is_present x.reply ≡ b
-        → Leads list clips settled s a aired (x ∷ ups) downs (if b then Goes (phase.Cue k) else Ends (outcome.Missing k))
+        → Leads list clips settled s a aired (x ∷ ups) downs (if b then Goes (phase.Cue k) else Ends
+        (outcome.Missing k))
     from_exists x ups downs k g h b e = by b e
       where
         is : x.to ≡ phase.Exists k
@@ -181,7 +183,8 @@ module _ (list : List Item) (clips : List (ClipId × Timecode)) (settled : ℕ) 
 
     from_wait : (x : Answer) (ups : List Answer) (downs : List Phase) (k limit tries : ℕ) (take : Bool)
         → Asked list clips x ups (phase.Wait k) → Here list settled s a aired (x ∷ ups) downs (phase.Wait k)
-        → Leads list clips settled s a aired (x ∷ ups) downs (on_reply Plain list limit take tries (phase.Wait k) x.reply)
+        → Leads list clips settled s a aired (x ∷ ups) downs (on_reply Plain list limit take tries (phase.Wait k)
+        x.reply)
     from_wait x ups downs k limit tries take g h =
         by (is_done x.reply) (not (is_playing x.reply) || take) (is_empty x.reply) refl
       where
@@ -250,7 +253,8 @@ module _ (list : List Item) (clips : List (ClipId × Timecode)) (settled : ℕ) 
 
     from_probe : (x : Answer) (ups : List Answer) (downs : List Phase) (k : ℕ) → Asked list clips x ups (phase.Probe k)
         → Here list settled s a aired (x ∷ ups) downs (phase.Probe k) → (done none : Bool) → is_empty x.reply ≡ none
-        → Leads list clips settled s a aired (x ∷ ups) downs (if done then Goes (phase.Play k) else (if none then Settles
+        → Leads list clips settled s a aired (x ∷ ups) downs (if done then Goes (phase.Play k) else
+        (if none then Settles
         k else Goes (phase.Probe k)))
     from_probe x ups downs k g h true none e = h
     from_probe x ups downs k g h false false e = h

@@ -65,11 +65,15 @@ abbrev pub StandsAt : Claim → List Item → ClockedPort → ℕ → Stage → 
 StandsAt S list p settled stage aired ups downs =
     S list p.clips settled (is_selected p.state) p.state.cued aired ups downs stage
 
+pub record Fits (mode : Mode) (plan : Plan) (unit : ℕ) : Type 0 where
+  pub mode_is : plan.mode ≡ mode
+  pub unit_fits : unit < 16
+  pub port_fits : plan.port < 256
+  pub of_bytes : All IsItem plan.list
+
 pub record IsKept (mode : Mode) (S : Claim) (c : LateChannel) : Type 0 where
-  pub mode_is : c.plan.mode ≡ mode
-  pub unit_fits : c.port.state.unit < 16
-  pub port_fits : c.plan.port < 256
-  pub of_bytes : All IsItem c.plan.list
+  pub fits : Fits mode c.plan c.port.state.unit
+  pub open fits use *
   pub downs : List Phase
   pub ups : List Answer
   pub down_is : DownCarries c.plan.list c.plan.port c.port.state.unit c.down downs
@@ -168,10 +172,7 @@ module _ (mode : Mode) (S : Claim) where
       → StandsAt T c.plan.list c.port state.settled state.stage c.aired k.ups k.downs
       → IsKept mode T (record c { state = state; log = log })
   with_state T c k state log stands = record {
-    mode_is = k.mode_is;
-    unit_fits = k.unit_fits;
-    port_fits = k.port_fits;
-    of_bytes = k.of_bytes;
+    fits = k.fits;
     downs = k.downs;
     ups = k.ups;
     down_is = k.down_is;
@@ -185,10 +186,7 @@ module _ (mode : Mode) (S : Claim) where
       → Ages (is_selected c.port.state) c.port.state.cued (is_selected p.state) p.state.cued
       → IsKept mode S (record c { port = p })
   with_port steady c k p same clips ages = record {
-    mode_is = k.mode_is;
-    unit_fits = subst (λ (unit : ℕ). unit < 16) (sym same) k.unit_fits;
-    port_fits = k.port_fits;
-    of_bytes = k.of_bytes;
+    fits = subst (Fits mode c.plan) (sym same) k.fits;
     downs = k.downs;
     ups = k.ups;
     down_is = subst (λ (unit : ℕ). DownCarries c.plan.list c.plan.port unit c.down k.downs) (sym same) k.down_is;
@@ -206,10 +204,7 @@ module _ (mode : Mode) (S : Claim) where
       → Left IsJunkDown (IsCommand c.plan.list c.plan.port c.port.state.unit) down k.downs
       → IsKept mode S (record c { down = down })
   with_down steady c k down l = record {
-    mode_is = k.mode_is;
-    unit_fits = k.unit_fits;
-    port_fits = k.port_fits;
-    of_bytes = k.of_bytes;
+    fits = k.fits;
     downs = l.left;
     ups = k.ups;
     down_is = l.carries;
@@ -219,22 +214,27 @@ module _ (mode : Mode) (S : Claim) where
         (all_left k.ups) l.thins k.stands;
   }
 
-  pub with_up : Steady S → (c : LateChannel) (k : IsKept mode S c) (up : List (List ℕ))
+  -- something was heard, and the oldest burst is gone
+  pub with_hearing : (T : Claim) → Steady T → (c : LateChannel) (k : IsKept mode S c) (state : State)
+      (up : List (List ℕ)) (log : List Exchange)
       → Left (IsJunkUp mode c.port.state.unit) (IsAnswer c.port.state.unit) up k.ups
-      → IsKept mode S (record c { up = up })
-  with_up steady c k up l = record {
-    mode_is = k.mode_is;
-    unit_fits = k.unit_fits;
-    port_fits = k.port_fits;
-    of_bytes = k.of_bytes;
+      → StandsAt T c.plan.list c.port state.settled state.stage c.aired k.ups k.downs
+      → IsKept mode T (record c { state = state; up = up; log = log })
+  with_hearing T steady c k state up log l stands = record {
+    fits = k.fits;
     downs = k.downs;
     ups = l.left;
     down_is = k.down_is;
     up_is = l.carries;
-    stands = steady.thins c.plan.list c.port.clips c.state.settled (is_selected c.port.state) c.port.state.cued c.aired
-        k.ups l.left k.downs k.downs c.state.stage
-        l.thins (all_left k.downs) k.stands;
+    stands = steady.thins c.plan.list c.port.clips state.settled (is_selected c.port.state) c.port.state.cued c.aired
+        k.ups l.left k.downs k.downs state.stage
+        l.thins (all_left k.downs) stands;
   }
+
+  pub with_up : Steady S → (c : LateChannel) (k : IsKept mode S c) (up : List (List ℕ))
+      → Left (IsJunkUp mode c.port.state.unit) (IsAnswer c.port.state.unit) up k.ups
+      → IsKept mode S (record c { up = up })
+  with_up steady c k up l = with_hearing S steady c k c.state up c.log l k.stands
 
   -- after a delivery to the port
   pub with_delivery : Steady S → (c : LateChannel) (k : IsKept mode S c) (burst : List ℕ) (down : List (List ℕ))
@@ -248,10 +248,7 @@ module _ (mode : Mode) (S : Claim) where
         aired = c.aired ++ aired_for c.port burst;
       })
   with_delivery steady c k burst down downs down_is d = record {
-    mode_is = k.mode_is;
-    unit_fits = subst (λ (unit : ℕ). unit < 16) (sym d.unit_same) k.unit_fits;
-    port_fits = k.port_fits;
-    of_bytes = k.of_bytes;
+    fits = subst (Fits mode c.plan) (sym d.unit_same) k.fits;
     downs = downs;
     ups = d.ups;
     down_is = subst (λ (unit : ℕ). DownCarries c.plan.list c.plan.port unit down downs) (sym d.unit_same) down_is;

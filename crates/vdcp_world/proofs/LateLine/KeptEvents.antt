@@ -39,7 +39,7 @@ use Rattle.vdcp_world.proofs.LateLine.Carrying.{carries_pushed, carries_same, Le
 use Rattle.vdcp_world.proofs.LateLine.Closing.{Ages, ready_ages, same_ages, anew_ages}
 use Rattle.vdcp_world.proofs.LateLine.Claims.{Claim, Closed, Comes, Exactly, Steady, exactly}
 use Rattle.vdcp_world.proofs.LateLine.Exactness.{came_may, exact_sends, is_exact_at, is_exact_in, may_in, no_arm, sent_may}
-use Rattle.vdcp_world.proofs.LateLine.Kept.{IsJunkDown, IsCommand, IsJunkUp, IsAnswer, DownCarries, UpCarries, StandsAt, IsKept, writable, Delivered, delivered_nothing, delivered_command, with_state, with_port, with_down, with_up, with_delivery}
+use Rattle.vdcp_world.proofs.LateLine.Kept.{IsJunkDown, IsCommand, IsJunkUp, IsAnswer, DownCarries, UpCarries, StandsAt, IsKept, writable, Delivered, delivered_nothing, delivered_command, with_state, with_port, with_down, with_up, with_delivery, with_hearing}
 use Rattle.vdcp_world.proofs.LateLine.Places.{Answer, Exact, plays}
 use Rattle.vdcp_world.proofs.OnTheWay.{ReadsCommand}
 use Rattle.vdcp_world.proofs.WayLemmas.{reads_nothing, reads_command}
@@ -314,25 +314,6 @@ module _ (mode : Mode) where
       by Confirming e = came_kept mode S closed below c k r (Some (heard.Reply receipt))
           (inl (ap (λ (x : Mode). is_no_answer x (Some (heard.Reply receipt))) e ∙ is))
 
-  -- something was heard, and the oldest burst is gone
-  with_hearing : (S T : Claim) → Steady T → (c : LateChannel) (k : IsKept mode S c) (state : State) (up : List (List ℕ))
-      (log : List Exchange) → Left (IsJunkUp mode c.port.state.unit) (IsAnswer c.port.state.unit) up k.ups
-      → StandsAt T c.plan.list c.port state.settled state.stage c.aired k.ups k.downs
-      → IsKept mode T (record c { state = state; up = up; log = log })
-  with_hearing S T steady c k state up log l stands = record {
-    mode_is = k.mode_is;
-    unit_fits = k.unit_fits;
-    port_fits = k.port_fits;
-    of_bytes = k.of_bytes;
-    downs = k.downs;
-    ups = l.left;
-    down_is = k.down_is;
-    up_is = l.carries;
-    stands = steady.thins c.plan.list c.port.clips state.settled (is_selected c.port.state) c.port.state.cued c.aired
-        k.ups l.left k.downs k.downs state.stage
-        l.thins (all_left k.downs) stands;
-  }
-
 up_kept : (mode : Mode) (S : Claim) → Closed mode S → Below
     → (c : LateChannel) (k : IsKept mode (ExactlyIn S c) c) → Reached c.plan c.state c.log
     → IsKept mode (ExactlyIn S (after_late_event c event.Up)) (after_late_event c event.Up)
@@ -471,10 +452,7 @@ pub kept_event : (mode : Mode) (S : Claim) → Closed mode S → Below → (c : 
 kept_event mode S closed below c event.Tick r k =
     let t = ticked_kept mode S closed below c k in
     record {
-      mode_is = k.mode_is;
-      unit_fits = k.unit_fits;
-      port_fits = k.port_fits;
-      of_bytes = k.of_bytes;
+      fits = k.fits;
       downs = t.downs;
       ups = k.ups;
       down_is = t.down_is;

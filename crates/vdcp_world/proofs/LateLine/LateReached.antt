@@ -28,10 +28,12 @@ kept_new : (mode : Mode) (S : Claim) → Covers mode S → (plan : Plan) (port :
     → plan.mode ≡ mode → CanStart plan port down up
     → IsKept mode (ExactlyIn S (new_late_channel plan port down up)) (new_late_channel plan port down up)
 kept_new mode S covers plan port down up is start = record {
-  mode_is = is;
-  unit_fits = omega (arith, start.unit_fits);
-  port_fits = start.port_fits;
-  of_bytes = start.of_bytes;
+  fits = record {
+    mode_is = is;
+    unit_fits = omega (arith, start.unit_fits);
+    port_fits = start.port_fits;
+    of_bytes = start.of_bytes;
+  };
   downs = d.downs;
   ups = u.ups;
   down_is = d.down_is;
