@@ -21,12 +21,11 @@ same_message : (m n : Content) → is_same_message m n ≡ true → m ≡ n
 same_message ack ack e = refl
 same_message ack (nak b) e = cc
 same_message ack (framed k u c r) e = cc
-same_message (nak a) ack e = cc
 same_message (nak a) (nak b) e = grind arith
 same_message (nak a) (framed k u c r) e = cc
-same_message (framed k u c r) ack e = cc
 same_message (framed k u c r) (nak b) e = cc
 same_message (framed k u c r) (framed l v d s) e = grind (arith, same_list r s)
+same_message _ ack e = cc
 
 own_message : (m : Content) → is_same_message m m ≡ true
 own_message ack = refl

@@ -11,7 +11,7 @@ use Rattle.vdcp_words.specs.declared.command.Command.{Command}
 use Rattle.vdcp_words.specs.declared.command.Command.TheVariants as command
 use Rattle.vdcp_port.specs.Clips.{is_playable}
 use Rattle.vdcp_port.specs.Clock.{ClockedPort}
-use Rattle.vdcp_port.specs.Port.{PortState, Cued, empty, cueing, done, made_ready, is_cueing as is_cueing_slot}
+use Rattle.vdcp_port.specs.Port.{PortState, Cued, empty, made_ready, is_cueing as is_cueing_slot}
 use Rattle.vdcp_auto.specs.Commands.{is_sense}
 use Rattle.vdcp_auto.specs.Course.{Reached}
 use Rattle.vdcp_auto.specs.Law.{IsLawful}
@@ -175,8 +175,7 @@ plain_round below c q k plain all idle ready e none on = by (command_in c.plan.l
 -- what the port waits for has come
 pub ready_slot : (cued : Cued) → is_cueing_slot (made_ready cued) ≡ false
 ready_slot empty = refl
-ready_slot (cueing item) = refl
-ready_slot (done item) = refl
+ready_slot _ = refl
 
 pub waited_kept : Below → (c : Channel) → IsKept c → IsKept
     (after_events c (event.Timeout ∷ event.Ready ∷ event.End ∷ []))
@@ -199,15 +198,7 @@ plain_rounds : Below → (n : ℕ) (c : Channel) → IsReached c → c.plan.mode
     → c.state.stop ≡ false
     → (stage : Stage) → c.state.stage ≡ stage → Goes stage → left_at (length c.plan.list - c.state.settled) stage ≤ n
     → (after_events c (times n good_round)).state.stage ≡ Ended outcome.Done
-plain_rounds below n c r plain all none (Awaiting q) e goes few = absurd goes
 plain_rounds below n c r plain all none (Ended outcome.Done) e goes few = ended_stays_on n c outcome.Done e
-plain_rounds below n c r plain all none (Ended outcome.Stopped) e goes few = absurd goes
-plain_rounds below n c r plain all none (Ended outcome.Lost) e goes few = absurd goes
-plain_rounds below n c r plain all none (Ended outcome.Denied) e goes few = absurd goes
-plain_rounds below n c r plain all none (Ended (outcome.Missing k)) e goes few = absurd goes
-plain_rounds below n c r plain all none (Ended (outcome.Refused k)) e goes few = absurd goes
-plain_rounds below n c r plain all none (Ended (outcome.Foreign k)) e goes few = absurd goes
-plain_rounds below n c r plain all none (Ended (outcome.Strange k)) e goes few = absurd goes
 plain_rounds below zero c r plain all none (Ready q) e goes few =
     absurd (impossible (plain_good_round below c q (reached_kept below c r) plain all e none goes).fewer)
   where
@@ -219,6 +210,7 @@ plain_rounds below (suc n) c r plain all none (Ready q) e goes few =
     plain_rounds below n now (events_reached c good_round r) plain (still_playable c all) on.no_wish now.state.stage
     refl on.goes
     (omega (arith, on.fewer, few))
+plain_rounds below n c r plain all none _ e goes few = absurd goes
 
 plain_goes : (c : Channel) → CanGoOn c → IsLawful c.plan c.state c.log → (stage : Stage) → c.state.stage ≡ stage
     → IsTrue (is_ready stage) → Goes stage
@@ -486,13 +478,6 @@ pub confirmed_rounds : Below → (n : ℕ) (c : Channel) → IsReached c → c.p
     → (after_events c (times n good_round)).state.stage ≡ Ended outcome.Done
 confirmed_rounds below n c r confirms all none down up (Ended outcome.Done) e comes few =
     ended_stays_on n c outcome.Done e
-confirmed_rounds below n c r confirms all none down up (Ended outcome.Stopped) e comes few = absurd comes
-confirmed_rounds below n c r confirms all none down up (Ended outcome.Lost) e comes few = absurd comes
-confirmed_rounds below n c r confirms all none down up (Ended outcome.Denied) e comes few = absurd comes
-confirmed_rounds below n c r confirms all none down up (Ended (outcome.Missing k)) e comes few = absurd comes
-confirmed_rounds below n c r confirms all none down up (Ended (outcome.Refused k)) e comes few = absurd comes
-confirmed_rounds below n c r confirms all none down up (Ended (outcome.Foreign k)) e comes few = absurd comes
-confirmed_rounds below n c r confirms all none down up (Ended (outcome.Strange k)) e comes few = absurd comes
 confirmed_rounds below zero c r confirms all none down up (Ready q) e comes few =
     absurd (none_fewer (confirmed_ready below c q (reached_kept below c r) confirms all none e comes).fewer few)
 confirmed_rounds below zero c r confirms all none down up (Awaiting q) e comes few =
@@ -510,6 +495,7 @@ confirmed_rounds below (suc n) c r confirms all none down up (Awaiting q) e come
     confirmed_rounds below n now (events_reached c good_round r) confirms (still_playable c all) on.no_wish on.down
     on.up now.state.stage refl on.comes
     (omega (arith, on.fewer, few))
+confirmed_rounds below n c r confirms all none down up _ e comes few = absurd comes
 
 confirmed_end : Below → (c : Channel) → IsReached c → CanBegin c → (n : ℕ) → rounds_from_new c ≤ n
     → IsDone (after_events c (times n good_round))

@@ -11,7 +11,7 @@ use Rattle.vdcp_words.specs.declared.command.Command.TheVariants as command
 use Rattle.vdcp_words.specs.declared.reply.Reply.{Reply}
 use Rattle.vdcp_words.specs.declared.reply.Reply.TheVariants as reply
 use Rattle.vdcp_port.specs.Clips.{length_of, is_known, is_playable}
-use Rattle.vdcp_port.specs.Port.{PortState, Cued, empty, cueing, done, is_selected, made_ready, ready_state, ended_state, is_empty as is_empty_slot, is_cueing as is_cueing_slot}
+use Rattle.vdcp_port.specs.Port.{PortState, Cued, empty, is_selected, made_ready, ready_state, ended_state, is_empty as is_empty_slot, is_cueing as is_cueing_slot}
 use Rattle.vdcp_auto.specs.Commands.{cue_for, cue_of, is_sense}
 use Rattle.vdcp_auto.specs.Replies.{is_receipt}
 use Rattle.vdcp_auto.specs.Table.{command_in, next}
@@ -96,8 +96,7 @@ sense_of list port _ c e = cc
 
 pub slot_stays : (cued : Cued) → is_empty_slot (made_ready cued) ≡ is_empty_slot cued
 slot_stays empty = refl
-slot_stays (cueing item) = refl
-slot_stays (done item) = refl
+slot_stays _ = refl
 
 pub before_stays : (p : PortState) (q : Phase) → IsReadyFor p q → IsReadyFor (ended_state (ready_state p)) q
 before_stays p q h = grind (arith, slot_stays p.cued)

@@ -56,20 +56,9 @@ module _ (list : List Item) (clips : List (ClipId × Timecode)) where
       (q : Phase) (r : Reply) → Place list cued aired settled q → Tells list clips cued aired q r → HearsCue mode q r
       → is_asked q r ≡ true → PlaceAt list clips cued aired (settled_after (on_reply mode list limit wish tries q r)
       settled) (stage_after (on_reply mode list limit wish tries q r))
-  replied_place cued aired mode settled limit tries wish phase.Open r h t c f = grind (arith, near)
-  replied_place cued aired mode settled limit tries wish phase.Select r h t c f = grind (arith, near)
-  replied_place cued aired mode settled limit tries wish phase.Seen r h t c f = grind (arith, near)
-  replied_place cued aired mode settled limit tries wish (phase.Exists k) r h t c f = grind (arith, near)
-  replied_place cued aired mode settled limit tries wish (phase.Cue k) r h t c f = grind (arith, near)
   replied_place cued aired Plain settled limit tries wish (phase.Wait k) r h t c f = grind (arith, near)
   replied_place cued aired Confirming settled limit tries wish (phase.Wait k) r h t c f = grind (arith, near)
-  replied_place cued aired mode settled limit tries wish (phase.Play k) r h t c f = grind (arith, near)
-  replied_place cued aired mode settled limit tries wish (phase.Probe k) r h t c f = grind (arith, near)
-  replied_place cued aired mode settled limit tries wish (phase.Check k) r h t c f = grind (arith, near)
-  replied_place cued aired mode settled limit tries wish phase.Drain r h t c f = grind (arith, near)
-  replied_place cued aired mode settled limit tries wish phase.Close r h t c f = grind (arith, near)
-  replied_place cued aired mode settled limit tries wish phase.Halt r h t c f = grind (arith, near)
-  replied_place cued aired mode settled limit tries wish phase.HaltClose r h t c f = grind (arith, near)
+  replied_place cued aired mode settled limit tries wish _ r h t c f = grind (arith, near)
 
   pub refused_place : (p : PortState) (aired : List Item) (settled : ℕ) (q : Phase) (r : Reply)
       → Place list p.cued aired settled q → Firm list clips p q → FirmTells list clips p q r → is_refusal r ≡ true

@@ -101,8 +101,7 @@ module _ (n : ℕ) where
       → p.cued ≡ cued → Over n p aired (phase.Play k) → Over n (port_after clips p (Some command.Play))
       (aired ++ aired_after clips p (Some command.Play)) (phase.Play k)
   reads_play clips p empty aired k e h = grind (arith, none_more)
-  reads_play clips p (cueing item) aired k e h = grind (arith, none_more)
-  reads_play clips p (done item) aired k e h = grind (arith, none_more)
+  reads_play clips p _ aired k e h = grind (arith, none_more)
 
   reads_over : (list : List Item) (clips : List (ClipId × Timecode)) (p : PortState) (aired : List Item) (port : ℕ)
       (q : Phase) → Over n p aired q → Over n (port_after clips p (command_in list port q)) (aired ++ aired_after clips
@@ -115,12 +114,11 @@ status_idle : (clips : List (ClipId × Timecode)) (p : PortState) (cued : Cued) 
     → p.cued ≡ cued → p.playing ≡ playing
     → answer_after clips p (Some (command.Status 1)) ≡ Some r → is_done r ≡ true → is_playing r ≡ false
     → (port_after clips p (Some (command.Status 1))).playing ≡ None
-status_idle clips p empty None r x y a ready idle = grind arith
-status_idle clips p empty (Some clip) r x y a ready idle = grind arith
 status_idle clips p (cueing item) None r x y a ready idle = grind arith
 status_idle clips p (cueing item) (Some clip) r x y a ready idle = grind arith
 status_idle clips p (done item) None r x y a ready idle = grind arith
 status_idle clips p (done item) (Some clip) r x y a ready idle = grind arith
+status_idle clips p empty _ r x y a ready idle = grind arith
 
 reads_tell_idle : (list : List Item) (clips : List (ClipId × Timecode)) (p : PortState) (aired : List Item) (port : ℕ)
     (q : Phase) (r : Reply) → answer_after clips p (command_in list port q) ≡ Some r

@@ -10,7 +10,7 @@ use Rattle.vdcp_frame.specs.Burst.{messages_of}
 use Rattle.vdcp_frame.specs.Message.{Content}
 use Rattle.vdcp_port.specs.Answers.{after_messages}
 use Rattle.vdcp_port.specs.Clock.{ClockedPort, after_message, after_change, after_ready, after_ended, after_frame, counted_down, completes_cue, ends_clip, row_at}
-use Rattle.vdcp_port.specs.Row.{Change, keeps, opens, closes, selects, cues, airs, stops}
+use Rattle.vdcp_port.specs.Row.{Change, keeps, opens, closes, selects, stops}
 use Rattle.vdcp_auto.specs.Plan.{Plan}
 use Rattle.vdcp_world.specs.Channel.{Channel, Make, make_of, new_channel, after_event, after_events, IsReached, HappenInPart}
 use Rattle.vdcp_world.specs.declared.event.Event.{Event}
@@ -115,9 +115,8 @@ module _ (plan : Plan) where
   make_change opens p = refl
   make_change closes p = refl
   make_change selects p = refl
-  make_change (cues item) p = refl
-  make_change (airs item) p = refl
   make_change stops p = refl
+  make_change _ p = refl
 
   pub make_messages : (ms : List Content) (p : ClockedPort) → port_make plan (after_messages p ms) ≡ port_make plan p
   make_messages [] p = refl

@@ -14,7 +14,7 @@ use Rattle.vdcp_words.specs.declared.command.Command.TheVariants as command
 use Rattle.vdcp_words.specs.declared.reply.Reply.{Reply}
 use Rattle.vdcp_words.specs.declared.reply.Reply.TheVariants as reply
 use Rattle.vdcp_port.specs.Port.{PortState, Cued, empty, cueing, done, is_selected, is_empty as is_empty_slot}
-use Rattle.vdcp_port.specs.Row.{Change, keeps, opens, closes, selects, cues, airs, stops, command_row, changed}
+use Rattle.vdcp_port.specs.Row.{Change, keeps, opens, closes, selects, stops, command_row, changed}
 use Rattle.vdcp_auto.specs.Commands.{cue_for, cue_of}
 use Rattle.vdcp_auto.specs.Replies.{is_ack, is_done, is_empty, is_refusal}
 use Rattle.vdcp_auto.specs.Table.{command_in, names_other}
@@ -113,9 +113,8 @@ keeps_number keeps p = refl
 keeps_number opens p = refl
 keeps_number closes p = refl
 keeps_number selects p = refl
-keeps_number (cues item) p = refl
-keeps_number (airs item) p = refl
 keeps_number stops p = refl
+keeps_number _ p = refl
 
 module _ (clips : List (ClipId × Timecode)) (p : PortState) where
   pub reads_number : (o : Option Command) → (port_after clips p o).number ≡ p.number

@@ -36,8 +36,7 @@ module _ (list : List Item) (clips : List (ClipId × Timecode)) where
 module _ (list : List Item) (clips : List (ClipId × Timecode)) (p : PortState) where
   ready_firm : (cued : Cued) (q : Phase) → p.cued ≡ cued → Firm list clips p q → Firm list clips (ready_state p) q
   ready_firm empty q e h = grind arith
-  ready_firm (cueing item) q e h = grind arith
-  ready_firm (done item) q e h = grind arith
+  ready_firm _ q e h = grind arith
 
   pub ready_firm_at : (stage : Stage) → FirmAt list clips p stage → FirmAt list clips (ready_state p) stage
   ready_firm_at (Ready q) h = ready_firm p.cued q refl h
@@ -47,8 +46,7 @@ module _ (list : List Item) (clips : List (ClipId × Timecode)) (p : PortState) 
   pub ready_firm_tells : (cued : Cued) (q : Phase) (r : Reply) → p.cued ≡ cued → FirmTells list clips p q r
       → FirmTells list clips (ready_state p) q r
   ready_firm_tells empty q r e h = grind arith
-  ready_firm_tells (cueing item) q r e h = grind arith
-  ready_firm_tells (done item) q r e h = grind arith
+  ready_firm_tells _ q r e h = grind arith
 
   -- ---- the clip has ended
 

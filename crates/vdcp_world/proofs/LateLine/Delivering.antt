@@ -5,7 +5,7 @@ use Rattle.std.specs.List.{list_any}
 use Rattle.std.specs.Prelude.{slice_get}
 use Rattle.vdcp_value.specs.declared.part.Item.{Item}
 use Rattle.vdcp_words.specs.declared.reply.Reply.{Reply}
-use Rattle.vdcp_port.specs.Port.{Cued, empty, cueing, done, is_empty as is_empty_slot, is_done as is_done_cue}
+use Rattle.vdcp_port.specs.Port.{Cued, empty, is_empty as is_empty_slot, is_done as is_done_cue}
 use Rattle.vdcp_auto.specs.Replies.{is_ack, is_refusal, is_done, is_empty}
 use Rattle.vdcp_auto.specs.Commands.{is_presence}
 use Rattle.vdcp_auto.specs.declared.phase.Phase.{Phase}
@@ -133,8 +133,7 @@ cueing_keeps list settled s a aired ups k d r t b airs h lies x = by (cue_or_bef
 
 none_cued : (a : Cued) → is_empty_slot a ≡ true → cued_item a ≡ None
 none_cued empty e = refl
-none_cued (cueing item) e = cc
-none_cued (done item) e = cc
+none_cued _ e = cc
 
 -- where the event's item is cued no state shows that nothing is
 pub never_empty : (list : List Item) (s : Bool) (a : Cued) (k : ℕ) (r : Reply) → k < length list → HasItem list s a k

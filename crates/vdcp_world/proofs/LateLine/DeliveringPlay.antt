@@ -53,8 +53,7 @@ left_none (done x) e = refl
 -- nothing airs where nothing is cued
 pub airs_nothing : (a : Cued) → a ≡ empty → (put_on_air a ≡ []) × (left_cued a ≡ a)
 airs_nothing empty e = (refl, refl)
-airs_nothing (cueing x) e = cc
-airs_nothing (done x) e = cc
+airs_nothing _ e = cc
 
 -- ---- Play and Probe
 

@@ -107,5 +107,4 @@ complete_settles mode n (outcome.Foreign k) e h = (k + 1, h)
 complete_settles mode n (outcome.Strange k) e h = (k, h)
 complete_settles Plain n (outcome.Refused k) e h = cc
 complete_settles Confirming n (outcome.Refused k) e h = (k, h)
-complete_settles mode n outcome.Lost e h = cc
-complete_settles mode n outcome.Stopped e h = cc
+complete_settles mode n _ e h = cc

@@ -216,11 +216,7 @@ none_plays mode n ups downs phase.Drain e c =
 none_plays mode n ups downs phase.Close e c =
     no_plays mode n (5 * n + 1) (5 * n + 3) ups downs
     (quiet mode n n (5 * n + 1) (5 * n + 3) (omega arith) (omega arith)) c
-none_plays mode n ups downs (phase.Play k) e c = cc
-none_plays mode n ups downs (phase.Probe k) e c = cc
-none_plays mode n ups downs (phase.Check k) e c = cc
-none_plays mode n ups downs phase.Halt e c = cc
-none_plays mode n ups downs phase.HaltClose e c = cc
+none_plays mode n ups downs _ e c = cc
 
 -- nor in Check anything that arms
 pub none_arms_in : (mode : Mode) (n k : ℕ) (ups : List Answer) (downs : List Phase)
