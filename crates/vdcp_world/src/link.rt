@@ -1,5 +1,5 @@
 //! What each event does to a world, over bytes.
-ghost use Rattle.std.specs.Prelude.{◌≡◌, ◌<◌, ◌≤◌, [], ◌++◌, OnOk, OnErr, vec_len, vec_capacity};
+ghost use Rattle.std.specs.Prelude.{◌≡◌, ◌≤◌, [], ◌++◌, OnOk, OnErr};
 ghost use Rattle.vdcp_auto.specs.Course.{logged};
 ghost use Rattle.vdcp_auto.specs.Plan.{plan_of};
 ghost use Rattle.vdcp_auto.specs.Turn as turns;
@@ -120,7 +120,6 @@ impl<S: Source, C: Catalogue, A: Allocator + Copy> Link<S, C, A> {
         ensures step { OnOk result (self.new ≡ after_event self.old event.now) }
         ensures refused { OnErr result (self.new ≡ self.old) }
     {
-        make_room(&mut self.aired, &mut self.log)?;
         let unit = self.port.unit();
         match event {
             Event::Tick => tick(&mut self.controller, unit, &mut self.down, &mut self.up),
@@ -129,18 +128,28 @@ impl<S: Source, C: Catalogue, A: Allocator + Copy> Link<S, C, A> {
                 &mut self.down,
                 &mut self.up,
                 &mut self.aired,
-            ),
+            )?,
             Event::DownCopy => read_burst(
                 &mut self.port,
                 &self.down,
                 &mut self.lost,
                 &mut self.aired,
-            ),
+            )?,
             Event::Up => {
-                hear(&mut self.controller, &self.up, unit, &mut self.log);
+                hear(
+                    &mut self.controller,
+                    self.up.as_slice(),
+                    unit,
+                    &mut self.log,
+                )?;
                 self.up.clear();
             }
-            Event::UpCopy => hear(&mut self.controller, &self.up, unit, &mut self.log),
+            Event::UpCopy => hear(
+                &mut self.controller,
+                self.up.as_slice(),
+                unit,
+                &mut self.log,
+            )?,
             Event::LoseDown => self.down.clear(),
             Event::LoseUp => self.up.clear(),
             Event::AlterDown(burst) => alter_down(&mut self.down, burst.bytes()),
@@ -148,7 +157,7 @@ impl<S: Source, C: Catalogue, A: Allocator + Copy> Link<S, C, A> {
                 alter_up(&self.controller, unit, &mut self.up, burst.bytes());
             }
             Event::Timeout => {
-                time_out(&mut self.controller, &self.down, &self.up, &mut self.log);
+                time_out(&mut self.controller, &self.down, &self.up, &mut self.log)?;
             }
             Event::Ready => self.port.ready(),
             Event::End => self.port.ended(),
@@ -157,25 +166,11 @@ impl<S: Source, C: Catalogue, A: Allocator + Copy> Link<S, C, A> {
             }
             Event::Take => self.controller.take(),
             Event::Stop => self.controller.stop(),
-            Event::StrayAck => stray(&mut self.controller, Reply::Ack, &mut self.log),
-            Event::StrayNak(byte) => stray(&mut self.controller, Reply::Nak(*byte), &mut self.log),
+            Event::StrayAck => stray(&mut self.controller, Reply::Ack, &mut self.log)?,
+            Event::StrayNak(byte) => stray(&mut self.controller, Reply::Nak(*byte), &mut self.log)?,
         }
         Ok(())
     }
-}
-
-/// Room for one more of each.
-fn make_room<A: Allocator>(
-    aired: &mut Vec<Item, A>,
-    log: &mut Vec<Exchange, A>,
-) -> Result<(), AllocError>
-    ensures aired { aired.new.items ≡ aired.old.items }
-    ensures log { log.new.items ≡ log.old.items }
-    ensures aired_room { OnOk result (vec_len aired.new < vec_capacity aired.new) }
-    ensures log_room { OnOk result (vec_len log.new < vec_capacity log.new) }
-{
-    aired.reserve(1)?;
-    log.reserve(1)
 }
 
 /// The controller's next command is on the way down, if it gives one; else nothing changes.
@@ -215,17 +210,19 @@ fn deliver<C: Catalogue, A: Allocator>(
     down: &mut ArrayVec<u8, 1024>,
     up: &mut ArrayVec<u8, 3074>,
     aired: &mut Vec<Item, A>,
-)
-    requires { vec_len aired.old < vec_capacity aired.old }
-    ensures port { port.new ≡ after_burst port.old down.old.items }
-    ensures down { down.new.items ≡ [] }
-    ensures up { up.new.items ≡ answered port.old down.old.items up.old.items }
-    ensures aired { aired.new.items ≡ aired.old.items ++ aired_for port.old down.old.items }
+) -> Result<(), AllocError>
+    ensures port { OnOk result (port.new ≡ after_burst port.old down.old.items) }
+    ensures down { OnOk result (down.new.items ≡ []) }
+    ensures up { OnOk result (up.new.items ≡ answered port.old down.old.items up.old.items) }
+    ensures aired { OnOk result (aired.new.items ≡ aired.old.items ++ aired_for port.old down.old.items) }
+    ensures refused { OnErr result ((port.new ≡ port.old) × (down.new.items ≡ down.old.items)
+        × (up.new.items ≡ up.old.items) × (aired.new.items ≡ aired.old.items)) }
 {
     if !down.is_empty() {
-        read_burst(port, down, up, aired);
+        read_burst(port, down, up, aired)?;
         down.clear();
     }
+    Ok(())
 }
 
 /// The port reads a burst; its answer stands in place of what the buffer held.
@@ -234,36 +231,40 @@ fn read_burst<C: Catalogue, A: Allocator>(
     burst: &ArrayVec<u8, 1024>,
     answer: &mut ArrayVec<u8, 3074>,
     aired: &mut Vec<Item, A>,
-)
-    requires { vec_len aired.old < vec_capacity aired.old }
-    ensures port { port.new ≡ after_burst port.old burst.now.items }
-    ensures answer { answer.new.items ≡ sent_for port.old burst.now.items }
-    ensures aired { aired.new.items ≡ aired.old.items ++ aired_for port.old burst.now.items }
+) -> Result<(), AllocError>
+    ensures port { OnOk result (port.new ≡ after_burst port.old burst.now.items) }
+    ensures answer { OnOk result (answer.new.items ≡ sent_for port.old burst.now.items) }
+    ensures aired { OnOk result (aired.new.items ≡ aired.old.items ++ aired_for port.old burst.now.items) }
+    ensures refused { OnErr result ((port.new ≡ port.old) × (answer.new.items ≡ answer.old.items)
+        × (aired.new.items ≡ aired.old.items)) }
 {
+    aired.reserve(1)?;
     answer.clear();
     if let Some(item) = port.answer_into(burst.as_slice(), answer) {
-        aired.push(item).unwrap();
+        aired.push_reserved(item);
     }
+    Ok(())
 }
 
-/// The controller hears the first message of what is on the way up.
-fn hear<S: Source, A: Allocator>(
+/// The controller hears the first message of a burst on the way up.
+pub(crate) fn hear<S: Source, A: Allocator>(
     controller: &mut Controller<S>,
-    up: &ArrayVec<u8, 3074>,
+    burst: &[u8],
     unit: u8,
     log: &mut Vec<Exchange, A>,
-)
-    requires { vec_len log.old < vec_capacity log.old }
-    ensures controller { controller.new ≡ record controller.old {
-      state = state_hearing (plan_of S.items controller.old) (heard_in unit up.now.items) controller.old.state;
-    } }
-    ensures log { log.new.items ≡ log_hearing (plan_of S.items controller.old) (heard_in unit up.now.items)
-        controller.old.state log.old.items }
+) -> Result<(), AllocError>
+    ensures controller { OnOk result (controller.new ≡ record controller.old {
+      state = state_hearing (plan_of S.items controller.old) (heard_in unit burst.now) controller.old.state;
+    }) }
+    ensures log { OnOk result (log.new.items ≡ log_hearing (plan_of S.items controller.old) (heard_in unit burst.now)
+        controller.old.state log.old.items) }
+    ensures refused { OnErr result ((controller.new ≡ controller.old) × (log.new.items ≡ log.old.items)) }
 {
-    let came = heard::first_of(up.as_slice(), unit);
-    if came.is_some() {
-        end_exchange(controller, came, log);
+    let came = heard::first_of(burst, unit);
+    if came.is_none() {
+        return Ok(());
     }
+    end_exchange(controller, came, log)
 }
 
 /// What is on the way down becomes these bytes, if it can.
@@ -298,51 +299,56 @@ fn time_out<S: Source, A: Allocator>(
     down: &ArrayVec<u8, 1024>,
     up: &ArrayVec<u8, 3074>,
     log: &mut Vec<Exchange, A>,
-)
-    requires { vec_len log.old < vec_capacity log.old }
-    ensures controller { controller.new ≡ record controller.old {
+) -> Result<(), AllocError>
+    ensures controller { OnOk result (controller.new ≡ record controller.old {
       state = state_waiting (plan_of S.items controller.old) down.now.items up.now.items controller.old.state;
-    } }
-    ensures log { log.new.items ≡ log_waiting (plan_of S.items controller.old) down.now.items up.now.items
-        controller.old.state log.old.items }
+    }) }
+    ensures log { OnOk result (log.new.items ≡ log_waiting (plan_of S.items controller.old) down.now.items up.now.items
+        controller.old.state log.old.items) }
+    ensures refused { OnErr result ((controller.new ≡ controller.old) × (log.new.items ≡ log.old.items)) }
 {
     if down.is_empty() && up.is_empty() {
-        end_exchange(controller, None, log);
+        end_exchange(controller, None, log)?;
     }
+    Ok(())
 }
 
 /// The controller hears a receipt from nowhere, in confirm mode.
-fn stray<S: Source, A: Allocator>(
+pub(crate) fn stray<S: Source, A: Allocator>(
     controller: &mut Controller<S>,
     receipt: Reply,
     log: &mut Vec<Exchange, A>,
-)
-    requires { vec_len log.old < vec_capacity log.old }
-    ensures controller { controller.new ≡ record controller.old {
+) -> Result<(), AllocError>
+    ensures controller { OnOk result (controller.new ≡ record controller.old {
       state = state_straying controller.old.mode (plan_of S.items controller.old) receipt controller.old.state;
-    } }
-    ensures log { log.new.items ≡ log_straying controller.old.mode (plan_of S.items controller.old) receipt
-        controller.old.state log.old.items }
+    }) }
+    ensures log { OnOk result (log.new.items ≡ log_straying controller.old.mode (plan_of S.items controller.old) receipt
+        controller.old.state log.old.items) }
+    ensures refused { OnErr result ((controller.new ≡ controller.old) × (log.new.items ≡ log.old.items)) }
 {
     if controller.is_confirming() {
-        end_exchange(controller, Some(Heard::Reply(receipt)), log);
+        end_exchange(controller, Some(Heard::Reply(receipt)), log)?;
     }
+    Ok(())
 }
 
-/// What came, or silence, comes to the controller; the exchange that it ends is logged.
-fn end_exchange<S: Source, A: Allocator>(
+/// What came, or silence, comes to the controller; the exchange that it ends is logged. If memory is refused nothing
+/// comes.
+pub(crate) fn end_exchange<S: Source, A: Allocator>(
     controller: &mut Controller<S>,
     came: Option<Heard>,
     log: &mut Vec<Exchange, A>,
-)
-    requires { vec_len log.old < vec_capacity log.old }
-    ensures controller { controller.new ≡ record controller.old {
+) -> Result<(), AllocError>
+    ensures controller { OnOk result (controller.new ≡ record controller.old {
       state = turns.came_to (plan_of S.items controller.old) came controller.old.state;
-    } }
-    ensures log { log.new.items ≡ logged log.old.items
-        (turns.ended_by (plan_of S.items controller.old) came controller.old.state) }
+    }) }
+    ensures log { OnOk result (log.new.items ≡ logged log.old.items
+        (turns.ended_by (plan_of S.items controller.old) came controller.old.state)) }
+    ensures refused { OnErr result ((controller.new ≡ controller.old) × (log.new.items ≡ log.old.items)) }
 {
+    log.reserve(1)?;
     if let Some(exchange) = controller.receive(came) {
-        log.push(exchange).unwrap();
+        log.push_reserved(exchange);
     }
+    Ok(())
 }

@@ -2,7 +2,7 @@
 ghost use Rattle.hex.specs.Hex.{encode_lower};
 ghost use Rattle.std.specs.Prelude.{◌≡◌, ◌≤◌, ◌++◌, ◌∷◌, [], List, ℕ, codes, length, map, IfOk, IfSome, Some, None, IsSomeAnd, IsTrue, option_map, OnOk};
 ghost use Rattle.vdcp_world.specs.Rounds.{round, times};
-ghost use Rattle.vdcp_world.specs.Script.{IsScript, IsLineOf, SaysMore, Counts, WritesBytes, is_skipped, repeated_events, worded};
+ghost use Rattle.vdcp_world.specs.Script.{IsScript, IsLineOf, SaysMore, Counts, WritesBytes, is_skipped, repeated_events, repeated_word, worded};
 ghost use Rattle.vdcp_world.specs.declared.event.Event.{Event};
 
 use crate::burst::Burst;
@@ -228,13 +228,22 @@ fn read_words<E: ScriptEvent>(
     ensures says { OnOk result (SaysMore E.of E.own
         (worded line.now.word.now (option_map (λ t. t.now) line.now.argument)) events.old.items events.new.items) }
 {
-    let repeated = match line.word {
-        "frame" => Repeated::Frame,
-        "round" => Repeated::Round,
-        "good" => Repeated::GoodRound,
-        _ => return push(E::of_event(event_of(alloc, line)?), events),
-    };
-    push_again(repeated, line.count()?, events)
+    match repeated_by(line.word) {
+        Some(repeated) => push_again(repeated, line.count()?, events),
+        None => push(E::of_event(event_of(alloc, line)?), events),
+    }
+}
+
+/// What a line with this first word repeats.
+fn repeated_by(word: &str) -> Option<Repeated>
+    ensures { IfSome result (λ repeated. word.now ≡ repeated_word repeated) }
+{
+    match word {
+        "frame" => Some(Repeated::Frame),
+        "round" => Some(Repeated::Round),
+        "good" => Some(Repeated::GoodRound),
+        _ => None,
+    }
 }
 
 /// The event of a line that has one.

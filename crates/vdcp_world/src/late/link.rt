@@ -1,24 +1,21 @@
 //! What each event does to a late world, over bytes.
-ghost use Rattle.std.specs.Prelude.{◌≡◌, ◌<◌, ◌≤◌, ◌++◌, OnOk, OnErr, [], vec_len, vec_capacity};
-ghost use Rattle.vdcp_auto.specs.Course.{logged};
-ghost use Rattle.vdcp_auto.specs.Heard.{heard_in};
+ghost use Rattle.std.specs.Prelude.{◌≡◌, ◌≤◌, ◌++◌, OnOk, OnErr, []};
 ghost use Rattle.vdcp_auto.specs.Plan.{plan_of};
 ghost use Rattle.vdcp_auto.specs.Turn as turns;
 ghost use Rattle.vdcp_world.specs.LateLine.Damage as damage;
 ghost use Rattle.vdcp_world.specs.LateLine.LateChannel.{after_late_event, bursts_of, command_bursts, new_late_channel, oldest};
 ghost use Rattle.vdcp_port.specs.Answers.{sent_for, aired_for, after_burst};
-ghost use Rattle.vdcp_world.specs.Channel.{log_hearing, log_straying, state_hearing, state_straying};
 
-use crate::heard::first_of;
 use crate::late::damage::{can_become, can_become_up, is_junk_down, is_junk_up};
 use crate::late::event::LateEvent;
 use crate::late::queue::{
     Queue, Waiting, burst_at, drop_oldest, join, lose, oldest_of, put_in, replace,
 };
+use crate::link::{end_exchange, hear, stray};
 use std::alloc::{AllocError, Allocator};
 use std::collections::VecDeque;
 use std::marker::Model;
-use vdcp_auto::{Controller, Exchange, Heard, Outcome, Source};
+use vdcp_auto::{Controller, Exchange, Outcome, Source};
 use vdcp_port::{Catalogue, Port};
 use vdcp_value::Item;
 use vdcp_words::{LONGEST, Reply};
@@ -122,10 +119,20 @@ impl<S: Source, C: Catalogue, A: Allocator + Copy> LateLink<S, C, A> {
                 )?;
             }
             LateEvent::Up => {
-                hear(&mut self.controller, unit, &self.up, &mut self.log)?;
+                hear(
+                    &mut self.controller,
+                    oldest_of(&self.up),
+                    unit,
+                    &mut self.log,
+                )?;
                 drop_oldest(&mut self.up);
             }
-            LateEvent::UpCopy => hear(&mut self.controller, unit, &self.up, &mut self.log)?,
+            LateEvent::UpCopy => hear(
+                &mut self.controller,
+                oldest_of(&self.up),
+                unit,
+                &mut self.log,
+            )?,
             LateEvent::LoseDown(place) => lose(&mut self.down, *place),
             LateEvent::LoseUp(place) => lose(&mut self.up, *place),
             LateEvent::AlterDown(place, burst) => {
@@ -140,7 +147,7 @@ impl<S: Source, C: Catalogue, A: Allocator + Copy> LateLink<S, C, A> {
             LateEvent::JunkUp(place, burst) => {
                 add_up(&self.controller, unit, &mut self.up, *place, burst.bytes())?;
             }
-            LateEvent::Timeout => time_out(&mut self.controller, &mut self.log)?,
+            LateEvent::Timeout => end_exchange(&mut self.controller, None, &mut self.log)?,
             LateEvent::Ready => self.port.ready(),
             LateEvent::End => self.port.ended(),
             LateEvent::Frame => {
@@ -150,7 +157,7 @@ impl<S: Source, C: Catalogue, A: Allocator + Copy> LateLink<S, C, A> {
             LateEvent::Stop => self.controller.stop(),
             LateEvent::ServerAnew => self.port.start_anew(),
             LateEvent::AutomationAnew => {
-                time_out(&mut self.controller, &mut self.log)?;
+                end_exchange(&mut self.controller, None, &mut self.log)?;
                 self.controller.forget();
             }
             LateEvent::StrayAck => stray(&mut self.controller, Reply::Ack, &mut self.log)?,
@@ -207,83 +214,6 @@ fn deliver<C: Catalogue, A: Allocator + Copy>(
     port.burst_answer(oldest_of(down), &mut answer, aired)?;
     join(up, answer);
     Ok(())
-}
-
-/// The controller hears the first message of the oldest burst on the way up, which stays there.
-fn hear<S: Source, A: Allocator>(
-    controller: &mut Controller<S>,
-    unit: u8,
-    up: &Queue<A>,
-    log: &mut Vec<Exchange, A>,
-) -> Result<(), AllocError>
-    ensures controller { OnOk result (controller.new ≡ record controller.old {
-      state = state_hearing (plan_of S.items controller.old) (heard_in unit (oldest up.now.items)) controller.old.state;
-    }) }
-    ensures log { OnOk result (log.new.items ≡ log_hearing (plan_of S.items controller.old)
-        (heard_in unit (oldest up.now.items)) controller.old.state log.old.items) }
-    ensures refused { OnErr result ((controller.new ≡ controller.old) × (log.new.items ≡ log.old.items)) }
-{
-    log.reserve(1)?;
-    let came = first_of(oldest_of(up), unit);
-    if came.is_some() {
-        end_exchange(controller, came, log);
-    }
-    Ok(())
-}
-
-/// Nothing came in time.
-fn time_out<S: Source, A: Allocator>(
-    controller: &mut Controller<S>,
-    log: &mut Vec<Exchange, A>,
-) -> Result<(), AllocError>
-    ensures controller { OnOk result (controller.new ≡ record controller.old {
-      state = turns.came_to (plan_of S.items controller.old) None controller.old.state;
-    }) }
-    ensures log { OnOk result (log.new.items ≡ logged log.old.items
-        (turns.ended_by (plan_of S.items controller.old) None controller.old.state)) }
-    ensures refused { OnErr result ((controller.new ≡ controller.old) × (log.new.items ≡ log.old.items)) }
-{
-    log.reserve(1)?;
-    end_exchange(controller, None, log);
-    Ok(())
-}
-
-/// The controller hears a receipt from nowhere, in confirm mode.
-fn stray<S: Source, A: Allocator>(
-    controller: &mut Controller<S>,
-    receipt: Reply,
-    log: &mut Vec<Exchange, A>,
-) -> Result<(), AllocError>
-    ensures controller { OnOk result (controller.new ≡ record controller.old {
-      state = state_straying controller.old.mode (plan_of S.items controller.old) receipt controller.old.state;
-    }) }
-    ensures log { OnOk result (log.new.items ≡ log_straying controller.old.mode (plan_of S.items controller.old) receipt
-        controller.old.state log.old.items) }
-    ensures refused { OnErr result ((controller.new ≡ controller.old) × (log.new.items ≡ log.old.items)) }
-{
-    log.reserve(1)?;
-    if controller.is_confirming() {
-        end_exchange(controller, Some(Heard::Reply(receipt)), log);
-    }
-    Ok(())
-}
-
-/// What came, or silence, comes to the controller; the exchange that it ends is logged.
-fn end_exchange<S: Source, A: Allocator>(
-    controller: &mut Controller<S>,
-    came: Option<Heard>,
-    log: &mut Vec<Exchange, A>,
-)
-    requires { vec_len log.old < vec_capacity log.old }
-    ensures controller { controller.new ≡ record controller.old {
-      state = turns.came_to (plan_of S.items controller.old) came controller.old.state;
-    } }
-    ensures log { log.new.items ≡ logged log.old.items
-        (turns.ended_by (plan_of S.items controller.old) came controller.old.state) }
-{
-    if let Some(exchange) = controller.receive(came) {
-        log.push_reserved(exchange);
-    }
 }
 
 /// The burst at this place of the queue down becomes these bytes, where it can.
