@@ -1,5 +1,3 @@
 -- The lemmas, file by file.
 mod Sending
 mod Uncarried
-mod Reading
-mod Printing

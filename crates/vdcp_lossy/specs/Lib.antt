@@ -2,6 +2,4 @@
 pub mod Brought
 pub mod Doings
 pub mod Carried
-pub mod Texts
-pub mod Printed
 pub mod Lossy

@@ -6,8 +6,6 @@ ghost use Rattle.vdcp_wire.specs.Wires.{adds_drop, adds_sent};
 ghost use Rattle.vdcp_lossy.specs.Brought.{HasSome};
 ghost use Rattle.vdcp_lossy.specs.Carried.{GoesUp, PassesOn, sent_by};
 ghost use Rattle.vdcp_lossy.specs.Doings.{adds_part, goes_on, joined, part_on, receipt_message};
-ghost use Rattle.vdcp_lossy.specs.Printed.{PrintsFate, PrintsFates};
-ghost use Rattle.vdcp_lossy.specs.declared.doing.Doing.{Doing};
 
 use crate::doing::{Doing, HeldBurst, Receipt};
 use crate::session::{Brought, CarryEnd, CarryFault, Session};
@@ -28,7 +26,6 @@ pub fn carry<R: Clock, A: Wire, S: Wire, W: io::Write>(
 ) -> Result<CarryEnd, CarryFault>
     requires automation { A.failures automation.old ≡ 0 }
     requires server { S.failures server.old ≡ 0 }
-    ensures { OnOk result (PrintsFates session.old.tally session.new.tally (W.contents out.old) (W.contents out.new)) }
 {
     let mut command = HeldBurst::new();
     'bursts: while session.left() > 0 {
@@ -54,8 +51,6 @@ fn take<R: Clock, A: Wire, S: Wire, W: io::Write>(
     requires some { HasSome brought command.now.items }
     ensures settings { session.new.settings ≡ session.old.settings }
     ensures no_more { session.new.left ≤ session.old.left }
-    ensures told { OnOk result (PrintsFates session.old.tally session.new.tally (W.contents out.old)
-        (W.contents out.new)) }
     ensures automation { OnOk result (A.failures automation.new ≡ 0) }
     ensures server { OnOk result (S.failures server.new ≡ 0) }
 {
@@ -89,9 +84,6 @@ fn ask<R: Clock, S: Wire, W: io::Write>(
     requires some { 0 < length command.now.items }
     ensures sent { OnOk result (PassesOn session.old.settings.chances Way.Down command.now.items (S.told server.old)
         (S.told server.new)) }
-    ensures told { OnOk result ((d : Doing)
-        × PrintsFate Way.Down d command.now.items session.old.tally session.new.tally
-        (W.contents out.old) (W.contents out.new)) }
     ensures settings { session.new.settings ≡ session.old.settings }
     ensures no_more { session.new.left ≤ session.old.left }
     ensures some { IfOk result (λ brought. HasSome brought answer.new.items) }
@@ -123,7 +115,6 @@ fn ask_twice<R: Clock, S: Wire>(
     ensures sent { OnOk result (Keeps (sent_by (S.told server.old)) (sent_by (S.told server.new))
         ⊎ Appends (sent_by (S.told server.old)) (sent_by (S.told server.new)) command.now.items) }
     ensures settings { session.new.settings ≡ session.old.settings }
-    ensures tally { session.new.tally ≡ session.old.tally }
     ensures no_more { session.new.left ≤ session.old.left }
     ensures some { IfOk result (λ brought. HasSome brought answer.new.items) }
     ensures server { OnOk result (S.failures server.new ≡ 0) }
@@ -152,8 +143,6 @@ fn answer_with<R: Clock, A: Wire, W: io::Write>(
     requires some { HasSome brought answer.now.items }
     ensures sent { OnOk result (GoesUp session.old.settings.chances brought answer.now.items (A.told automation.old)
         (A.told automation.new)) }
-    ensures told { OnOk result (PrintsFates session.old.tally session.new.tally (W.contents out.old)
-        (W.contents out.new)) }
     ensures settings { session.new.settings ≡ session.old.settings }
     ensures left { session.new.left ≡ session.old.left }
     ensures automation { OnOk result (A.failures automation.new ≡ 0) }
@@ -187,8 +176,6 @@ fn go_up<R: Clock, A: Wire, W: io::Write>(
     requires automation { A.failures automation.old ≡ 0 }
     ensures sent { OnOk result (Appends (sent_by (A.told automation.old)) (sent_by (A.told automation.new))
         (joined (goes_on doing.now came.now))) }
-    ensures told { OnOk result (PrintsFate Way.Up doing.now came.now session.old.tally session.new.tally
-        (W.contents out.old) (W.contents out.new)) }
     ensures settings { session.new.settings ≡ session.old.settings }
     ensures left { session.new.left ≡ session.old.left }
     ensures automation { OnOk result (A.failures automation.new ≡ 0) }

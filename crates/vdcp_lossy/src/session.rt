@@ -5,7 +5,6 @@ ghost use Rattle.vdcp_wire.specs.Wires.{FitsBuffer, adds_came, arrival_of};
 ghost use Rattle.vdcp_lossy.specs.Brought.{HasSome};
 ghost use Rattle.vdcp_lossy.specs.Carried.{sent_by};
 ghost use Rattle.vdcp_lossy.specs.Doings.{HasChance, IsForged, MayBeDone};
-ghost use Rattle.vdcp_lossy.specs.Printed.{PrintsFate, no_counts, with_answer, with_command};
 
 use crate::dice::Dice;
 use crate::doing::{Doing, HeldBurst};
@@ -62,7 +61,6 @@ impl<'a, R: Clock> Session<'a, R> {
     /// Nothing came yet.
     pub fn new(clock: &'a R, settings: LossySettings) -> Self
         ensures settings { result.settings ≡ settings }
-        ensures tally { result.tally ≡ no_counts }
     {
         Session {
             clock,
@@ -80,9 +78,7 @@ impl<'a, R: Clock> Session<'a, R> {
     }
 
     /// What came, and what was done with it.
-    pub fn tally(&self) -> &Tally
-        ensures { result.now ≡ self.now.tally }
-    {
+    pub fn tally(&self) -> &Tally {
         &self.tally
     }
 
@@ -99,7 +95,6 @@ impl<'a, R: Clock> Session<'a, R> {
         ensures sent { OnOk result (Keeps (sent_by (W.told wire.old)) (sent_by (W.told wire.new))) }
         ensures works { OnOk result (W.failures wire.new ≡ 0) }
         ensures settings { self.new.settings ≡ self.old.settings }
-        ensures tally { self.new.tally ≡ self.old.tally }
     {
         burst.clear();
         let mut began = None;
@@ -132,7 +127,6 @@ impl<'a, R: Clock> Session<'a, R> {
     pub fn count_command(&mut self)
         ensures left { self.new.left ≡ self.old.left }
         ensures settings { self.new.settings ≡ self.old.settings }
-        ensures tally { self.new.tally ≡ with_command self.old.tally }
     {
         self.tally.count_command();
     }
@@ -141,7 +135,6 @@ impl<'a, R: Clock> Session<'a, R> {
     pub fn count_answer(&mut self)
         ensures left { self.new.left ≡ self.old.left }
         ensures settings { self.new.settings ≡ self.old.settings }
-        ensures tally { self.new.tally ≡ with_answer self.old.tally }
     {
         self.tally.count_answer();
     }
@@ -195,8 +188,6 @@ impl<'a, R: Clock> Session<'a, R> {
     ) -> Result<(), CarryFault>
         ensures left { self.new.left ≡ self.old.left }
         ensures settings { self.new.settings ≡ self.old.settings }
-        ensures told { OnOk result (PrintsFate way doing.now came.now self.old.tally self.new.tally
-            (W.contents out.old) (W.contents out.new)) }
     {
         let number = self.tally.commands;
         self.tally.count(doing);

@@ -1,8 +1,4 @@
 //! The counts of bursts, and their lines.
-ghost use Rattle.std.specs.Io.KnownBytes.{Appends};
-ghost use Rattle.std.specs.Prelude.{◌≡◌, OnOk};
-ghost use Rattle.vdcp_lossy.specs.Printed.{counts_text, no_counts, one_more, with_answer, with_command, with_doing};
-
 use crate::doing::Doing;
 use std::io;
 
@@ -22,9 +18,7 @@ pub struct Tally {
 
 impl Tally {
     /// Nothing came yet.
-    pub fn new() -> Tally
-        ensures { result ≡ no_counts }
-    {
+    pub fn new() -> Tally {
         Tally {
             commands: 0,
             answers: 0,
@@ -39,23 +33,17 @@ impl Tally {
     }
 
     /// Counts a command.
-    pub fn count_command(&mut self)
-        ensures { self.new ≡ with_command self.old }
-    {
+    pub fn count_command(&mut self) {
         self.commands = self.commands.saturating_add(1);
     }
 
     /// Counts an answer.
-    pub fn count_answer(&mut self)
-        ensures { self.new ≡ with_answer self.old }
-    {
+    pub fn count_answer(&mut self) {
         self.answers = self.answers.saturating_add(1);
     }
 
     /// Counts what was done with a burst.
-    pub fn count(&mut self, doing: &Doing)
-        ensures { self.new ≡ with_doing doing.now self.old }
-    {
+    pub fn count(&mut self, doing: &Doing) {
         match doing {
             Doing::Through => add_one(&mut self.through),
             Doing::Lost => add_one(&mut self.lost),
@@ -68,9 +56,7 @@ impl Tally {
     }
 
     /// Writes a line for each count.
-    pub fn write<W: io::Write>(&self, out: &mut W) -> io::Result<()>
-        ensures { OnOk result (Appends (W.contents out.old) (W.contents out.new) (counts_text self.now)) }
-    {
+    pub fn write<W: io::Write>(&self, out: &mut W) -> io::Result<()> {
         let Tally {
             commands,
             answers,
@@ -95,8 +81,6 @@ impl Tally {
 }
 
 // One more, up to the largest number.
-fn add_one(count: &mut u64)
-    ensures { count.new ≡ one_more 64 count.old }
-{
+fn add_one(count: &mut u64) {
     *count = count.saturating_add(1);
 }

@@ -1,8 +1,4 @@
 //! The line that is printed of a burst.
-ghost use Rattle.std.specs.Io.KnownBytes.{Appends};
-ghost use Rattle.std.specs.Prelude.{◌≡◌, OnOk};
-ghost use Rattle.vdcp_frame.specs.Walk.{end_seen};
-ghost use Rattle.vdcp_lossy.specs.Texts.{burst_line, last_text, reading_line, way_text};
 
 use crate::doing::Doing;
 use std::{fmt, io};
@@ -17,10 +13,7 @@ pub fn write_burst_line<W: io::Write>(
     doing: &Doing,
     came: &[u8],
     out: &mut W,
-) -> io::Result<()>
-    ensures { OnOk result (Appends (W.contents out.old) (W.contents out.new)
-        (burst_line number way doing.now came.now)) }
-{
+) -> io::Result<()> {
     let way = way_text(way);
     write!(out, "{number} {way} {doing} ")?;
     write_reading(came, out)?;
@@ -30,9 +23,7 @@ pub fn write_burst_line<W: io::Write>(
 
 /// Writes a burst's reading in one line: its messages with what they say, and its end if that isn't clean. It is
 /// `nothing` if there is no byte.
-pub fn write_reading<W: io::Write>(burst: &[u8], out: &mut W) -> io::Result<()>
-    ensures { OnOk result (Appends (W.contents out.old) (W.contents out.new) (reading_line burst.now)) }
-{
+pub fn write_reading<W: io::Write>(burst: &[u8], out: &mut W) -> io::Result<()> {
     let mut between = "";
     let mut messages = Messages::of(burst);
     'messages: while let Some(message) = messages.next() {
@@ -45,9 +36,7 @@ pub fn write_reading<W: io::Write>(burst: &[u8], out: &mut W) -> io::Result<()>
 }
 
 // Writes the end of a reading, after what stands between it and its messages.
-fn write_end<W: io::Write>(end: End, between: &str, out: &mut W) -> io::Result<()>
-    ensures { OnOk result (Appends (W.contents out.old) (W.contents out.new) (last_text (end_seen end) between.now)) }
-{
+fn write_end<W: io::Write>(end: End, between: &str, out: &mut W) -> io::Result<()> {
     match end {
         End::Clean if between.is_empty() => write!(out, "nothing"),
         End::Clean => Ok(()),
@@ -59,9 +48,7 @@ fn write_end<W: io::Write>(end: End, between: &str, out: &mut W) -> io::Result<(
 }
 
 // The way as a word.
-fn way_text(way: Way) -> &'static str
-    ensures { result.now ≡ way_text way }
-{
+fn way_text(way: Way) -> &'static str {
     match way {
         Way::Down => "down",
         Way::Up => "up",
@@ -69,11 +56,6 @@ fn way_text(way: Way) -> &'static str
 }
 
 impl fmt::Display for Doing {
-    ghost use Rattle.std.specs.Prelude.{Some};
-    ghost use Rattle.vdcp_lossy.specs.Texts.{doing_text};
-
-    ghost output = { λ doing. Some (doing_text doing) };
-
     fn fmt<W: fmt::Write>(&self, f: &mut fmt::Formatter<W>) -> fmt::Result {
         match self {
             Doing::Through => write!(f, "through"),

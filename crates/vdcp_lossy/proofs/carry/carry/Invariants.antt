@@ -1,13 +1,10 @@
 use Rattle.std.proofs.Common.{◌≡◌}
-use Rattle.vdcp_lossy.specs.Printed.{PrintsFates}
 use Rattle.vdcp_lossy.proofs.carry.carry.Given as goal
 
 abbrev pub invariant-bursts : goal.invariant-bursts
 invariant-bursts g l = record {
   automation : g.A.Wire.failures l.automation ≡ 0;
   server : g.S.Wire.failures l.server ≡ 0;
-  told : PrintsFates l.initial.session.tally l.session.tally (g.W.Write.contents l.initial.out)
-      (g.W.Write.contents l.out);
 }
 
 abbrev pub decreases-bursts : goal.decreases-bursts
