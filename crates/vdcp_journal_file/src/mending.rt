@@ -4,7 +4,7 @@ ghost use Rattle.vdcp_journal_file.specs.Recording.{IsUnwritten};
 ghost use Rattle.vdcp_journal_file.specs.Resuming.{IsUnread, IsUnresumed};
 
 use crate::disk::append_safely;
-use crate::pending::{RecordFault, add_row};
+use crate::pending::RecordFault;
 use crate::reading::{LastRun, Replayed, is_end};
 use crate::recorder::{heading_text, now};
 use crate::resume::{cut_to, replay_file, replay_front, whole_size};
@@ -13,7 +13,7 @@ use std::fs::File;
 use std::io::{self, ErrorKind, Read};
 use std::rt::Clock;
 use vdcp_auto::{Heard, Outcome, Phase, Source, Standing};
-use vdcp_journal::{Heading, Note, Row};
+use vdcp_journal::{Heading, Note, Row, write_row};
 use vdcp_text::Failure;
 use vdcp_words::state::{CUE_DONE, PLAYING};
 use vdcp_words::{Command, Reply};
@@ -185,14 +185,13 @@ fn text_of<R: Clock + AllocGlobal>(
 {
     let mut text = Vec::new(rt.alloc());
     for note in notes {
-        let row = match note {
-            Some(note) => Some(Row {
+        if let Some(note) = note {
+            let row = Row {
                 time: now(rt),
                 note,
-            }),
-            None => None,
-        };
-        add_row(rt.alloc(), unit, row, None, &mut text)?;
+            };
+            write_row(rt.alloc(), unit, &row, None, &mut text)?;
+        }
     }
     Ok(text)
 }

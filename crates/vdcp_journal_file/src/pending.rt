@@ -7,7 +7,7 @@ ghost use Rattle.vdcp_journal_file.specs.declared.pending.Pending.TheVariants.{F
 ghost use Rattle.vdcp_journal_file.specs.declared.pending.RecordFault.{RecordFault};
 
 use arrayvec::ArrayVec;
-use std::alloc::Global;
+use std::alloc::{AllocError, Global};
 use thiserror::Error;
 use vdcp_auto::Heard;
 use vdcp_journal::{Note, Row, write_row};
@@ -85,28 +85,29 @@ impl Pending {
         ensures refused { (fault : RecordFault) → self ≡ Failed fault → result ≡ Err fault }
     {
         match self {
-            Pending::Nothing => Ok(()),
-            Pending::End(row) => add_row(alloc, unit, Some(row), None, text),
+            Pending::Nothing => {}
+            Pending::End(row) => write_row(alloc, unit, &row, None, text)?,
             Pending::Asked(_, asks) => {
-                add_row(alloc, unit, Some(asks), held.asks.as_ref(), text)
+                write_row(alloc, unit, &asks, held.asks.as_ref(), text)?;
             }
             Pending::Answered(_, asks, hears) => {
-                add_row(alloc, unit, Some(asks), held.asks.as_ref(), text)?;
-                add_row(alloc, unit, Some(hears), None, text)
+                write_row(alloc, unit, &asks, held.asks.as_ref(), text)?;
+                write_row(alloc, unit, &hears, None, text)?;
             }
             Pending::Played(_, asks, hears, plays) => {
-                add_row(alloc, unit, Some(asks), held.asks.as_ref(), text)?;
-                add_row(alloc, unit, Some(hears), None, text)?;
-                add_row(alloc, unit, Some(plays), held.plays.as_ref(), text)
+                write_row(alloc, unit, &asks, held.asks.as_ref(), text)?;
+                write_row(alloc, unit, &hears, None, text)?;
+                write_row(alloc, unit, &plays, held.plays.as_ref(), text)?;
             }
             Pending::Over(_, asks, hears, plays, row) => {
-                add_row(alloc, unit, Some(asks), held.asks.as_ref(), text)?;
-                add_row(alloc, unit, Some(hears), None, text)?;
-                add_row(alloc, unit, Some(plays), held.plays.as_ref(), text)?;
-                add_row(alloc, unit, Some(row), None, text)
+                write_row(alloc, unit, &asks, held.asks.as_ref(), text)?;
+                write_row(alloc, unit, &hears, None, text)?;
+                write_row(alloc, unit, &plays, held.plays.as_ref(), text)?;
+                write_row(alloc, unit, &row, None, text)?;
             }
-            Pending::Failed(fault) => Err(fault),
+            Pending::Failed(fault) => return Err(fault),
         }
+        Ok(())
     }
 
     /// The state that was seen last, if that is pending.
@@ -198,27 +199,6 @@ fn seen_of(asks: Note, hears: Note) -> Option<Seen>
     }
 }
 
-/// Adds a row's text, if there is a row. `bytes` are those of its command; if they are None, they are made here.
-pub(crate) fn add_row(
-    alloc: Global,
-    unit: u8,
-    row: Option<Row>,
-    bytes: Option<&ArrayVec<u8, LONGEST>>,
-    text: &mut Vec<u8>,
-) -> Result<(), RecordFault>
-    requires unit { unit ≤ 15 }
-    requires spelled { IfSome row (λ r. IfSome (option_copied bytes) (λ b. AreBytesOf unit b.items r.note)) }
-    ensures { OnOk result (text.new.items ≡ text.old.items ++ rows_text unit (option_to_list row)) }
-{
-    let Some(row) = row else {
-        return Ok(());
-    };
-    match write_row(alloc, unit, &row, bytes, text) {
-        Ok(()) => Ok(()),
-        Err(_) => Err(RecordFault::Memory),
-    }
-}
-
 /// Why rows aren't written. The journal ends there.
 #[derive(Clone, Copy, Debug, PartialEq, Eq, Error)]
 pub enum RecordFault {
@@ -227,6 +207,12 @@ pub enum RecordFault {
     Device,
     #[error("out of memory")]
     Memory,
+}
+
+impl From<AllocError> for RecordFault {
+    fn from(_: AllocError) -> RecordFault {
+        RecordFault::Memory
+    }
 }
 
 impl RecordFault {

@@ -15,14 +15,14 @@ ghost use Rattle.vdcp_journal_file.specs.declared.pending.Pending.TheVariants.{F
 ghost use Rattle.vdcp_journal_file.specs.declared.pending.RecordFault.{RecordFault};
 
 use crate::disk::{Disk, append_safely};
-use crate::pending::{HeldBytes, Pending, RecordFault, add_row};
+use crate::pending::{HeldBytes, Pending, RecordFault};
 use arrayvec::ArrayVec;
 use std::alloc::Global;
 use std::marker::Model;
 use std::rt::Clock;
 use vdcp_auto::{Heard, Outcome, Source};
 use vdcp_drive::{Call, Driver, Ear, Keep, KeepFault, KeptFault, Pace, Ran, Watch, Wire, laws};
-use vdcp_journal::{Heading, Moment, Note, Row, write_heading};
+use vdcp_journal::{Heading, Moment, Note, Row, write_heading, write_row};
 use vdcp_text::Failure;
 use vdcp_words::{Command, LONGEST};
 
@@ -366,10 +366,8 @@ fn first_text(alloc: Global, time: &Moment, heading: &Heading) -> Result<Vec<u8>
     ensures { IfOk result (λ text. text.items ≡ fields_text (heading_fields time.now heading.now)) }
 {
     let mut text = Vec::new(alloc);
-    match write_heading(alloc, time, heading, &mut text) {
-        Ok(()) => Ok(text),
-        Err(_) => Err(RecordFault::Memory),
-    }
+    write_heading(alloc, time, heading, &mut text)?;
+    Ok(text)
 }
 
 // Writes what is left, and then a row, if there is one, in one, and makes that safe.
@@ -395,7 +393,9 @@ fn write_rows<F: Disk>(
 {
     let mut text = Vec::new(alloc);
     left.add_to(alloc, unit, held, &mut text)?;
-    add_row(alloc, unit, last, bytes, &mut text)?;
+    if let Some(row) = last {
+        write_row(alloc, unit, &row, bytes, &mut text)?;
+    }
     if text.is_empty() {
         return Ok(());
     }
