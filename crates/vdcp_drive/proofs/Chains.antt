@@ -54,14 +54,6 @@ ended_both plan (x ∷ xs) ys s = simp (append_assoc, ended_both plan xs ys (cam
 
 -- Pieces.
 
-pub hears_nothing : {E K : Type 0} (fold : Fold E) (adds : Kept → K → K → Type 0) (plan : Plan) (unit : ℕ)
-    (laws : IsPiecewise fold) (s : State) (e : E) (k : K) → HearsPiece fold adds plan unit [] s e k s e k
-hears_nothing fold adds plan unit laws s e k = record {
-  state_is = rw (laws.hears_none unit e) refl;
-  ear_is = sym (laws.takes_none unit e);
-  noted = rw (laws.hears_none unit e) refl;
-}
-
 -- one message more
 pub hears_further : {E K : Type 0} (fold : Fold E) (adds : Kept → K → K → Type 0) (plan : Plan) (unit : ℕ)
     (laws : IsPiecewise fold) (xs : List ℕ) (at n : ℕ) (heard : List Heard) (s₀ s₁ s₂ : State) (e₀ e₁ e₂ : E) (k₀ k₁ k₂ : K)

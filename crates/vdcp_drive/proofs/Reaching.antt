@@ -94,20 +94,17 @@ works_by (Ok r) n is = (is, λ h. cc, λ h. cc)
 works_by (Err fault.Unkept) n is = (tt, λ h. is, λ h. cc)
 works_by (Err fault.Device) n is = (tt, λ h. cc, λ h. is)
 
--- what a run of a driver leaves that its owner sees so
+-- what a run of a driver over a wire that works leaves
 pub run_leaves : {S E W K V : Type 0} (items : S → List Item) (rules : Rules W K V) (fold : Fold E) (failures : W → ℕ)
-    (listens : ℕ) (inside old new : Driving S E W) (k k' : K) (v v' : V) (answer : Result Ran KeptFault) → inside ≡ old
-    → failures inside.wire ≡ 0
-    → HasRun rules fold (plan_of items inside.controller) inside.unit listens (auto_of inside) (auto_of new)
-    (record { wire = inside.wire; keep = k; watch = v }) (record { wire = new.wire; keep = k'; watch = v' }) answer
-    → new.controller ≡ record inside.controller { state = new.controller.state } → new.unit ≡ inside.unit
+    (listens : ℕ) (old new : Driving S E W) (k k' : K) (v v' : V) (answer : Result Ran KeptFault) → failures old.wire ≡ 0
+    → HasRun rules fold (plan_of items old.controller) old.unit listens (auto_of old) (auto_of new)
+    (record { wire = old.wire; keep = k; watch = v }) (record { wire = new.wire; keep = k'; watch = v' }) answer
+    → new.controller ≡ record old.controller { state = new.controller.state } → new.unit ≡ old.unit
     → failures new.wire ≡ (if is_broken answer then 1 else 0)
     → RunLeaves items rules fold failures listens old new k k' v v' answer
-run_leaves {S} {E} {W} items rules fold failures listens inside old new k k' v v' answer seen works runs controller unit failing =
-    let led = led_by rules fold (plan_of items inside.controller) inside.unit listens (auto_of inside) (auto_of new) _ _
-    answer runs in
-    let n = works_by answer (failures new.wire) failing in
-    subst (λ (d : Driving S E W). RunLeaves items rules fold failures listens d new k k' v v' answer) seen (record {
+run_leaves items rules fold failures listens old new k k' v v' answer works runs controller unit failing =
+    let led = led_by rules fold (plan_of items old.controller) old.unit listens (auto_of old) (auto_of new) _ _ answer runs in
+    let n = works_by answer (failures new.wire) failing in record {
       runs = λ _. runs;
       reached = led.reached;
       ended = led.ended_so;
@@ -118,4 +115,4 @@ run_leaves {S} {E} {W} items rules fold failures listens inside old new k k' v v
       unkept = n.1;
       device = n.2;
       stays = λ one. absurd (omega (arith, works, one));
-    })
+    }

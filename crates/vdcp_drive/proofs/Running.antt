@@ -209,11 +209,6 @@ pub record Stands {E W K V : Type 0} (rules : Rules W K V) (fold : Fold E) (plan
   pub auto_is : a' ≡ after fold plan unit a came
   pub happened : Happens rules (steps_of fold plan unit a came) world world'
 
-pub stands_here : {E W K V : Type 0} (rules : Rules W K V) (fold : Fold E) (plan : Plan) (unit : ℕ) (a : Auto E)
-    (world : World W K V) → Stands rules fold plan unit 0 a a world world
-stands_here rules fold plan unit a world =
-    record { came = []; count = refl; open_still = refl; octets = All-nil AreOctetsIn; auto_is = refl; happened = refl }
-
 closed_both : (xs ys : List Arrival) → has_closed xs ≡ false → has_closed (xs ++ ys) ≡ has_closed ys
 closed_both [] ys h = refl
 closed_both (close ∷ xs) ys h = cc
