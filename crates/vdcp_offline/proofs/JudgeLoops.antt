@@ -2,7 +2,8 @@
 use Rattle.hex.specs.Hex.{decode_of}
 use Rattle.std.proofs.Common.{◌≡◌, ℕ, ◌≤◌, zero, suc, List, [], ◌∷◌, ◌++◌, length, refl, sym, ap, subst, ◌∙◌, arith}
 use Rattle.std.specs.Prelude.{Ok, Option, None, slice_get}
-use Rattle.vdcp_offline.specs.Rows.{Says, blank, row, row_text, said_by, way_text}
+use Rattle.vdcp_offline.specs.Rows.{Says, blank, row, row_text, said_by}
+use Rattle.vdcp_text.specs.Text.{way_text}
 use Rattle.vdcp_auto.specs.declared.burst.Way.{Way}
 use Rattle.vdcp_auto.specs.declared.capture.Captured.{Captured}
 use Rattle.vdcp_value.specs.declared.part.Item.{Item}

@@ -9,6 +9,7 @@ use Rattle.vdcp_files.specs.Files.{file_failure}
 use Rattle.vdcp_offline.specs.Vectors.{Finding, HasTooMany, IsTally, IsTallyOf, IsUntested, bad_count, columns, finding_of_row}
 use Rattle.vdcp_offline.specs.Vectors.{finding_text, findings_of, findings_text, got, joined_text, hex, right}
 use Rattle.vdcp_text.specs.Text.{message_text}
+use Rattle.vdcp_offline.specs.RowLaws.{RowLaws}
 use Rattle.vdcp_offline.specs.declared.vectors.Tally.{Tally}
 use Rattle.vdcp_frame.specs.Message.{Content}
 use Rattle.vdcp_list.specs.Reading.{IsFront, IsReadFault, TakesRow}
@@ -22,11 +23,9 @@ pub two_fields : (fields : List (List ℕ)) (first second : List ℕ) → length
     → Some second ≡ field_at fields 1
     → fields ≡ first ∷ second ∷ []
 unfolding field_at
-two_fields [] first second two a b = absurd (omega (arith, two))
-two_fields (x ∷ []) first second two a b = absurd (omega (arith, two))
 two_fields (x ∷ y ∷ []) first second two a b = let p : x ≡ first = cc a in let q : y ≡ second = cc b in
     ap₂ (λ i j. i ∷ j ∷ []) p q
-two_fields (x ∷ y ∷ z ∷ rest) first second two a b = absurd (omega (arith, two))
+two_fields other first second two a b = absurd (omega (arith, two))
 
 pub has_first : (fields : List (List ℕ)) → length fields ≡ 2 → ◌≡◌ {A = Option (List ℕ)} None (field_at fields 0) → ⊥
 unfolding field_at
@@ -35,9 +34,8 @@ has_first (x ∷ rest) two a = cc a
 
 pub has_second : (fields : List (List ℕ)) → length fields ≡ 2 → ◌≡◌ {A = Option (List ℕ)} None (field_at fields 1) → ⊥
 unfolding field_at
-has_second [] two a = absurd (omega (arith, two))
-has_second (x ∷ []) two a = absurd (omega (arith, two))
 has_second (x ∷ y ∷ rest) two a = cc a
+has_second other two a = absurd (omega (arith, two))
 
 pub if_none : {A P : Type 0} (o : Option A) → P → IfNone o P
 if_none None p = p
@@ -71,19 +69,6 @@ bad_within (right ∷ findings) = omega (arith, bad_within findings)
 bad_within (columns ∷ findings) = omega (arith, bad_within findings)
 bad_within (hex ∷ findings) = omega (arith, bad_within findings)
 bad_within (got reading ∷ findings) = omega (arith, bad_within findings)
-
--- what the law of vdcp_list says of the rows that were read: the lemmas below take it from a body that calls it
-pub record RowLaws : Type 0 where
-  pub none : (all : Option (List FileRow)) → IsFront all all []
-  pub more : (all left left' : Option (List FileRow)) (front : List FileRow) (row : FileRow) → IsFront all left front
-      → TakesRow left left' true row
-      → IsFront all left' (front ++ row ∷ [])
-  pub all : (file : Option (List ℕ)) (left left' : Option (List FileRow)) (front : List FileRow) (row : FileRow)
-      → IsFront (option_map rows_of file) left front
-      → TakesRow left left' false row → AreRowsOf file front
-  pub begins : (file : Option (List ℕ)) (left : Option (List FileRow)) (front : List FileRow)
-      → IsFront (option_map rows_of file) left front
-      → HasRows file (λ rows. (rest : List FileRow) × (rows ≡ front ++ rest))
 
 -- the rows read so far, and what they were found to be
 pub record Tested (file : Option (List ℕ)) (left : Option (List FileRow)) (tally : Tally) : Type 0 where

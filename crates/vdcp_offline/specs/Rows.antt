@@ -5,13 +5,9 @@ use Rattle.std.specs.Str.Lines.{lines}
 use Rattle.vdcp_offline.specs.declared.judge.capture.Piece.{Piece}
 use Rattle.vdcp_auto.specs.Captures.{captured_in}
 use Rattle.vdcp_auto.specs.declared.burst.Way.{Way}
-use Rattle.vdcp_auto.specs.declared.burst.Way.TheVariants.{Down, Up}
 use Rattle.vdcp_auto.specs.declared.capture.Captured.{Captured}
 use Rattle.vdcp_auto.specs.declared.capture.Captured.TheVariants.{Silence}
-
-abbrev pub way_text : Way → List ℕ
-way_text Down = codes "down"
-way_text Up = codes "up"
+use Rattle.vdcp_text.specs.Text.{way_text}
 
 -- a time, a way and a burst's digits
 abbrev pub row_text : List ℕ → Way → List ℕ → List ℕ

@@ -7,6 +7,7 @@ ghost use Rattle.vdcp_text.specs.Failure.{failure_line};
 ghost use Rattle.vdcp_text.specs.Text.{message_text};
 ghost use Rattle.vdcp_text.specs.Subcommand.{Counted, IsSubcommand};
 ghost use Rattle.vdcp_offline.specs.Vectors.{AreTested, Finding, HasTooMany, IsTally, IsTallyOf, IsUntested, RefusesRows, bad_count, finding_of, finding_of_burst, finding_of_row, finding_text, joined_reading, joined_text, too_long, too_many, vectors_text};
+ghost use Rattle.vdcp_offline.specs.RowLaws.{RowLaws};
 ghost use Rattle.vdcp_frame.specs.Burst.{end_of, messages_of};
 ghost use Rattle.vdcp_frame.specs.Message.{content_of};
 ghost use Rattle.vdcp_frame.specs.Walk.{end_seen};
@@ -79,7 +80,7 @@ fn test_rows<'a, R: io::Read + Drop>(
     ensures tally { IfOk result (IsTallyOf (R.remaining file.entry.reader)) }
     ensures refused { IfErr result (IsUntested file.entry.name (R.remaining file.entry.reader)) }
 {
-    rows_are_read_in_order();
+    rows_are_read();
     let name = file.name;
     let mut rows = rows_in(alloc, file.reader);
     let mut row = ByteRecord::new(alloc);
@@ -94,6 +95,13 @@ fn test_rows<'a, R: io::Read + Drop>(
         tally.add(verdict)?;
     }
     Ok(tally)
+}
+
+// What the law of vdcp_list says.
+fn rows_are_read()
+    ensures { RowLaws }
+{
+    rows_are_read_in_order();
 }
 
 // Takes the next row of the file of this name.

@@ -4,6 +4,8 @@ use Rattle.std.specs.Prelude.{ℕ, Bool, true, false, cond, List, [], ◌∷◌,
 use Rattle.std.specs.List.{flat_map}
 use Rattle.std.specs.Str.{chars}
 use Rattle.hex.specs.Hex.{encode_lower}
+use Rattle.vdcp_auto.specs.declared.burst.Way.TheVariants.{Down, Up}
+use Rattle.vdcp_auto.specs.declared.burst.Way.{Way}
 use Rattle.vdcp_frame.specs.declared.message.Fault.TheVariants.{BadStart, BadCount, BadSum, Long}
 use Rattle.vdcp_frame.specs.Message.{Content, ack, nak, framed}
 use Rattle.vdcp_frame.specs.Reading.{End, clean, cut, fault}
@@ -20,6 +22,11 @@ shown_char c = cond (is_control c) (codes "\\x" ++ byte_text c) (encode_utf8 c)
 -- a file's name as it is shown: as it was given, but for its control characters
 abbrev pub shown_name : List ℕ → List ℕ
 shown_name name = flat_map shown_char (chars name)
+
+-- the way of a burst
+abbrev pub way_text : Way → List ℕ
+way_text Down = codes "down"
+way_text Up = codes "up"
 
 -- data as lower-case hexadecimal digits, or a dash if there is none
 abbrev pub data_text : List ℕ → List ℕ

@@ -1,7 +1,8 @@
 //! How a capture is read.
 ghost use Rattle.std.specs.Prelude.{◌≡◌, ◌++◌, ◌∷◌, [], ℕ, List, IfErr, IfOk, IfSome, OnOk};
 ghost use Rattle.vdcp_offline.specs.Found.{HasFound};
-ghost use Rattle.vdcp_offline.specs.Rows.{IsCaptureOf, Says, numbered, row_text, said_by, way_text};
+ghost use Rattle.vdcp_offline.specs.Rows.{IsCaptureOf, Says, numbered, row_text, said_by};
+ghost use Rattle.vdcp_text.specs.Text.{way_text};
 ghost use Rattle.vdcp_offline.specs.Judged.{IsCaptureFailure};
 ghost use Rattle.vdcp_offline.specs.declared.judge.capture.Piece.{Piece};
 ghost use Rattle.vdcp_offline.specs.declared.judge.settings.JudgeSettings.{JudgeSettings};

@@ -12,12 +12,7 @@ pub loop-tally-init : goal.loop-tally-init
 loop-tally-init g c = record {
   set = c.rows_in-rows.ensures.set;
   tested =
-      tested_first (record {
-        none = c.rows_are_read_in_order.ensures.none;
-        more = c.rows_are_read_in_order.ensures.more;
-        all = c.rows_are_read_in_order.ensures.all;
-        begins = c.rows_are_read_in_order.ensures.begins;
-      }) (g.R.Read.remaining c.args.file.reader) (rows_left g.R.Read.remaining c.rows_in-rows.result) c.new-tally.result
+      tested_first c.rows_are_read.ensures (g.R.Read.remaining c.args.file.reader) (rows_left g.R.Read.remaining c.rows_in-rows.result) c.new-tally.result
       c.rows_in-rows.ensures.rows c.new-tally.ensures;
 }
 
@@ -46,12 +41,7 @@ loop-tally-preserved g c =
       set = if_ok (λ f. f ≡ true
           → IsSet c.take_row.new.reader) c.take_row.result true c.take_row.ensures.set found refl;
       tested =
-          tested_next (record {
-            none = c.rows_are_read_in_order.ensures.none;
-            more = c.rows_are_read_in_order.ensures.more;
-            all = c.rows_are_read_in_order.ensures.all;
-            begins = c.rows_are_read_in_order.ensures.begins;
-          }) (g.R.Read.remaining c.args.file.reader) (rows_left g.R.Read.remaining c.loop-tally.rows)
+          tested_next c.rows_are_read.ensures (g.R.Read.remaining c.args.file.reader) (rows_left g.R.Read.remaining c.loop-tally.rows)
           (rows_left g.R.Read.remaining c.take_row.new.reader)
           c.loop-tally.tally c.add.new.self (fields_of c.take_row.new.row)
           (finding_of c.in_ok-verdict.verdict) c.loop-tally.invariant.tested takes room
@@ -78,12 +68,7 @@ returns-then-tally-eq-MAX_ROWS-clause-refused g c =
     c.take_row.result true c.take_row.ensures.takes found in
     inr (inr (inr (
       c.too_many.ensures,
-      tested_too_many (record {
-        none = c.rows_are_read_in_order.ensures.none;
-        more = c.rows_are_read_in_order.ensures.more;
-        all = c.rows_are_read_in_order.ensures.all;
-        begins = c.rows_are_read_in_order.ensures.begins;
-      }) (g.R.Read.remaining c.args.file.reader) (rows_left g.R.Read.remaining c.loop-tally.rows)
+      tested_too_many c.rows_are_read.ensures (g.R.Read.remaining c.args.file.reader) (rows_left g.R.Read.remaining c.loop-tally.rows)
           (rows_left g.R.Read.remaining c.take_row.new.reader) c.loop-tally.tally
           (fields_of c.take_row.new.row) c.loop-tally.invariant.tested takes c.if-tally-eq-MAX_ROWS.true,
     )))
@@ -95,11 +80,6 @@ returns-clause-tally g c =
     (rows_left g.R.Read.remaining c.take_row.new.reader) f
     (fields_of c.take_row.new.row))
     c.take_row.result false c.take_row.ensures.takes none in
-    tested_all (record {
-      none = c.rows_are_read_in_order.ensures.none;
-      more = c.rows_are_read_in_order.ensures.more;
-      all = c.rows_are_read_in_order.ensures.all;
-      begins = c.rows_are_read_in_order.ensures.begins;
-    }) (g.R.Read.remaining c.args.file.reader) (rows_left g.R.Read.remaining c.loop-tally.rows)
+    tested_all c.rows_are_read.ensures (g.R.Read.remaining c.args.file.reader) (rows_left g.R.Read.remaining c.loop-tally.rows)
     (rows_left g.R.Read.remaining c.take_row.new.reader)
     c.loop-tally.tally (fields_of c.take_row.new.row) c.loop-tally.invariant.tested takes
