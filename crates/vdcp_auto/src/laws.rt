@@ -37,6 +37,7 @@ pub fn reached_is_lawful()
 
 /// If the list's items are of bytes and the port's number a byte, the command that is awaited and
 /// the one that the next tick gives can be written.
+#[tactic(auto, using(crate::proofs::Sending::awaited_writable, crate::proofs::Sending::given_writable))]
 pub fn commands_can_be_written()
     ensures awaited { (plan : Plan) (state : State) → All IsItem plan.list → plan.port < 256 →
         IfSome (awaited plan state) IsWritableCommand }
@@ -67,6 +68,7 @@ pub fn a_course_is_reached()
 {}
 
 /// In confirm mode an ACK or a NAK ends no exchange and changes nothing, wherever the controller is.
+#[tactic(auto, using(crate::proofs::Receipts::receipt_ends_nothing, crate::proofs::Receipts::receipt_changes_nothing))]
 pub fn a_receipt_confirms_nothing()
     ensures ends { (plan : Plan) (state : State) (came : Option Heard) →
         plan.mode ≡ Confirming → hears_receipt came ≡ true → ended_by plan came state ≡ None }
@@ -76,6 +78,7 @@ pub fn a_receipt_confirms_nothing()
 
 /// What one more exchange at the end of a log makes of the open PLAY, of the number of settled events, and of whether one
 /// event more may have aired.
+#[tactic(auto, using(crate::proofs::LookBacks::airing_grows, crate::proofs::LookBacks::open_grows, crate::proofs::LookBacks::settled_grows))]
 pub fn a_log_grows()
     ensures open { (log : List Exchange) (e : Exchange) → has_open_play (log ++ e ∷ [])
         ≡ (if tells_of_play e then is_play e && not (is_answered e) else has_open_play log) }

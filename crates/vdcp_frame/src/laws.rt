@@ -75,6 +75,7 @@ pub fn a_spelling_is_its_message()
 
 /// A reader follows the empty burst at its start, and after each call of `feed` the burst with the
 /// bytes taken and the message given.
+#[tactic(auto, using(crate::proofs::ReaderLemmas::follows_none, crate::proofs::FollowLemmas::next_followed))]
 pub fn what_is_fed_is_followed()
     ensures start { Follows [] [] (reading 0 []) }
     ensures next { (burst : List ℕ) (ms : List Content) (answer : Answer) (new : Progress) →
@@ -97,6 +98,7 @@ pub fn what_is_followed_is_read()
 {}
 
 /// The reading that a silence tells is the computed one.
+#[tactic(auto, using(crate::proofs::FollowLemmas::told_messages, crate::proofs::FollowLemmas::told_end))]
 pub fn what_a_silence_tells_is_computed()
     ensures messages { (burst : List ℕ) (ms : List Content) (ended : Ended) → AreOctets burst →
         ReadsAs burst ms ended → ms ≡ messages_of burst }
@@ -106,6 +108,7 @@ pub fn what_a_silence_tells_is_computed()
 
 /// However a burst is cut into pieces, the messages that a new reader gives for them, their order,
 /// the end and its place are those of the reading of the joined pieces.
+#[tactic(auto, using(crate::proofs::PieceLemmas::pieces_read))]
 pub fn pieces_are_read_as_one()
     ensures { (pieces : List (List ℕ)) (calls : List (List Call)) (new : Progress) →
         FeedsAll (reading 0 []) pieces calls new →

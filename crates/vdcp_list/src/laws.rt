@@ -18,6 +18,7 @@ use vdcp_value::laws::an_id_is_its_bytes;
 
 /// The rows that were read of a file are its first, in order: none before the first read, one more
 /// with each row that is taken, and all of them if none is left.
+#[tactic(auto, using(crate::proofs::Steps::front_all, crate::proofs::Steps::front_begins, crate::proofs::Steps::front_first, crate::proofs::Steps::front_next))]
 pub fn rows_are_read_in_order()
     ensures none { (all : Option (List FileRow)) → IsFront all all [] }
     ensures more { (all left left' : Option (List FileRow)) (front : List FileRow) (row : FileRow) →

@@ -25,6 +25,7 @@ ghost use Rattle.vdcp_port.specs.Answers.{answers_to, aired_on_way, after_messag
 ghost use Rattle.vdcp_port.specs.Kept.{HasSlotsOf, IsKept, cueing_from_now, counting_from_now};
 
 /// A message that comes again is answered as before, leaves what it left, and airs nothing.
+#[tactic(auto, using(crate::proofs::TableLaws::copy_answer, crate::proofs::TableLaws::copy_port, crate::proofs::TableLaws::copy_air))]
 pub fn a_copy_changes_nothing()
     ensures answer { (p : ClockedPort) (m : Content) → answer_to (after_message p m) m ≡ answer_to p m }
     ensures port { (p : ClockedPort) (m : Content) → after_message (after_message p m) m ≡ after_message p m }
@@ -70,12 +71,14 @@ pub fn play_airs_what_is_cued()
 {}
 
 /// However many messages a burst has, at most one item airs on the way: the one that is cued before.
+#[tactic(auto, using(crate::proofs::Bursts::at_most_the_cued))]
 pub fn a_burst_airs_at_most_the_cued_item()
     ensures { (p : ClockedPort) (ms : List Content) →
         (aired_on_way p ms ≡ []) ⊎ ((item : Item) × (p.state.cued ≡ done item) × (aired_on_way p ms ≡ item ∷ [])) }
 {}
 
 /// The state byte is one of six, and each of its four bits says one thing.
+#[tactic(auto, using(crate::proofs::StateByte::one_of_six))]
 pub fn the_state_byte()
     ensures one_of { (p : PortState) → Contains (0x01 ∷ 0x02 ∷ 0x04 ∷ 0x06 ∷ 0x80 ∷ 0x84 ∷ []) (state_byte p) }
     ensures idle { (p : PortState) → not (bit_and (state_byte p) 1 == 0) ≡ (is_empty p.cued && is_none p.playing) }
@@ -121,6 +124,7 @@ pub fn a_command_is_answered()
 }
 
 /// What a port holds is in its catalogue and fits, and its counts run if something is waited for.
+#[tactic(auto, using(crate::proofs::Keeping::message_kept))]
 pub fn what_a_port_holds()
     ensures new { (clips : List (ClipId × Timecode)) (unit number cue_frames : ℕ) → 1 ≤ cue_frames →
         IsKept (new_port clips unit number cue_frames) }
@@ -149,6 +153,7 @@ pub fn a_command_has_its_own_row()
 }
 
 /// Messages that follow others are answered from the port that those leave.
+#[tactic(auto, using(crate::proofs::Answering::answers_to_both, crate::proofs::Answering::bytes_for_both, crate::proofs::Answering::aired_by_both, crate::proofs::Answering::after_both))]
 pub fn messages_after_messages()
     ensures answers { (p : ClockedPort) (ms ns : List Content) →
         answers_to p (ms ++ ns) ≡ answers_to p ms ++ answers_to (after_messages p ms) ns }
@@ -161,6 +166,7 @@ pub fn messages_after_messages()
 {}
 
 /// The unit address stays, whatever comes.
+#[tactic(auto, using(crate::proofs::Units::unit_of_next, crate::proofs::Units::unit_of_after, crate::proofs::Units::unit_of_frame))]
 pub fn the_unit_stays()
     ensures message { (p : ClockedPort) (m : Content) → (after_message p m).state.unit ≡ p.state.unit }
     ensures messages { (p : ClockedPort) (ms : List Content) → (after_messages p ms).state.unit ≡ p.state.unit }
@@ -171,6 +177,7 @@ pub fn the_unit_stays()
 {}
 
 /// What one message gives, with none before or after it; and the bytes of one reply.
+#[tactic(auto, using(crate::proofs::Answering::bytes_for_alone, crate::proofs::Answering::aired_by_alone, crate::proofs::Answering::bytes_of_one))]
 pub fn one_alone()
     ensures sent { (p : ClockedPort) (m : Content) → bytes_for_all p (m ∷ []) ≡ bytes_for p m }
     ensures aired { (p : ClockedPort) (m : Content) → aired_on_way p (m ∷ []) ≡ items_for p m }
@@ -242,6 +249,7 @@ pub fn a_burst_without_a_message()
 
 /// A burst with one message is answered as the message is, and then as its end is, whatever follows
 /// the message.
+#[tactic(auto, using(crate::proofs::FewMessages::sent_with_one, crate::proofs::FewMessages::aired_with_one, crate::proofs::FewMessages::after_with_one))]
 pub fn a_burst_with_one_message()
     ensures sent { (p : ClockedPort) (m : Content) (burst : List ℕ) → messages_of burst ≡ m ∷ [] →
         sent_for p burst ≡ bytes_for p m ++ answer_bytes p.state.unit (end_answers (end_of burst)) }
@@ -262,6 +270,7 @@ pub fn a_burst_of_one_message()
 }
 
 /// A cue is done with the last frame of its count, and not before. So it is with a clip that ends.
+#[tactic(auto, using(crate::proofs::Frames::cues_on, crate::proofs::Frames::cues_out, crate::proofs::Frames::plays_on, crate::proofs::Frames::plays_out))]
 pub fn counts_are_frames()
     ensures cueing { (p : ClockedPort) (n : ℕ) → n < p.counts.cue → (after_frames n p).state.cued ≡ p.state.cued }
     ensures done { (p : ClockedPort) → 0 < p.counts.cue →
