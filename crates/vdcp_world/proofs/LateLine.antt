@@ -7,7 +7,7 @@ pub mod Stretches
 pub mod Delivering
 pub mod DeliveringPlay
 pub mod Safety
-pub mod Closing
+pub mod Lessening
 pub mod Reads
 pub mod Held
 pub mod Standing

@@ -19,13 +19,13 @@ use Rattle.vdcp_auto.specs.declared.phase.Phase.TheVariants as phase
 use Rattle.vdcp_auto.specs.State.{Stage, Ready, Awaiting, Ended, State}
 use Rattle.vdcp_world.specs.LateLine.Damage.{is_no_answer}
 use Rattle.vdcp_world.specs.LateLine.Pipe.{IsPipe}
-use Rattle.vdcp_world.proofs.LateLine.Closing.{Ages}
 use Rattle.vdcp_world.proofs.LateLine.Endings.{Misses, settled_at}
-use Rattle.vdcp_world.proofs.LateLine.Exactness.{exact_ages, exact_copied, exact_reads, exact_thins, is_exact_at}
+use Rattle.vdcp_world.proofs.LateLine.Exactness.{exact_reads, is_exact_at, exact_lessens}
 use Rattle.vdcp_world.proofs.LateLine.Places.{Answer, At, Exact, misfits, pipe_of}
 use Rattle.vdcp_world.proofs.LateLine.Thinning.{Thins}
 use Rattle.vdcp_world.proofs.PhaseTable.{Near}
 use Rattle.vdcp_world.proofs.LateLine.Reads.{Reads, misleads}
+use Rattle.vdcp_world.proofs.LateLine.Lessening.{Lessens, thinned}
 
 -- of the playlist, the catalogue, how many events are settled, whether the port is selected, its cued slot, what was
 -- aired, the
@@ -42,27 +42,17 @@ Comes mode ups came =
 
 -- each event keeps it that leaves the controller as it is
 pub record Steady (S : Claim) : Type 0 where
-  -- something on the way is left out
-  pub thins : (list : List Item) (clips : List (ClipId × Timecode)) (settled : ℕ) (s : Bool) (a : Cued)
-      (aired : List Item) (ups others : List Answer)
-      (downs left : List Phase) (stage : Stage) → Thins ups others → Thins downs left
-      → S list clips settled s a aired ups downs stage → S list clips settled s a aired others left stage
-  -- the oldest command is copied in its place
-  pub copied : (list : List Item) (clips : List (ClipId × Timecode)) (settled : ℕ) (s : Bool) (a : Cued)
-      (aired : List Item) (ups : List Answer) (d : Phase)
-      (downs : List Phase) (stage : Stage)
-      → S list clips settled s a aired ups (d ∷ downs) stage → S list clips settled s a aired ups (d ∷ d ∷ downs) stage
+  -- there is less on the way and of the port, or the same
+  pub lessens : (list : List Item) (clips : List (ClipId × Timecode)) (settled : ℕ) (s : Bool) (a : Cued)
+      (aired : List Item) (ups : List Answer) (downs : List Phase) (t : Bool) (b : Cued) (others : List Answer)
+      (left : List Phase) (stage : Stage) → Lessens s a ups downs t b others left
+      → S list clips settled s a aired ups downs stage → S list clips settled t b aired others left stage
   -- the port reads the oldest command
   pub reads : (list : List Item) (clips : List (ClipId × Timecode)) (settled : ℕ) (s : Bool) (a : Cued)
       (aired : List Item) (ups : List Answer) (d : Phase)
       (downs : List Phase) (stage : Stage) (r : Reply) (t : Bool) (b : Cued) (airs : List Item)
       → S list clips settled s a aired ups (d ∷ downs) stage → Reads list clips d s a r t b airs
       → S list clips settled t b (aired ++ airs) (ups ++ record { to = d; reply = r } ∷ []) downs stage
-  -- the port changes by itself
-  pub ages : (list : List Item) (clips : List (ClipId × Timecode)) (settled : ℕ) (s : Bool) (a : Cued) (t : Bool)
-      (b : Cued) (aired : List Item)
-      (ups : List Answer) (downs : List Phase) (stage : Stage) → Ages s a t b
-      → S list clips settled s a aired ups downs stage → S list clips settled t b aired ups downs stage
 
 -- and the others do
 pub record Closed (mode : Mode) (S : Claim) : Type 0 where
@@ -108,24 +98,22 @@ pub record Exactly (S : Claim) (may : Bool) (list : List Item) (clips : List (Cl
 
 pub exactly : (S : Claim) (may : Bool) → Steady S → Steady (Exactly S may)
 exactly S may h = record {
-  thins = λ list clips settled s a aired ups others downs left stage u d k.
+  lessens = λ list clips settled s a aired ups downs t b others left stage g k.
       record {
-        stands = h.thins list clips settled s a aired ups others downs left stage u d k.stands;
-        exact = λ e. exact_thins list settled s a aired downs left d (k.exact e);
-      };
-  copied = λ list clips settled s a aired ups d downs stage k.
-      record {
-        stands = h.copied list clips settled s a aired ups d downs stage k.stands;
-        exact = λ e. exact_copied list settled s a aired d downs (k.exact e);
+        stands = h.lessens list clips settled s a aired ups downs t b others left stage g k.stands;
+        exact = λ e. exact_lessens list settled s a aired ups downs t b others left g (k.exact e);
       };
   reads = λ list clips settled s a aired ups d downs stage r t b airs k x.
       record {
         stands = h.reads list clips settled s a aired ups d downs stage r t b airs k.stands x;
         exact = λ e. exact_reads list settled s a aired d downs r t b airs (k.exact e) x.executed;
       };
-  ages = λ list clips settled s a t b aired ups downs stage g k.
-      record {
-        stands = h.ages list clips settled s a t b aired ups downs stage g k.stands;
-        exact = λ e. exact_ages list settled s a t b aired downs g (k.exact e);
-      };
 }
+
+-- something on the way is left out
+pub thins : {S : Claim} → Steady S → (list : List Item) (clips : List (ClipId × Timecode)) (settled : ℕ) (s : Bool)
+    (a : Cued) (aired : List Item) (ups others : List Answer) (downs left : List Phase) (stage : Stage)
+    → Thins ups others → Thins downs left → S list clips settled s a aired ups downs stage
+    → S list clips settled s a aired others left stage
+thins h list clips settled s a aired ups others downs left stage u d =
+    h.lessens list clips settled s a aired ups downs s a others left stage (thinned s a ups others downs left u d)

@@ -16,7 +16,7 @@ use Rattle.vdcp_auto.specs.declared.phase.Phase.{Phase}
 use Rattle.vdcp_auto.specs.declared.phase.Phase.TheVariants as phase
 use Rattle.vdcp_world.proofs.Exchanges.{fits_asked, no_receipt, no_refusal}
 use Rattle.vdcp_world.proofs.LateLine.ConfirmedHearing.{Leads, goes_on, replied}
-use Rattle.vdcp_world.proofs.LateLine.ConfirmedPlaces.{Secured, Spot, secure_ages, secure_copied, secure_thins, spot_ages, spot_copied, spot_thins}
+use Rattle.vdcp_world.proofs.LateLine.ConfirmedPlaces.{Secured, Spot, secure_lessens, spot_lessens}
 use Rattle.vdcp_world.proofs.LateLine.ConfirmedReads.{secure_keeps}
 use Rattle.vdcp_world.proofs.LateLine.ConfirmedStanding.{secure_in, spot_keeps, spot_sends}
 use Rattle.vdcp_world.proofs.LateLine.Delivering.{clash}
@@ -62,12 +62,8 @@ module _ (list : List Item) where
 
 pub confirming_tended : Tended Confirming Spot Secured
 confirming_tended = record {
-  thins = spot_thins;
-  calm_thins = λ list settled s a aired downs left d h. secure_thins list settled a aired downs left d h;
-  copied = spot_copied;
-  calm_copied = λ list settled s a aired d downs h. secure_copied list settled a aired d downs h;
-  ages = spot_ages;
-  calm_ages = secure_ages;
+  lessens = spot_lessens;
+  calm_lessens = secure_lessens;
   reads = λ list settled s a aired ups d downs q r t b airs fit h x.
       spot_keeps list settled s a aired ups d downs q r t b airs h.0 h.1 x;
   calm_reads = secure_keeps;

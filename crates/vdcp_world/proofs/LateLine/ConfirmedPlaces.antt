@@ -1,5 +1,5 @@
 -- Where the port is in each phase of the controller, in confirm mode, and what the answers on the way up tell of it.
-use Rattle.std.proofs.Common.{◌≡◌, ℕ, ◌+◌, ◌<◌, ◌⊎◌, inl, inr, Bool, true, false, not, nat_eq, ◌||◌, List, [], ◌∷◌, ◌++◌, length, take, refl, arith, sym, subst, ◌∙◌}
+use Rattle.std.proofs.Common.{◌≡◌, ℕ, ◌+◌, ◌<◌, ◌⊎◌, inl, inr, Bool, true, false, List, [], ◌∷◌, ◌++◌, length, take, refl, ◌∙◌}
 use Rattle.std.proofs.lemmas.Bool.{or_from, or_left, or_parts, or_right}
 use Rattle.std.specs.List.{list_any}
 use Rattle.std.specs.Prelude.{slice_get}
@@ -7,37 +7,19 @@ use Rattle.vdcp_value.specs.declared.part.Item.{Item}
 use Rattle.vdcp_port.specs.Port.{Cued, empty}
 use Rattle.vdcp_auto.specs.declared.phase.Phase.{Phase}
 use Rattle.vdcp_auto.specs.declared.phase.Phase.TheVariants as phase
-use Rattle.vdcp_world.proofs.LateLine.Closing.{Ages, item_ages}
 use Rattle.vdcp_world.proofs.LateLine.Delivering.{clash, none_pushed}
 use Rattle.vdcp_world.proofs.LateLine.Places.{Answer, plays, says_done, says_empty, shows_no_cue, HasItem, At}
-use Rattle.vdcp_world.proofs.LateLine.Thinning.{Thins, none_thins, any_thins, any_push}
+use Rattle.vdcp_world.proofs.LateLine.Thinning.{any_push}
 use Rattle.vdcp_world.proofs.PhaseTable.{cued_item, Near}
+use Rattle.vdcp_world.proofs.LateLine.Lessening.{Ages, FullAfterDone, LastOf, Lessens, cues, cues_other, item_ages}
 
--- ---- what is said and sent
-
--- a state that shows that nothing is cued never comes after one that shows a cue to be done
-abbrev pub FullAfterDone : List Answer → Type 0
-FullAfterDone [] = Unit {0}
-FullAfterDone (x ∷ ups) = (says_done x ≡ true → list_any says_empty ups ≡ false) × FullAfterDone ups
-
-abbrev pub cues : Phase → Bool
-cues (phase.Cue k) = true
-cues _ = false
+-- ---- what is sent
 
 -- sent to cue an event
 abbrev pub tries : Phase → Bool
 tries (phase.Cue k) = true
 tries (phase.Wait k) = true
 tries _ = false
-
-abbrev pub cues_other : ℕ → Phase → Bool
-cues_other s (phase.Cue k) = not (nat_eq k s)
-cues_other s _ = false
-
--- each cue is of one event, and none comes after a PLAY
-abbrev pub LastOf : ℕ → List Phase → Type 0
-LastOf s [] = Unit {0}
-LastOf s (d ∷ downs) = (cues_other s d ≡ false) × (plays d ≡ true → list_any cues downs ≡ false) × LastOf s downs
 
 -- ---- the port
 
@@ -117,13 +99,7 @@ Spot list settled s a aired ups downs phase.Close = At list aired settled (lengt
 Spot list settled s a aired ups downs phase.Halt = Secure list settled a aired downs
 Spot list settled s a aired ups downs phase.HaltClose = Secure list settled a aired downs
 
--- ---- answers that are left out, and one more
-
-pub full_thins : (ups others : List Answer) → Thins ups others → FullAfterDone ups → FullAfterDone others
-full_thins [] others t h = subst FullAfterDone (sym t) tt
-full_thins (x ∷ ups) others (inl t) h = full_thins ups others t h.1
-full_thins (x ∷ ups) others (inr (rest, is, t)) h =
-    subst FullAfterDone (sym is) (λ e. none_thins says_empty ups rest t (h.0 e), full_thins ups rest t h.1)
+-- ---- one answer more, and one command
 
 pub full_pushed : (ups : List Answer) (x : Answer) → (list_any says_done ups ≡ true → says_empty x ≡ false)
     → FullAfterDone ups
@@ -142,14 +118,6 @@ full_none (x ∷ ups) e = (
   full_none ups (or_parts (says_done x) (list_any says_done ups) e).1,
 )
 
--- ---- commands that are left out, one more, one twice
-
-pub last_thins : (s : ℕ) (downs left : List Phase) → Thins downs left → LastOf s downs → LastOf s left
-last_thins s [] left t h = subst (LastOf s) (sym t) tt
-last_thins s (d ∷ downs) left (inl t) h = last_thins s downs left t h.2
-last_thins s (d ∷ downs) left (inr (rest, is, t)) h =
-    subst (LastOf s) (sym is) (h.0, λ e. none_thins cues downs rest t (h.1 e), last_thins s downs rest t h.2)
-
 pub none_sent : (test : Phase → Bool) (downs : List Phase) (q : Phase) → list_any test downs ≡ false → test q ≡ false
     → list_any test (downs ++ q ∷ []) ≡ false
 none_sent test downs q e f = any_push test downs q ∙ or_from (list_any test downs) (test q) e f
@@ -159,13 +127,7 @@ pub last_sent : (s : ℕ) (downs : List Phase) (q : Phase) → cues q ≡ false 
 last_sent s [] q e o h = (o, λ _. refl, tt)
 last_sent s (d ∷ downs) q e o h = (h.0, λ p. none_sent cues downs q (h.1 p) e, last_sent s downs q e o h.2)
 
-plays_not_cues : (d : Phase) → plays d ≡ true → cues d ≡ false
-plays_not_cues d e = grind arith
-
-pub last_copied : (s : ℕ) (d : Phase) (downs : List Phase) → LastOf s (d ∷ downs) → LastOf s (d ∷ d ∷ downs)
-last_copied s d downs h = (h.0, λ e. or_from (cues d) (list_any cues downs) (plays_not_cues d e) (h.1 e), h)
-
--- ---- the port by itself
+-- ---- less of all
 
 pub owns_ages : (list : List Item) (s : Bool) (a : Cued) (t : Bool) (b : Cued) (k : ℕ) → Ages s a t b → Owns list a k
     → Owns list b k
@@ -176,188 +138,67 @@ owns_ages list s a t b k g h = by g.nothing_else h
     by (inr same) (inl none) = inl (g.still_empty none)
     by (inr same) (inr is) = inr (same ∙ is)
 
-module _ (list : List Item) (settled : ℕ) (s : Bool) (a : Cued) (t : Bool) (b : Cued) (aired : List Item) where
-  trying_ages : (ups : List Answer) (k : ℕ) → Ages s a t b → Trying list settled s a aired ups k
-      → Trying list settled t b aired ups k
-  trying_ages ups k g h = record {
+module _ (list : List Item) (settled : ℕ) (s : Bool) (a : Cued) (aired : List Item) (ups : List Answer)
+    (downs : List Phase) (t : Bool) (b : Cued) (others : List Answer) (left : List Phase)
+    (g : Lessens s a ups downs t b others left) where
+  trying_lessens : (k : ℕ) → Trying list settled s a aired ups k → Trying list settled t b aired others k
+  trying_lessens k h = record {
     at = h.at;
     within = h.within;
-    owns = owns_ages list s a t b k g h.owns;
-    shown = λ e. item_ages list s a t b k g (h.shown e);
-    full = h.full;
+    owns = owns_ages list s a t b k g.ages h.owns;
+    shown = λ e. item_ages list s a t b k g.ages (h.shown (g.ups_any says_done e));
+    full = g.full h.full;
   }
 
-  sounding_ages : (ups : List Answer) (downs : List Phase) (k : ℕ) → Ages s a t b
-      → Sounding list settled s a aired ups downs k → Sounding list settled t b aired ups downs k
-  sounding_ages ups downs k g h = record {
+  sounding_lessens : (k : ℕ) → Sounding list settled s a aired ups downs k
+      → Sounding list settled t b aired others left k
+  sounding_lessens k h = record {
     settled_is = h.settled_is;
     within = h.within;
-    never_none = h.never_none;
+    never_none = g.ups_none shows_no_cue h.never_none;
     stands = by h.stands;
   }
     where
       by : ToSound list s a aired ups k ⊎ Sounded list a aired downs k
-          → ToSound list t b aired ups k ⊎ Sounded list b aired downs k
+          → ToSound list t b aired others k ⊎ Sounded list b aired left k
       by (inl q) = inl (record {
         aired_is = q.aired_is;
-        owns = owns_ages list s a t b k g q.owns;
-        has_item = item_ages list s a t b k g q.has_item;
-        no_empty = q.no_empty;
-      })
-      by (inr q) =
-          inr (record { aired_is = q.aired_is; is_empty = g.still_empty q.is_empty; none_tries = q.none_tries })
-
-  pub secure_ages : (downs : List Phase) → Ages s a t b → Secure list settled a aired downs
-      → Secure list settled b aired downs
-  secure_ages downs g h = record { near = h.near; calm = by h.calm }
-    where
-      by : (list_any plays downs ≡ false) ⊎ Spent a downs ⊎ Last list settled a aired downs
-          → (list_any plays downs ≡ false) ⊎ Spent b downs ⊎ Last list settled b aired downs
-      by (inl e) = inl e
-      by (inr (inl q)) = inr (inl (record { is_empty = g.still_empty q.is_empty; none_cues = q.none_cues }))
-      by (inr (inr q)) =
-          inr (inr (record {
-            aired_is = q.aired_is;
-            within = q.within;
-            owns = owns_ages list s a t b settled g q.owns;
-            last = q.last;
-          }))
-
-  pub spot_ages : (ups : List Answer) (downs : List Phase) (q : Phase) → Ages s a t b
-      → Spot list settled s a aired ups downs q → Spot list settled t b aired ups downs q
-  spot_ages ups downs (phase.Exists k) g h = ((h.0.0, g.still_empty h.0.1), h.1)
-  spot_ages ups downs (phase.Cue k) g h = trying_ages ups k g h
-  spot_ages ups downs (phase.Wait k) g h = trying_ages ups k g h
-  spot_ages ups downs (phase.Play k) g h = sounding_ages ups downs k g h
-  spot_ages ups downs (phase.Probe k) g h = sounding_ages ups downs k g h
-  spot_ages ups downs (phase.Check k) g h = ((h.0.0, g.still_empty h.0.1), h.1)
-  spot_ages ups downs phase.Drain g h = h
-  spot_ages ups downs phase.Close g h = h
-  spot_ages ups downs phase.Halt g h = secure_ages downs g h
-  spot_ages ups downs phase.HaltClose g h = secure_ages downs g h
-  spot_ages ups downs _ g h = (h.0, g.still_empty h.1)
-
--- ---- something is left out
-
-module _ (list : List Item) (settled : ℕ) where
-  sounding_thins : (s : Bool) (a : Cued) (aired : List Item) (ups others : List Answer) (downs left : List Phase)
-      (k : ℕ) → Thins ups others → Thins downs left → Sounding list settled s a aired ups downs k
-      → Sounding list settled s a aired others left k
-  sounding_thins s a aired ups others downs left k u d h = record {
-    settled_is = h.settled_is;
-    within = h.within;
-    never_none = none_thins shows_no_cue ups others u h.never_none;
-    stands = by h.stands;
-  }
-    where
-      by : ToSound list s a aired ups k ⊎ Sounded list a aired downs k
-          → ToSound list s a aired others k ⊎ Sounded list a aired left k
-      by (inl q) = inl (record {
-        aired_is = q.aired_is;
-        owns = q.owns;
-        has_item = q.has_item;
-        no_empty = none_thins says_empty ups others u q.no_empty;
+        owns = owns_ages list s a t b k g.ages q.owns;
+        has_item = item_ages list s a t b k g.ages q.has_item;
+        no_empty = g.ups_none says_empty q.no_empty;
       })
       by (inr q) = inr (record {
         aired_is = q.aired_is;
-        is_empty = q.is_empty;
-        none_tries = none_thins tries downs left d
-            q.none_tries;
+        is_empty = g.ages.still_empty q.is_empty;
+        none_tries = g.downs_none tries q.none_tries;
       })
 
-  trying_thins : (s : Bool) (a : Cued) (aired : List Item) (ups others : List Answer) (k : ℕ) → Thins ups others
-      → Trying list settled s a aired ups k → Trying list settled s a aired others k
-  trying_thins s a aired ups others k u h = record {
-    at = h.at;
-    within = h.within;
-    owns = h.owns;
-    shown = λ e. h.shown (any_thins says_done ups others u e);
-    full = full_thins ups others u h.full;
-  }
-
-  pub secure_thins : (a : Cued) (aired : List Item) (downs left : List Phase) → Thins downs left
-      → Secure list settled a aired downs → Secure list settled a aired left
-  secure_thins a aired downs left d h = record { near = h.near; calm = by h.calm }
+  pub secure_lessens : Secure list settled a aired downs → Secure list settled b aired left
+  secure_lessens h = record { near = h.near; calm = by h.calm }
     where
       by : (list_any plays downs ≡ false) ⊎ Spent a downs ⊎ Last list settled a aired downs
-          → (list_any plays left ≡ false) ⊎ Spent a left ⊎ Last list settled a aired left
-      by (inl e) = inl (none_thins plays downs left d e)
-      by (inr (inl q)) =
-          inr (inl (record { is_empty = q.is_empty; none_cues = none_thins cues downs left d q.none_cues }))
-      by (inr (inr q)) =
-          inr (inr (record {
-            aired_is = q.aired_is;
-            within = q.within;
-            owns = q.owns;
-            last = last_thins settled downs left
-                d q.last;
-          }))
-
-  pub spot_thins : (s : Bool) (a : Cued) (aired : List Item) (ups others : List Answer) (downs left : List Phase)
-      (q : Phase) → Thins ups others → Thins downs left → Spot list settled s a aired ups downs q
-      → Spot list settled s a aired others left q
-  spot_thins s a aired ups others downs left (phase.Cue k) u d h = trying_thins s a aired ups others k u h
-  spot_thins s a aired ups others downs left (phase.Wait k) u d h = trying_thins s a aired ups others k u h
-  spot_thins s a aired ups others downs left (phase.Play k) u d h =
-      sounding_thins s a aired ups others downs left k u d h
-  spot_thins s a aired ups others downs left (phase.Probe k) u d h =
-      sounding_thins s a aired ups others downs left k u d h
-  spot_thins s a aired ups others downs left phase.Halt u d h = secure_thins a aired downs left d h
-  spot_thins s a aired ups others downs left phase.HaltClose u d h = secure_thins a aired downs left d h
-  spot_thins s a aired ups others downs left _ u d h = h
-
--- ---- the oldest command is copied in its place
-
-pub none_copied : (test : Phase → Bool) (d : Phase) (downs : List Phase) → list_any test (d ∷ downs) ≡ false
-    → list_any test (d ∷ d ∷ downs) ≡ false
-none_copied test d downs e = by (test d) (list_any test downs) e
-  where
-    by : (x y : Bool) → (x || y) ≡ false → (x || (x || y)) ≡ false
-    by x y e = grind arith
-
-module _ (list : List Item) (settled : ℕ) where
-  sounding_copied : (s : Bool) (a : Cued) (aired : List Item) (ups : List Answer) (d : Phase) (downs : List Phase)
-      (k : ℕ) → Sounding list settled s a aired ups (d ∷ downs) k
-      → Sounding list settled s a aired ups (d ∷ d ∷ downs) k
-  sounding_copied s a aired ups d downs k h = record {
-    settled_is = h.settled_is;
-    within = h.within;
-    never_none = h.never_none;
-    stands = by h.stands;
-  }
-    where
-      by : ToSound list s a aired ups k ⊎ Sounded list a aired (d ∷ downs) k
-          → ToSound list s a aired ups k ⊎ Sounded list a aired (d ∷ d ∷ downs) k
-      by (inl q) = inl q
-      by (inr q) = inr (record {
+          → (list_any plays left ≡ false) ⊎ Spent b left ⊎ Last list settled b aired left
+      by (inl e) = inl (g.downs_none plays e)
+      by (inr (inl q)) = inr (inl (record {
+        is_empty = g.ages.still_empty q.is_empty;
+        none_cues = g.downs_none cues q.none_cues;
+      }))
+      by (inr (inr q)) = inr (inr (record {
         aired_is = q.aired_is;
-        is_empty = q.is_empty;
-        none_tries = none_copied tries d downs
-            q.none_tries;
-      })
+        within = q.within;
+        owns = owns_ages list s a t b settled g.ages q.owns;
+        last = g.last settled q.last;
+      }))
 
-  pub secure_copied : (a : Cued) (aired : List Item) (d : Phase) (downs : List Phase)
-      → Secure list settled a aired (d ∷ downs) → Secure list settled a aired (d ∷ d ∷ downs)
-  secure_copied a aired d downs h = record { near = h.near; calm = by h.calm }
-    where
-      by : (list_any plays (d ∷ downs) ≡ false) ⊎ Spent a (d ∷ downs) ⊎ Last list settled a aired (d ∷ downs)
-          → (list_any plays (d ∷ d ∷ downs) ≡ false) ⊎ Spent a (d ∷ d ∷ downs) ⊎ Last list settled a aired
-          (d ∷ d ∷ downs)
-      by (inl e) = inl (none_copied plays d downs e)
-      by (inr (inl q)) = inr (inl (record { is_empty = q.is_empty; none_cues = none_copied cues d downs q.none_cues }))
-      by (inr (inr q)) =
-          inr (inr (record {
-            aired_is = q.aired_is;
-            within = q.within;
-            owns = q.owns;
-            last = last_copied settled d downs
-                q.last;
-          }))
-
-  pub spot_copied : (s : Bool) (a : Cued) (aired : List Item) (ups : List Answer) (d : Phase) (downs : List Phase)
-      (q : Phase) → Spot list settled s a aired ups (d ∷ downs) q → Spot list settled s a aired ups (d ∷ d ∷ downs) q
-  spot_copied s a aired ups d downs (phase.Play k) h = sounding_copied s a aired ups d downs k h
-  spot_copied s a aired ups d downs (phase.Probe k) h = sounding_copied s a aired ups d downs k h
-  spot_copied s a aired ups d downs phase.Halt h = secure_copied a aired d downs h
-  spot_copied s a aired ups d downs phase.HaltClose h = secure_copied a aired d downs h
-  spot_copied s a aired ups d downs _ h = h
+  pub spot_lessens : (q : Phase) → Spot list settled s a aired ups downs q → Spot list settled t b aired others left q
+  spot_lessens (phase.Exists k) h = ((h.0.0, g.ages.still_empty h.0.1), h.1)
+  spot_lessens (phase.Cue k) h = trying_lessens k h
+  spot_lessens (phase.Wait k) h = trying_lessens k h
+  spot_lessens (phase.Play k) h = sounding_lessens k h
+  spot_lessens (phase.Probe k) h = sounding_lessens k h
+  spot_lessens (phase.Check k) h = ((h.0.0, g.ages.still_empty h.0.1), h.1)
+  spot_lessens phase.Drain h = h
+  spot_lessens phase.Close h = h
+  spot_lessens phase.Halt h = secure_lessens h
+  spot_lessens phase.HaltClose h = secure_lessens h
+  spot_lessens _ h = (h.0, g.ages.still_empty h.1)

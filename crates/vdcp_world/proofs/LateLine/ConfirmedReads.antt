@@ -12,7 +12,7 @@ use Rattle.vdcp_auto.specs.declared.phase.Mode.TheVariants.{Confirming}
 use Rattle.vdcp_auto.specs.declared.phase.Phase.{Phase}
 use Rattle.vdcp_auto.specs.declared.phase.Phase.TheVariants as phase
 use Rattle.vdcp_world.specs.LateLine.Pipe.{Climbs, stretches}
-use Rattle.vdcp_world.proofs.LateLine.ConfirmedPlaces.{cues, tries, Owns, Trying, ToSound, Sounded, Sounding, Spent, Last, Secure, Idle, full_pushed}
+use Rattle.vdcp_world.proofs.LateLine.ConfirmedPlaces.{tries, Owns, Trying, ToSound, Sounded, Sounding, Spent, Last, Secure, Idle, full_pushed}
 use Rattle.vdcp_world.proofs.LateLine.Delivering.{at_same, aired_same, item_same, no_more, pushed, none_pushed, clash, never_empty, ack_fits, airs_none, cueing_cue}
 use Rattle.vdcp_world.proofs.LateLine.DeliveringPlay.{airs_item, airs_nothing}
 use Rattle.vdcp_world.proofs.LateLine.Executed.{Does, Executed, left_cued, put_on_air}
@@ -21,6 +21,7 @@ use Rattle.vdcp_world.proofs.LateLine.Safety.{near_same}
 use Rattle.vdcp_world.proofs.LateLine.Stretches.{Lies, climbs_after, none_within}
 use Rattle.vdcp_world.proofs.PhaseTable.{cued_item, Near}
 use Rattle.vdcp_world.proofs.Exchanges.{near_of}
+use Rattle.vdcp_world.proofs.LateLine.Lessening.{cues}
 
 -- ---- which phases are in the stretches
 

@@ -10,7 +10,7 @@ use Rattle.vdcp_auto.specs.declared.phase.Mode.TheVariants.{Confirming}
 use Rattle.vdcp_auto.specs.declared.phase.Phase.{Phase}
 use Rattle.vdcp_auto.specs.declared.phase.Phase.TheVariants as phase
 use Rattle.vdcp_world.specs.LateLine.Pipe.{stretch, Climbs, stretches, IsPipe}
-use Rattle.vdcp_world.proofs.LateLine.ConfirmedPlaces.{cues, tries, cues_other, LastOf, Owns, ToSound, Sounded, Sounding, Spent, Last, Secure, Spot, none_sent, last_sent}
+use Rattle.vdcp_world.proofs.LateLine.ConfirmedPlaces.{tries, Owns, ToSound, Sounded, Sounding, Spent, Last, Secure, Spot, none_sent, last_sent}
 use Rattle.vdcp_world.proofs.LateLine.ConfirmedReads.{cue_free, idle_keeps, trying_keeps, sounding_keeps, secure_keeps, tries_not_cues}
 use Rattle.vdcp_world.proofs.LateLine.Executed.{Executed}
 use Rattle.vdcp_world.proofs.LateLine.Pipes.{climbs_within}
@@ -19,6 +19,7 @@ use Rattle.vdcp_world.proofs.LateLine.Safety.{near_at, none_plays, quiet}
 use Rattle.vdcp_world.proofs.LateLine.Standing.{quiet_keeps}
 use Rattle.vdcp_world.proofs.LateLine.Stretches.{Lies, lies_at, downs_climb, none_within}
 use Rattle.vdcp_world.proofs.Exchanges.{near_of}
+use Rattle.vdcp_world.proofs.LateLine.Lessening.{cues, cues_other, LastOf}
 
 -- ---- what is on the way is secure in each phase
 

@@ -12,14 +12,13 @@ use Rattle.vdcp_auto.specs.declared.phase.Mode.{Mode}
 use Rattle.vdcp_auto.specs.declared.phase.Mode.TheVariants.{Plain, Confirming}
 use Rattle.vdcp_auto.specs.declared.phase.Phase.{Phase}
 use Rattle.vdcp_world.specs.LateLine.LateHeadline.{is_late_complete}
-use Rattle.vdcp_world.proofs.LateLine.Closing.{Ages}
-use Rattle.vdcp_world.proofs.LateLine.Exactness.{exact_ages, exact_at, exact_copied, exact_reads, exact_thins}
+use Rattle.vdcp_world.proofs.LateLine.Exactness.{exact_at, exact_reads, exact_lessens}
 use Rattle.vdcp_world.proofs.LateLine.Executed.{Executed}
 use Rattle.vdcp_world.specs.LateLine.Pipe.{IsPipe}
 use Rattle.vdcp_world.proofs.LateLine.Places.{Answer, At, Exact, Still, pipe_of}
 use Rattle.vdcp_world.proofs.LateLine.Safety.{is_silent, none_plays}
-use Rattle.vdcp_world.proofs.LateLine.Thinning.{Thins}
 use Rattle.vdcp_world.proofs.PhaseTable.{knows}
+use Rattle.vdcp_world.proofs.LateLine.Lessening.{Lessens}
 
 -- so many events of a list of n
 abbrev pub settled_at : Mode → ℕ → Outcome → Option ℕ
@@ -56,25 +55,13 @@ module _ (Else : Type 0) where
   silent_end mode list settled s a aired ups downs k q e c h =
       settles_at list settled s a aired downs k h (inl (none_plays mode (length list) ups downs q e c))
 
-pub ended_thins : {Else Left : Type 0} → (Else → Left) → (list : List Item) (settled : ℕ) (s : Bool) (a : Cued)
-    (aired : List Item) (downs left : List Phase) (o : Option ℕ) → Thins downs left
-    → EndedAt Else list settled s a aired downs o → EndedAt Left list settled s a aired left o
-ended_thins f list settled s a aired downs left None d h = f h
-ended_thins f list settled s a aired downs left (Some k) d h =
-    (exact_thins list settled s a aired downs left d h.0, h.1)
-
-pub ended_copied : {Else Left : Type 0} → (Else → Left) → (list : List Item) (settled : ℕ) (s : Bool) (a : Cued)
-    (aired : List Item) (d : Phase) (downs : List Phase) (o : Option ℕ)
-    → EndedAt Else list settled s a aired (d ∷ downs) o → EndedAt Left list settled s a aired (d ∷ d ∷ downs) o
-ended_copied f list settled s a aired d downs None h = f h
-ended_copied f list settled s a aired d downs (Some k) h = (exact_copied list settled s a aired d downs h.0, h.1)
-
-pub ended_ages : {Else Left : Type 0} → (Else → Left) → (list : List Item) (settled : ℕ) (s : Bool) (a : Cued)
-    (t : Bool)
-    (b : Cued) (aired : List Item) (downs : List Phase) (o : Option ℕ) → Ages s a t b
-    → EndedAt Else list settled s a aired downs o → EndedAt Left list settled t b aired downs o
-ended_ages f list settled s a t b aired downs None g h = f h
-ended_ages f list settled s a t b aired downs (Some k) g h = (exact_ages list settled s a t b aired downs g h.0, h.1)
+pub ended_lessens : {Else Left : Type 0} → (Else → Left) → (list : List Item) (settled : ℕ) (s : Bool) (a : Cued)
+    (aired : List Item) (ups : List Answer) (downs : List Phase) (t : Bool) (b : Cued) (others : List Answer)
+    (left : List Phase) (o : Option ℕ) → Lessens s a ups downs t b others left
+    → EndedAt Else list settled s a aired downs o → EndedAt Left list settled t b aired left o
+ended_lessens f list settled s a aired ups downs t b others left None g h = f h
+ended_lessens f list settled s a aired ups downs t b others left (Some k) g h =
+    (exact_lessens list settled s a aired ups downs t b others left g h.0, h.1)
 
 pub ended_reads : {Else Left : Type 0} → (Else → Left) → (list : List Item) (settled : ℕ) (s : Bool) (a : Cued)
     (aired : List Item) (d : Phase) (downs : List Phase) (o : Option ℕ) (r : Reply) (t : Bool) (b : Cued)

@@ -24,13 +24,12 @@ use Rattle.vdcp_auto.specs.declared.phase.Phase.{Phase}
 use Rattle.vdcp_auto.specs.declared.phase.Phase.TheVariants as phase
 use Rattle.vdcp_auto.specs.declared.phase.Transition.{Transition}
 use Rattle.vdcp_auto.specs.declared.phase.Transition.TheVariants.{Settles}
-use Rattle.vdcp_world.proofs.LateLine.Closing.{Ages, none_ages}
-use Rattle.vdcp_world.proofs.LateLine.ConfirmedPlaces.{none_copied, none_sent}
+use Rattle.vdcp_world.proofs.LateLine.ConfirmedPlaces.{none_sent}
 use Rattle.vdcp_world.proofs.LateLine.Delivering.{airs_none, at_same, none_same, no_more}
 use Rattle.vdcp_world.proofs.LateLine.DeliveringPlay.{airs_nothing}
 use Rattle.vdcp_world.proofs.LateLine.Executed.{Does, Executed, left_cued, put_on_air}
-use Rattle.vdcp_world.proofs.LateLine.Places.{plays, arms, At, HasNone, Still, Exact}
-use Rattle.vdcp_world.proofs.LateLine.Thinning.{Thins, none_thins}
+use Rattle.vdcp_world.proofs.LateLine.Places.{Answer, plays, arms, At, HasNone, Still, Exact}
+use Rattle.vdcp_world.proofs.LateLine.Lessening.{none_ages, Lessens}
 
 pub none_taken : (list : List Item) → [] ≡ take 0 list
 none_taken [] = refl
@@ -44,31 +43,14 @@ module _ (list : List Item) (settled : ℕ) (s : Bool) (a : Cued) where
     still = still;
   }
 
-  -- ---- something is left out, comes twice, or changes by itself
-
-  pub exact_thins : (aired : List Item) (downs left : List Phase) → Thins downs left
-      → Exact list settled s a aired downs → Exact list settled s a aired left
-  exact_thins aired downs left d h = record { at = h.at; still = by h.still }
+  pub exact_lessens : (aired : List Item) (ups : List Answer) (downs : List Phase) (t : Bool) (b : Cued)
+      (others : List Answer) (left : List Phase) → Lessens s a ups downs t b others left
+      → Exact list settled s a aired downs → Exact list settled t b aired left
+  exact_lessens aired ups downs t b others left g h = record { at = h.at; still = by h.still }
     where
-      by : Still s a downs → Still s a left
-      by (inl e) = inl (none_thins plays downs left d e)
-      by (inr (none, e)) = inr (none, none_thins arms downs left d e)
-
-  pub exact_copied : (aired : List Item) (d : Phase) (downs : List Phase) → Exact list settled s a aired (d ∷ downs)
-      → Exact list settled s a aired (d ∷ d ∷ downs)
-  exact_copied aired d downs h = record { at = h.at; still = by h.still }
-    where
-      by : Still s a (d ∷ downs) → Still s a (d ∷ d ∷ downs)
-      by (inl e) = inl (none_copied plays d downs e)
-      by (inr (none, e)) = inr (none, none_copied arms d downs e)
-
-  pub exact_ages : (t : Bool) (b : Cued) (aired : List Item) (downs : List Phase) → Ages s a t b
-      → Exact list settled s a aired downs → Exact list settled t b aired downs
-  exact_ages t b aired downs g h = record { at = h.at; still = by h.still }
-    where
-      by : Still s a downs → Still t b downs
-      by (inl e) = inl e
-      by (inr (none, e)) = inr (none_ages s a t b g none, e)
+      by : Still s a downs → Still t b left
+      by (inl e) = inl (g.downs_none plays e)
+      by (inr (none, e)) = inr (none_ages s a t b g.ages none, g.downs_none arms e)
 
   -- the controller sends what neither plays nor arms
   pub exact_sends : (aired : List Item) (downs : List Phase) (q : Phase) → plays q ≡ false → arms q ≡ false

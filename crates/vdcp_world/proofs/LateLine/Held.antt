@@ -26,9 +26,8 @@ use Rattle.vdcp_auto.specs.declared.phase.Transition.{Transition}
 use Rattle.vdcp_auto.specs.declared.phase.Transition.TheVariants.{Ends}
 use Rattle.vdcp_world.specs.LateLine.Pipe.{IsPipe}
 use Rattle.vdcp_world.proofs.LateLine.Claims.{Closed, Comes, Covers}
-use Rattle.vdcp_world.proofs.LateLine.Closing.{Ages, flow_copied, flow_pushed, flow_thins}
 use Rattle.vdcp_world.proofs.LateLine.Delivering.{none_pushed}
-use Rattle.vdcp_world.proofs.LateLine.Endings.{EndedAt, Misses, ended_ages, ended_copied, ended_either, ended_reads, ended_settles, ended_thins, settled_at}
+use Rattle.vdcp_world.proofs.LateLine.Endings.{EndedAt, Misses, ended_either, ended_reads, ended_settles, settled_at, ended_lessens}
 use Rattle.vdcp_world.proofs.LateLine.ExactPlaces.{exact_in}
 use Rattle.vdcp_world.proofs.LateLine.Exactness.{is_exact_at, is_exact_in}
 use Rattle.vdcp_world.proofs.LateLine.Executed.{Executed}
@@ -36,11 +35,11 @@ use Rattle.vdcp_world.proofs.LateLine.Places.{Answer, At, Exact, HasNone, misfit
 use Rattle.vdcp_world.proofs.LateLine.Reads.{misleads}
 use Rattle.vdcp_world.proofs.LateLine.Safety.{near_at}
 use Rattle.vdcp_world.proofs.LateLine.Stretches.{pipe_delivered}
-use Rattle.vdcp_world.proofs.LateLine.Thinning.{Thins, none_thins}
 use Rattle.vdcp_world.proofs.PhaseTable.{Near}
 use Rattle.vdcp_auto.specs.Commands.{fits}
 use Rattle.vdcp_auto.specs.Replies.{is_refusal}
 use Rattle.vdcp_world.specs.LateLine.Damage.{is_no_answer}
+use Rattle.vdcp_world.proofs.LateLine.Lessening.{flow_pushed, Lessens}
 
 -- of the playlist, how many events are settled, whether the port is selected, its cued slot, what was aired, the answers
 -- on the way up, what is on the way down, and a phase
@@ -90,22 +89,13 @@ module _ (mode : Mode) (Spot : Spots) (Calm : Calms) where
 
   -- what is shown of the places of a mode, event by event
   pub record Tended : Type 0 where
-    pub thins : (list : List Item) (settled : ℕ) (s : Bool) (a : Cued) (aired : List Item) (ups others : List Answer)
-        (downs left : List Phase) (q : Phase) → Thins ups others → Thins downs left
-        → Spot list settled s a aired ups downs q → Spot list settled s a aired others left q
-    pub calm_thins : (list : List Item) (settled : ℕ) (s : Bool) (a : Cued) (aired : List Item)
-        (downs left : List Phase) → Thins downs left → Calm list settled s a aired downs
-        → Calm list settled s a aired left
-    pub copied : (list : List Item) (settled : ℕ) (s : Bool) (a : Cued) (aired : List Item) (ups : List Answer)
-        (d : Phase) (downs : List Phase) (q : Phase) → Spot list settled s a aired ups (d ∷ downs) q
-        → Spot list settled s a aired ups (d ∷ d ∷ downs) q
-    pub calm_copied : (list : List Item) (settled : ℕ) (s : Bool) (a : Cued) (aired : List Item) (d : Phase)
-        (downs : List Phase) → Calm list settled s a aired (d ∷ downs) → Calm list settled s a aired (d ∷ d ∷ downs)
-    pub ages : (list : List Item) (settled : ℕ) (s : Bool) (a : Cued) (t : Bool) (b : Cued) (aired : List Item)
-        (ups : List Answer) (downs : List Phase) (q : Phase) → Ages s a t b → Spot list settled s a aired ups downs q
-        → Spot list settled t b aired ups downs q
-    pub calm_ages : (list : List Item) (settled : ℕ) (s : Bool) (a : Cued) (t : Bool) (b : Cued) (aired : List Item)
-        (downs : List Phase) → Ages s a t b → Calm list settled s a aired downs → Calm list settled t b aired downs
+    pub lessens : (list : List Item) (settled : ℕ) (s : Bool) (a : Cued) (aired : List Item) (ups : List Answer)
+        (downs : List Phase) (t : Bool) (b : Cued) (others : List Answer) (left : List Phase)
+        → Lessens s a ups downs t b others left → (q : Phase) → Spot list settled s a aired ups downs q
+        → Spot list settled t b aired others left q
+    pub calm_lessens : (list : List Item) (settled : ℕ) (s : Bool) (a : Cued) (aired : List Item) (ups : List Answer)
+        (downs : List Phase) (t : Bool) (b : Cued) (others : List Answer) (left : List Phase)
+        → Lessens s a ups downs t b others left → Calm list settled s a aired downs → Calm list settled t b aired left
     pub reads : (list : List Item) (settled : ℕ) (s : Bool) (a : Cued) (aired : List Item) (ups : List Answer)
         (d : Phase) (downs : List Phase) (q : Phase) (r : Reply) (t : Bool) (b : Cued) (airs : List Item)
         → list_any misfits ups ≡ false → Here list settled s a aired ups (d ∷ downs) q
@@ -240,38 +230,26 @@ module _ (mode : Mode) (Spot : Spots) (Calm : Calms) where
 
     module _ (list : List Item) (clips : List (ClipId × Timecode)) (settled : ℕ) (s : Bool) (a : Cued)
         (aired : List Item) (ups : List Answer) where
-      thins : (others : List Answer) (downs left : List Phase) (stage : Stage) → Thins ups others → Thins downs left
-          → HeldAt list clips settled s a aired ups downs stage → HeldAt list clips settled s a aired others left stage
-      thins others downs left stage u d h = by stage h
+      lessens : (downs : List Phase) (t : Bool) (b : Cued) (others : List Answer) (left : List Phase) (stage : Stage)
+          → Lessens s a ups downs t b others left → HeldAt list clips settled s a aired ups downs stage
+          → HeldAt list clips settled t b aired others left stage
+      lessens downs t b others left stage g h = by stage h
         where
-          here : (q : Phase) → Here list settled s a aired ups downs q → Here list settled s a aired others left q
+          here : (q : Phase) → Here list settled s a aired ups downs q → Here list settled t b aired others left q
           here q h = (
-            tended.thins list settled s a aired ups others downs left q u d h.0,
-            flow_thins mode (length list) ups others downs left q u d h.1,
+            tended.lessens list settled s a aired ups downs t b others left g q h.0,
+            g.flows mode (length list) q h.1,
           )
 
           by : (stage : Stage) → HeldAt list clips settled s a aired ups downs stage
-              → HeldAt list clips settled s a aired others left stage
+              → HeldAt list clips settled t b aired others left stage
           by (Ready q) h = here q h
           by (Awaiting q) h = here q h
           by (Ended o) h = (
-            ended_thins (tended.calm_thins list settled s a aired downs left d) list settled s a aired downs left
-                (settled_at mode (length list) o) d h.0,
+            ended_lessens (tended.calm_lessens list settled s a aired ups downs t b others left g) list settled s a
+                aired ups downs t b others left (settled_at mode (length list) o) g h.0,
             h.1,
           )
-
-      copied : (d : Phase) (downs : List Phase) (stage : Stage)
-          → HeldAt list clips settled s a aired ups (d ∷ downs) stage
-          → HeldAt list clips settled s a aired ups (d ∷ d ∷ downs) stage
-      copied d downs (Ready q) h =
-          (tended.copied list settled s a aired ups d downs q h.0, flow_copied mode (length list) ups d downs q h.1)
-      copied d downs (Awaiting q) h =
-          (tended.copied list settled s a aired ups d downs q h.0, flow_copied mode (length list) ups d downs q h.1)
-      copied d downs (Ended o) h = (
-        ended_copied (tended.calm_copied list settled s a aired d downs) list settled s a aired d downs
-            (settled_at mode (length list) o) h.0,
-        h.1,
-      )
 
       reads : (d : Phase) (downs : List Phase) (stage : Stage) (r : Reply) (t : Bool) (b : Cued) (airs : List Item)
           → list_any misfits ups ≡ false → HeldAt list clips settled s a aired ups (d ∷ downs) stage
@@ -298,16 +276,6 @@ module _ (mode : Mode) (Spot : Spots) (Calm : Calms) where
                 downs (settled_at mode (length list) o) r t b airs x h.0,
             h.1,
           )
-
-      ages : (t : Bool) (b : Cued) (downs : List Phase) (stage : Stage) → Ages s a t b
-          → HeldAt list clips settled s a aired ups downs stage → HeldAt list clips settled t b aired ups downs stage
-      ages t b downs (Ready q) g h = (tended.ages list settled s a t b aired ups downs q g h.0, h.1)
-      ages t b downs (Awaiting q) g h = (tended.ages list settled s a t b aired ups downs q g h.0, h.1)
-      ages t b downs (Ended o) g h = (
-        ended_ages (tended.calm_ages list settled s a t b aired downs g) list settled s a t b aired downs
-            (settled_at mode (length list) o) g h.0,
-        h.1,
-      )
 
       sends : (downs : List Phase) (stop : Bool) (q : Phase) → Here list settled s a aired ups downs q
           → Here list settled s a aired ups (downs ++ phase_to_send stop q ∷ []) (phase_to_send stop q)
@@ -363,25 +331,15 @@ module _ (mode : Mode) (Spot : Spots) (Calm : Calms) where
     closed : Closed mode Holds
     closed = record {
       steady = record {
-        thins = λ list clips settled s a aired ups others downs left stage u d h. record {
-          place = thins list clips settled s a aired ups others downs left stage u d h.place;
-          fit = none_thins misfits ups others u h.fit;
-          true_told = none_thins (misleads list clips) ups others u h.true_told;
-        };
-        copied = λ list clips settled s a aired ups d downs stage h. record {
-          place = copied list clips settled s a aired ups d downs stage h.place;
-          fit = h.fit;
-          true_told = h.true_told;
+        lessens = λ list clips settled s a aired ups downs t b others left stage g h. record {
+          place = lessens list clips settled s a aired ups downs t b others left stage g h.place;
+          fit = g.ups_none misfits h.fit;
+          true_told = g.ups_none (misleads list clips) h.true_told;
         };
         reads = λ list clips settled s a aired ups d downs stage r t b airs h x. record {
           place = reads list clips settled s a aired ups d downs stage r t b airs h.fit h.place x.executed;
           fit = none_pushed misfits ups (record { to = d; reply = r }) h.fit (ap not x.executed.fits);
           true_told = none_pushed (misleads list clips) ups (record { to = d; reply = r }) h.true_told x.true_told;
-        };
-        ages = λ list clips settled s a t b aired ups downs stage g h. record {
-          place = ages list clips settled s a aired ups t b downs stage g h.place;
-          fit = h.fit;
-          true_told = h.true_told;
         };
       };
       sends = λ list clips settled s a aired ups downs stop q h. record {

@@ -28,14 +28,14 @@ use Rattle.vdcp_world.specs.LateLine.Damage.{is_no_answer}
 use Rattle.vdcp_world.specs.LateLine.LateChannel.{LateChannel, bursts_of}
 use Rattle.vdcp_world.specs.Below.{Below}
 use Rattle.vdcp_world.proofs.LateLine.Carrying.{Carries, carries_pushed, carries_pushed_junk, carries_same, Left}
-use Rattle.vdcp_world.proofs.LateLine.Closing.{Ages}
-use Rattle.vdcp_world.proofs.LateLine.Claims.{Claim, Steady}
+use Rattle.vdcp_world.proofs.LateLine.Claims.{Claim, Steady, thins}
 use Rattle.vdcp_world.proofs.LateLine.Delivering.{aired_same}
 use Rattle.vdcp_world.proofs.LateLine.Executing.{reads}
 use Rattle.vdcp_world.proofs.LateLine.Places.{Answer}
 use Rattle.vdcp_world.proofs.OnTheWay.{ReadsNothing, ReadsCommand}
 use Rattle.vdcp_world.proofs.LateLine.Thinning.{all_left}
 use Rattle.vdcp_world.proofs.Claims.{burst_unit}
+use Rattle.vdcp_world.proofs.LateLine.Lessening.{Ages, aged}
 
 -- ---- what bursts carry
 
@@ -194,9 +194,10 @@ module _ (mode : Mode) (S : Claim) where
     stands = subst (λ (known : List (ClipId × Timecode)). S c.plan.list known c.state.settled
         (is_selected p.state) p.state.cued c.aired k.ups k.downs
         c.state.stage) (sym clips)
-        (steady.ages c.plan.list c.port.clips c.state.settled (is_selected c.port.state) c.port.state.cued
-        (is_selected p.state) p.state.cued c.aired k.ups k.downs
-        c.state.stage ages k.stands);
+        (steady.lessens c.plan.list c.port.clips c.state.settled (is_selected c.port.state) c.port.state.cued c.aired
+        k.ups k.downs (is_selected p.state) p.state.cued k.ups k.downs c.state.stage
+        (aged (is_selected c.port.state) c.port.state.cued (is_selected p.state) p.state.cued k.ups k.downs ages)
+        k.stands);
   }
 
   -- with other bursts on the way, of which some may be left out
@@ -209,7 +210,7 @@ module _ (mode : Mode) (S : Claim) where
     ups = k.ups;
     down_is = l.carries;
     up_is = k.up_is;
-    stands = steady.thins c.plan.list c.port.clips c.state.settled (is_selected c.port.state) c.port.state.cued c.aired
+    stands = thins steady c.plan.list c.port.clips c.state.settled (is_selected c.port.state) c.port.state.cued c.aired
         k.ups k.ups k.downs l.left c.state.stage
         (all_left k.ups) l.thins k.stands;
   }
@@ -226,7 +227,7 @@ module _ (mode : Mode) (S : Claim) where
     ups = l.left;
     down_is = k.down_is;
     up_is = l.carries;
-    stands = steady.thins c.plan.list c.port.clips state.settled (is_selected c.port.state) c.port.state.cued c.aired
+    stands = thins steady c.plan.list c.port.clips state.settled (is_selected c.port.state) c.port.state.cued c.aired
         k.ups l.left k.downs k.downs state.stage
         l.thins (all_left k.downs) stands;
   }

@@ -36,8 +36,7 @@ use Rattle.vdcp_world.specs.declared.late.event.LateEvent.TheVariants as event
 use Rattle.vdcp_world.proofs.Beginnings.{is_beginning_of}
 use Rattle.vdcp_world.specs.Below.{Below}
 use Rattle.vdcp_world.proofs.LateLine.Carrying.{carries_pushed, carries_same, Left, left_same, left_rest, left_without, carries_junk, Damages, left_damaged}
-use Rattle.vdcp_world.proofs.LateLine.Closing.{Ages, ready_ages, same_ages, anew_ages}
-use Rattle.vdcp_world.proofs.LateLine.Claims.{Claim, Closed, Comes, Exactly, Steady, exactly}
+use Rattle.vdcp_world.proofs.LateLine.Claims.{Claim, Closed, Comes, Exactly, Steady, exactly, thins}
 use Rattle.vdcp_world.proofs.LateLine.Exactness.{came_may, exact_sends, is_exact_at, is_exact_in, may_in, no_arm, sent_may}
 use Rattle.vdcp_world.proofs.LateLine.Kept.{IsJunkDown, IsCommand, IsJunkUp, IsAnswer, DownCarries, UpCarries, StandsAt, IsKept, writable, Delivered, delivered_nothing, delivered_command, with_state, with_port, with_down, with_up, with_delivery, with_hearing}
 use Rattle.vdcp_world.proofs.LateLine.Places.{Answer, Exact, plays}
@@ -46,6 +45,7 @@ use Rattle.vdcp_world.proofs.WayLemmas.{reads_nothing, reads_command}
 use Rattle.vdcp_world.proofs.LateLine.Thinning.{Thins, all_left}
 use Rattle.vdcp_world.proofs.WayKept.{front_of_none}
 use Rattle.vdcp_world.proofs.Reached.{make_frame}
+use Rattle.vdcp_world.proofs.LateLine.Lessening.{Ages, same_ages, ready_ages, anew_ages, copied}
 
 -- ---- a tick
 
@@ -110,7 +110,7 @@ module _ (mode : Mode) (S : Claim) where
       sent q None is h = (
         k.downs,
         carries_same IsJunkDown (IsCommand c.plan.list c.plan.port unit) c.down k.downs k.down_is,
-        (exactly S (may_at (Awaiting q)) closed.steady).thins c.plan.list c.port.clips c.state.settled
+        thins (exactly S (may_at (Awaiting q)) closed.steady) c.plan.list c.port.clips c.state.settled
             (is_selected c.port.state) c.port.state.cued c.aired k.ups k.ups (k.downs ++ q ∷ []) k.downs (Awaiting q)
             (all_left k.ups) (last_left k.downs q) h,
       )
@@ -177,8 +177,9 @@ delivers mode S steady below c k burst rest (inr (q, downs, first, (d, is, ms), 
       delivered_command mode S steady c.plan c.state c.port c.up c.aired burst k.ups q downs d is read k.up_is there;
   kept = subst (Delivered mode S c.plan c.state c.port c.up c.aired burst) (sym first)
       (delivered_command mode S steady c.plan c.state c.port c.up c.aired burst k.ups q (q ∷ downs) d is read k.up_is
-      (steady.copied c.plan.list c.port.clips c.state.settled (is_selected c.port.state) c.port.state.cued c.aired k.ups
-      q downs c.state.stage there));
+      (steady.lessens c.plan.list c.port.clips c.state.settled (is_selected c.port.state) c.port.state.cued c.aired
+      k.ups (q ∷ downs) (is_selected c.port.state) c.port.state.cued k.ups (q ∷ q ∷ downs) c.state.stage
+      (copied (is_selected c.port.state) c.port.state.cued k.ups q downs) there));
 }
   where
     read : ReadsCommand c.port burst d

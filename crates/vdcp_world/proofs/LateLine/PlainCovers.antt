@@ -19,14 +19,13 @@ use Rattle.vdcp_auto.specs.declared.phase.Phase.{Phase}
 use Rattle.vdcp_auto.specs.declared.phase.Phase.TheVariants as phase
 use Rattle.vdcp_world.specs.LateLine.Damage.{is_no_answer}
 use Rattle.vdcp_world.proofs.Exchanges.{fits_asked}
-use Rattle.vdcp_world.proofs.LateLine.Closing.{place_ages, place_thins, safe_ages, safe_thins}
 use Rattle.vdcp_world.proofs.LateLine.Delivering.{clash}
 use Rattle.vdcp_world.proofs.LateLine.Exactness.{is_exact_in, none_taken}
 use Rattle.vdcp_world.proofs.LateLine.Held.{Holds, LeadsBy, Tended}
 use Rattle.vdcp_world.proofs.LateLine.Hearing.{Here, Leads, goes_on, refused, replied}
 use Rattle.vdcp_world.proofs.LateLine.Places.{Answer, At, Place, Safe}
 use Rattle.vdcp_world.proofs.LateLine.Safety.{calm_in, safe_keeps}
-use Rattle.vdcp_world.proofs.LateLine.Standing.{place_copied, place_keeps, place_sends, safe_copied}
+use Rattle.vdcp_world.proofs.LateLine.Standing.{place_keeps, place_sends, place_lessens, safe_lessens}
 
 -- in which phases how many events are aired and settled
 at_in : (list : List Item) (settled : ℕ) (s : Bool) (a : Cued) (aired : List Item) (ups : List Answer)
@@ -88,12 +87,8 @@ answers list clips port limit s a aired x ups downs state counts q c is f h = by
 
 pub plain_tended : Tended Plain Place Safe
 plain_tended = record {
-  thins = place_thins;
-  calm_thins = safe_thins;
-  copied = place_copied;
-  calm_copied = safe_copied;
-  ages = place_ages;
-  calm_ages = safe_ages;
+  lessens = place_lessens;
+  calm_lessens = safe_lessens;
   reads = λ list settled s a aired ups d downs q r t b airs fit h x.
       place_keeps list settled s a aired ups d downs q r t b airs fit h.0 h.1 x;
   calm_reads = safe_keeps;

@@ -8,13 +8,14 @@ use Rattle.vdcp_auto.specs.declared.phase.Mode.TheVariants.{Plain}
 use Rattle.vdcp_auto.specs.declared.phase.Phase.{Phase}
 use Rattle.vdcp_auto.specs.declared.phase.Phase.TheVariants as phase
 use Rattle.vdcp_world.specs.LateLine.Pipe.{IsPipe}
-use Rattle.vdcp_world.proofs.LateLine.ConfirmedPlaces.{none_copied, none_sent}
+use Rattle.vdcp_world.proofs.LateLine.ConfirmedPlaces.{none_sent}
 use Rattle.vdcp_world.proofs.LateLine.Delivering.{at_same, airs_none, cueing_keeps, waiting_keeps}
 use Rattle.vdcp_world.proofs.LateLine.DeliveringPlay.{playing_keeps, checking_keeps}
 use Rattle.vdcp_world.proofs.LateLine.Executed.{Executed}
-use Rattle.vdcp_world.proofs.LateLine.Places.{Answer, pipe_of, plays, waits, arms, misfits, At, ToAir, OnAir, Playing, Unarmed, Safe, Place}
+use Rattle.vdcp_world.proofs.LateLine.Places.{Answer, pipe_of, plays, waits, arms, misfits, At, ToAir, OnAir, Playing, Unarmed, Safe, Place, LastCue, says_ack, says_done, says_empty, shows_no_cue}
 use Rattle.vdcp_world.proofs.LateLine.Safety.{safe_keeps, quiet, quiet_first}
 use Rattle.vdcp_world.proofs.LateLine.Stretches.{lies_at}
+use Rattle.vdcp_world.proofs.LateLine.Lessening.{Lessens, done_ages, item_ages, none_ages}
 
 -- ---- the controller sends
 
@@ -100,40 +101,64 @@ module _ (list : List Item) (settled : ℕ) (s : Bool) (a : Cued) (aired : List 
   place_keeps ups d downs _ r t b airs fit h c x =
       quiet_keeps d 0 r t b airs (quiet_first Plain (length list) d (lies_at Plain (length list) 1 1 ups d downs c)) h x
 
-  -- ---- the oldest command is copied in its place
+-- ---- less of all
 
-  pub safe_copied : (d : Phase) (downs : List Phase) → Safe list settled s a aired (d ∷ downs)
-      → Safe list settled s a aired (d ∷ d ∷ downs)
-  safe_copied d downs h = record { near = h.near; calm = by h.calm }
-    where
-      by : (list_any plays (d ∷ downs) ≡ false) ⊎ Unarmed list settled s a aired (d ∷ downs)
-          → (list_any plays (d ∷ d ∷ downs) ≡ false) ⊎ Unarmed list settled s a aired (d ∷ d ∷ downs)
-      by (inl e) = inl (none_copied plays d downs e)
-      by (inr u) = inr (record { none_arms = none_copied arms d downs u.none_arms; last = u.last })
-
-  playing_copied : (ups : List Answer) (d : Phase) (downs : List Phase) (k : ℕ)
-      → Playing list settled s a aired ups (d ∷ downs) k → Playing list settled s a aired ups (d ∷ d ∷ downs) k
-  playing_copied ups d downs k h = record {
+module _ (list : List Item) (settled : ℕ) (s : Bool) (a : Cued) (aired : List Item) (ups : List Answer)
+    (downs : List Phase) (t : Bool) (b : Cued) (others : List Answer) (left : List Phase)
+    (g : Lessens s a ups downs t b others left) where
+  playing_lessens : (k : ℕ) → Playing list settled s a aired ups downs k → Playing list settled t b aired others left k
+  playing_lessens k h = record {
     settled_is = h.settled_is;
     within = h.within;
-    never_none = h.never_none;
+    never_none = g.ups_none shows_no_cue h.never_none;
     stands = by h.stands;
   }
     where
-      by : ToAir list s a aired ups k ⊎ OnAir list s a aired (d ∷ downs) k
-          → ToAir list s a aired ups k ⊎ OnAir list s a aired (d ∷ d ∷ downs) k
-      by (inl q) = inl q
+      by : ToAir list s a aired ups k ⊎ OnAir list s a aired downs k
+          → ToAir list t b aired others k ⊎ OnAir list t b aired left k
+      by (inl q) = inl (record {
+        aired_is = q.aired_is;
+        has_item = item_ages list s a t b k g.ages q.has_item;
+        has_done = done_ages s a t b g.ages q.has_done;
+        no_ack = g.ups_none says_ack q.no_ack;
+        no_empty = g.ups_none says_empty q.no_empty;
+      })
       by (inr q) = inr (record {
         aired_is = q.aired_is;
-        has_none = q.has_none;
-        none_waits = none_copied waits d downs
-            q.none_waits;
+        has_none = none_ages s a t b g.ages q.has_none;
+        none_waits = g.downs_none waits q.none_waits;
       })
 
-  pub place_copied : (ups : List Answer) (d : Phase) (downs : List Phase) (q : Phase)
-      → Place list settled s a aired ups (d ∷ downs) q → Place list settled s a aired ups (d ∷ d ∷ downs) q
-  place_copied ups d downs (phase.Play k) h = playing_copied ups d downs k h
-  place_copied ups d downs (phase.Probe k) h = playing_copied ups d downs k h
-  place_copied ups d downs phase.Halt h = safe_copied d downs h
-  place_copied ups d downs phase.HaltClose h = safe_copied d downs h
-  place_copied ups d downs _ h = h
+  pub safe_lessens : Safe list settled s a aired downs → Safe list settled t b aired left
+  safe_lessens h = record { near = h.near; calm = by h.calm }
+    where
+      cue : LastCue list settled s a aired → LastCue list settled t b aired
+      cue (inl e) = inl (none_ages s a t b g.ages e)
+      cue (inr (is, within, e)) = inr (is, within, item_ages list s a t b settled g.ages e)
+
+      by : (list_any plays downs ≡ false) ⊎ Unarmed list settled s a aired downs
+          → (list_any plays left ≡ false) ⊎ Unarmed list settled t b aired left
+      by (inl e) = inl (g.downs_none plays e)
+      by (inr u) = inr (record { none_arms = g.downs_none arms u.none_arms; last = cue u.last })
+
+  pub place_lessens : (q : Phase) → Place list settled s a aired ups downs q
+      → Place list settled t b aired others left q
+  place_lessens (phase.Cue k) h = record {
+    at = h.at;
+    within = h.within;
+    taken = λ e. item_ages list s a t b k g.ages (h.taken (g.ups_any says_ack e));
+  }
+  place_lessens (phase.Wait k) h = record {
+    at = h.at;
+    within = h.within;
+    has_item = item_ages list s a t b k g.ages h.has_item;
+    shown = λ e. done_ages s a t b g.ages (h.shown (g.ups_any says_done e));
+    never_none = g.ups_none shows_no_cue h.never_none;
+  }
+  place_lessens (phase.Play k) h = playing_lessens k h
+  place_lessens (phase.Probe k) h = playing_lessens k h
+  place_lessens (phase.Check k) h =
+      record { at = h.at; within = h.within; has_none = none_ages s a t b g.ages h.has_none }
+  place_lessens phase.Halt h = safe_lessens h
+  place_lessens phase.HaltClose h = safe_lessens h
+  place_lessens _ h = h

@@ -1,6 +1,8 @@
--- Each phase keeps its place where something on the way is left out, and where the port changes by itself.
-use Rattle.std.proofs.Common.{◌≡◌, ℕ, ◌⊎◌, inl, inr, Bool, true, false, List, [], ◌∷◌, ◌++◌, ◌≤◌, refl, sym, ap, subst, ◌∙◌, ◌+◌, ◌*◌, arith}
+-- What is left of what is on the way, and of the port, if something is left out or comes twice, or the port changes by
+-- itself.
+use Rattle.std.proofs.Common.{◌≡◌, ℕ, ◌⊎◌, inl, inr, Bool, true, false, List, [], ◌∷◌, ◌++◌, ◌≤◌, refl, sym, ap, subst, ◌∙◌, ◌+◌, ◌*◌, arith, ◌||◌, not, nat_eq}
 use Rattle.std.specs.List.{list_any}
+use Rattle.std.proofs.lemmas.Bool.{or_from}
 use Rattle.vdcp_value.specs.declared.part.Item.{Item}
 use Rattle.vdcp_port.specs.Port.{Cued, empty, cueing, done, made_ready, is_done as is_done_cue}
 use Rattle.vdcp_auto.specs.declared.phase.Mode.{Mode}
@@ -9,66 +11,57 @@ use Rattle.vdcp_auto.specs.declared.phase.Phase.TheVariants as phase
 use Rattle.vdcp_world.specs.LateLine.Pipe.{Climbs, IsPipe, stretch, stretches, oldest_stretch}
 use Rattle.vdcp_world.proofs.LateLine.Pipes.{climbs_pushed, climbs_thins}
 use Rattle.vdcp_world.proofs.LateLine.Stretches.{pipe_copied, pipe_pushed}
-use Rattle.vdcp_world.proofs.LateLine.Places.{Answer, pipe_of, plays, arms, waits, says_ack, says_done, says_empty, shows_no_cue, HasItem, HasDone, HasNone, ToAir, OnAir, Playing, LastCue, Unarmed, Safe, Place}
+use Rattle.vdcp_world.proofs.LateLine.Places.{Answer, pipe_of, plays, says_done, says_empty, HasItem, HasDone, HasNone}
 use Rattle.vdcp_world.proofs.LateLine.Thinning.{Thins, any_thins, none_thins}
 use Rattle.vdcp_world.proofs.PhaseTable.{cued_item}
 use Rattle.vdcp_auto.specs.declared.phase.Mode.TheVariants.{Plain, Confirming}
 
--- ---- something is left out
+-- ---- what is said and sent
 
-on_air_thins : (list : List Item) (s : Bool) (a : Cued) (aired : List Item) (ups others : List Answer)
-    (downs left : List Phase) (k : ℕ)
-    → Thins ups others → Thins downs left
-    → ToAir list s a aired ups k ⊎ OnAir list s a aired downs k
-    → ToAir list s a aired others k ⊎ OnAir list s a aired left k
-on_air_thins list s a aired ups others downs left k u d (inl h) = inl (record {
-  aired_is = h.aired_is;
-  has_item = h.has_item;
-  has_done = h.has_done;
-  no_ack = none_thins says_ack ups others u h.no_ack;
-  no_empty = none_thins says_empty ups others u h.no_empty;
-})
-on_air_thins list s a aired ups others downs left k u d (inr h) = inr (record {
-  aired_is = h.aired_is;
-  has_none = h.has_none;
-  none_waits = none_thins waits downs left d h.none_waits;
-})
+-- a state that shows that nothing is cued never comes after one that shows a cue to be done
+abbrev pub FullAfterDone : List Answer → Type 0
+FullAfterDone [] = Unit {0}
+FullAfterDone (x ∷ ups) = (says_done x ≡ true → list_any says_empty ups ≡ false) × FullAfterDone ups
 
-module _ (list : List Item) (settled : ℕ) (s : Bool) (a : Cued) (aired : List Item) where
-  playing_thins : (ups others : List Answer) (downs left : List Phase) (k : ℕ) → Thins ups others → Thins downs left
-      → Playing list settled s a aired ups downs k → Playing list settled s a aired others left k
-  playing_thins ups others downs left k u d h = record {
-    settled_is = h.settled_is;
-    within = h.within;
-    never_none = none_thins shows_no_cue ups others u h.never_none;
-    stands = on_air_thins list s a aired ups others downs left k u d h.stands;
-  }
+abbrev pub cues : Phase → Bool
+cues (phase.Cue k) = true
+cues _ = false
 
-  pub safe_thins : (downs left : List Phase) → Thins downs left → Safe list settled s a aired downs
-      → Safe list settled s a aired left
-  safe_thins downs left d h = record { near = h.near; calm = by h.calm }
-    where
-      by : (list_any plays downs ≡ false) ⊎ Unarmed list settled s a aired downs
-          → (list_any plays left ≡ false) ⊎ Unarmed list settled s a aired left
-      by (inl e) = inl (none_thins plays downs left d e)
-      by (inr u) = inr (record { none_arms = none_thins arms downs left d u.none_arms; last = u.last })
+abbrev pub cues_other : ℕ → Phase → Bool
+cues_other s (phase.Cue k) = not (nat_eq k s)
+cues_other s _ = false
 
-  pub place_thins : (ups others : List Answer) (downs left : List Phase) (q : Phase) → Thins ups others
-      → Thins downs left → Place list settled s a aired ups downs q → Place list settled s a aired others left q
-  place_thins ups others downs left (phase.Cue k) u d h =
-      record { at = h.at; within = h.within; taken = λ e. h.taken (any_thins says_ack ups others u e) }
-  place_thins ups others downs left (phase.Wait k) u d h = record {
-    at = h.at;
-    within = h.within;
-    has_item = h.has_item;
-    shown = λ e. h.shown (any_thins says_done ups others u e);
-    never_none = none_thins shows_no_cue ups others u h.never_none;
-  }
-  place_thins ups others downs left (phase.Play k) u d h = playing_thins ups others downs left k u d h
-  place_thins ups others downs left (phase.Probe k) u d h = playing_thins ups others downs left k u d h
-  place_thins ups others downs left phase.Halt u d h = safe_thins downs left d h
-  place_thins ups others downs left phase.HaltClose u d h = safe_thins downs left d h
-  place_thins ups others downs left _ u d h = h
+-- each cue is of one event, and none comes after a PLAY
+abbrev pub LastOf : ℕ → List Phase → Type 0
+LastOf s [] = Unit {0}
+LastOf s (d ∷ downs) = (cues_other s d ≡ false) × (plays d ≡ true → list_any cues downs ≡ false) × LastOf s downs
+
+pub full_thins : (ups others : List Answer) → Thins ups others → FullAfterDone ups → FullAfterDone others
+full_thins [] others t h = subst FullAfterDone (sym t) tt
+full_thins (x ∷ ups) others (inl t) h = full_thins ups others t h.1
+full_thins (x ∷ ups) others (inr (rest, is, t)) h =
+    subst FullAfterDone (sym is) (λ e. none_thins says_empty ups rest t (h.0 e), full_thins ups rest t h.1)
+
+pub none_copied : (test : Phase → Bool) (d : Phase) (downs : List Phase) → list_any test (d ∷ downs) ≡ false
+    → list_any test (d ∷ d ∷ downs) ≡ false
+none_copied test d downs e = by (test d) (list_any test downs) e
+  where
+    by : (x y : Bool) → (x || y) ≡ false → (x || (x || y)) ≡ false
+    by x y e = grind arith
+
+pub last_thins : (s : ℕ) (downs left : List Phase) → Thins downs left → LastOf s downs → LastOf s left
+last_thins s [] left t h = subst (LastOf s) (sym t) tt
+last_thins s (d ∷ downs) left (inl t) h = last_thins s downs left t h.2
+last_thins s (d ∷ downs) left (inr (rest, is, t)) h =
+    subst (LastOf s) (sym is) (h.0, λ e. none_thins cues downs rest t (h.1 e), last_thins s downs rest t h.2)
+
+plays_not_cues : (d : Phase) → plays d ≡ true → cues d ≡ false
+plays_not_cues d e = grind arith
+
+pub last_copied : (s : ℕ) (d : Phase) (downs : List Phase) → LastOf s (d ∷ downs) → LastOf s (d ∷ d ∷ downs)
+last_copied s d downs h = (h.0, λ e. or_from (cues d) (list_any cues downs) (plays_not_cues d e) (h.1 e), h)
+
+-- ---- the pipe
 
 module _ (mode : Mode) where
   -- the pipe
@@ -191,61 +184,52 @@ anew_ages s a =
           inl refl;
     }
 
-stand_ages : (list : List Item) (s : Bool) (a : Cued) (t : Bool) (b : Cued) (aired : List Item) (ups : List Answer)
-    (downs : List Phase) (k : ℕ) → Ages s a t b
-    → ToAir list s a aired ups k ⊎ OnAir list s a aired downs k
-    → ToAir list t b aired ups k ⊎ OnAir list t b aired downs k
-stand_ages list s a t b aired ups downs k g (inl h) = inl (record {
-  aired_is = h.aired_is;
-  has_item = item_ages list s a t b k g h.has_item;
-  has_done = done_ages s a t b g h.has_done;
-  no_ack = h.no_ack;
-  no_empty = h.no_empty;
-})
-stand_ages list s a t b aired ups downs k g (inr h) = inr (record {
-  aired_is = h.aired_is;
-  has_none = none_ages s a t b g h.has_none;
-  none_waits = h.none_waits;
-})
+-- ---- all of it
 
-module _ (list : List Item) (settled : ℕ) (s : Bool) (a : Cued) (t : Bool) (b : Cued) (aired : List Item) where
-  playing_ages : (ups : List Answer) (downs : List Phase) (k : ℕ) → Ages s a t b
-      → Playing list settled s a aired ups downs k → Playing list settled t b aired ups downs k
-  playing_ages ups downs k g h = record {
-    settled_is = h.settled_is;
-    within = h.within;
-    never_none = h.never_none;
-    stands = stand_ages list s a t b aired ups downs k g h.stands;
-  }
+-- less, or the same
+pub record Lessens (s : Bool) (a : Cued) (ups : List Answer) (downs : List Phase) (t : Bool) (b : Cued)
+    (others : List Answer) (left : List Phase) : Type 0 where
+  pub ages : Ages s a t b
+  pub ups_none : (test : Answer → Bool) → list_any test ups ≡ false → list_any test others ≡ false
+  pub ups_any : (test : Answer → Bool) → list_any test others ≡ true → list_any test ups ≡ true
+  pub downs_none : (test : Phase → Bool) → list_any test downs ≡ false → list_any test left ≡ false
+  pub full : FullAfterDone ups → FullAfterDone others
+  pub last : (k : ℕ) → LastOf k downs → LastOf k left
+  pub flows : (mode : Mode) (n : ℕ) (q : Phase) → IsPipe mode n q (pipe_of ups downs)
+      → IsPipe mode n q (pipe_of others left)
 
-  pub safe_ages : (downs : List Phase) → Ages s a t b → Safe list settled s a aired downs
-      → Safe list settled t b aired downs
-  safe_ages downs g h = record { near = h.near; calm = by h.calm }
-    where
-      cue : LastCue list settled s a aired → LastCue list settled t b aired
-      cue (inl e) = inl (none_ages s a t b g e)
-      cue (inr (is, within, e)) = inr (is, within, item_ages list s a t b settled g e)
+pub thinned : (s : Bool) (a : Cued) (ups others : List Answer) (downs left : List Phase) → Thins ups others
+    → Thins downs left → Lessens s a ups downs s a others left
+thinned s a ups others downs left u d = record {
+  ages = same_ages s a;
+  ups_none = λ test. none_thins test ups others u;
+  ups_any = λ test. any_thins test ups others u;
+  downs_none = λ test. none_thins test downs left d;
+  full = full_thins ups others u;
+  last = λ k. last_thins k downs left d;
+  flows = λ mode n q. flow_thins mode n ups others downs left q u d;
+}
 
-      by : (list_any plays downs ≡ false) ⊎ Unarmed list settled s a aired downs
-          → (list_any plays downs ≡ false) ⊎ Unarmed list settled t b aired downs
-      by (inl e) = inl e
-      by (inr u) = inr (record { none_arms = u.none_arms; last = cue u.last })
+pub copied : (s : Bool) (a : Cued) (ups : List Answer) (d : Phase) (downs : List Phase)
+    → Lessens s a ups (d ∷ downs) s a ups (d ∷ d ∷ downs)
+copied s a ups d downs = record {
+  ages = same_ages s a;
+  ups_none = λ test e. e;
+  ups_any = λ test e. e;
+  downs_none = λ test. none_copied test d downs;
+  full = λ h. h;
+  last = λ k. last_copied k d downs;
+  flows = λ mode n q. flow_copied mode n ups d downs q;
+}
 
-  pub place_ages : (ups : List Answer) (downs : List Phase) (q : Phase) → Ages s a t b
-      → Place list settled s a aired ups downs q → Place list settled t b aired ups downs q
-  place_ages ups downs (phase.Cue k) g h =
-      record { at = h.at; within = h.within; taken = λ e. item_ages list s a t b k g (h.taken e) }
-  place_ages ups downs (phase.Wait k) g h = record {
-    at = h.at;
-    within = h.within;
-    has_item = item_ages list s a t b k g h.has_item;
-    shown = λ e. done_ages s a t b g (h.shown e);
-    never_none = h.never_none;
-  }
-  place_ages ups downs (phase.Play k) g h = playing_ages ups downs k g h
-  place_ages ups downs (phase.Probe k) g h = playing_ages ups downs k g h
-  place_ages ups downs (phase.Check k) g h =
-      record { at = h.at; within = h.within; has_none = none_ages s a t b g h.has_none }
-  place_ages ups downs phase.Halt g h = safe_ages downs g h
-  place_ages ups downs phase.HaltClose g h = safe_ages downs g h
-  place_ages ups downs _ g h = h
+pub aged : (s : Bool) (a : Cued) (t : Bool) (b : Cued) (ups : List Answer) (downs : List Phase) → Ages s a t b
+    → Lessens s a ups downs t b ups downs
+aged s a t b ups downs g = record {
+  ages = g;
+  ups_none = λ test e. e;
+  ups_any = λ test e. e;
+  downs_none = λ test e. e;
+  full = λ h. h;
+  last = λ k h. h;
+  flows = λ mode n q h. h;
+}
