@@ -1,7 +1,7 @@
 -- What may be claimed of a channel, how a claim has to be closed, and that every event keeps one that is.
 use Rattle.std.proofs.Common.{◌≡◌, ◌≢◌, ◌<◌, ℕ, ◌⊎◌, inl, inr, Bool, true, false, ◌||◌, ◌&&◌, All, List, [], ◌∷◌, ◌++◌, length, Option, Some, None, refl, sym, ap, subst, ◌∙◌, arith, append-nil, if◌then◌else◌}
 use Rattle.std.proofs.lemmas.Bool.{and_parts}
-use Rattle.std.specs.Option.{option_to_list, option_map_or}
+use Rattle.std.specs.Option.{option_to_list}
 use Rattle.std.specs.Prelude.{IfSome}
 use Rattle.vdcp_value.specs.Parts.{IsItem}
 use Rattle.vdcp_value.specs.declared.clip_id.ClipId.{ClipId}
@@ -23,7 +23,7 @@ use Rattle.vdcp_auto.specs.Log.{answer_to, is_counted}
 use Rattle.vdcp_auto.specs.Plan.{Plan}
 use Rattle.vdcp_auto.specs.Replies.{is_receipt, is_refusal}
 use Rattle.vdcp_auto.specs.Table.{command_in, on_reply, on_refusal}
-use Rattle.vdcp_auto.specs.Turn.{awaited, awaited_in, given, given_in, ticked, tick_in, phase_to_send, take_after_sending, came_to, exchange_of, ended_in, is_end, on_answer, on_unanswered, transition_of, stage_after, settled_after, state_after, unanswered_after}
+use Rattle.vdcp_auto.specs.Turn.{awaited, awaited_in, given, given_in, ticked, tick_in, phase_to_send, take_after_sending, came_to, is_end, on_answer, on_unanswered, transition_of, stage_after, settled_after, state_after, unanswered_after}
 use Rattle.vdcp_auto.specs.declared.exchange.Exchange.{Exchange}
 use Rattle.vdcp_auto.specs.declared.exchange.Heard.{Heard}
 use Rattle.vdcp_auto.specs.declared.exchange.Heard.TheVariants as heard
@@ -40,7 +40,7 @@ use Rattle.vdcp_world.specs.declared.event.Event.{Event}
 use Rattle.vdcp_world.specs.declared.event.Event.TheVariants as event
 use Rattle.vdcp_world.specs.Below.{Below}
 use Rattle.vdcp_world.proofs.Beginnings.{is_beginning_of}
-use Rattle.vdcp_world.proofs.Exchanges.{turn_by, tick_place, fits_asked, either, no_receipt, no_refusal, on_refused, on_replied, gives_some, turn_same}
+use Rattle.vdcp_world.proofs.Exchanges.{came_cases, turn_by, tick_place, fits_asked, either, no_receipt, no_refusal, on_refused, on_replied, gives_some, turn_same}
 use Rattle.vdcp_world.proofs.OnTheWay.{ReadsNothing, ReadsCommand, IsQuiet, Way}
 use Rattle.vdcp_world.proofs.PhaseTable.{PlaysLast, PlaceAt, FirmIn, FirmTells, Tells, is_asked, port_after, aired_after, answer_after}
 use Rattle.vdcp_world.proofs.Reached.{make_messages}
@@ -226,67 +226,31 @@ came_claim : (m : Make) (S : Claim) (T : Telling) → ClosedFor m S T → (p : P
     (state : State) (came : Option Heard) → S state.take p aired state.settled state.stage
     → ToldOf m.plan.mode T p aired state.stage came
     → S (came_to m.plan came state).take p aired (came_to m.plan came state).settled (came_to m.plan came state).stage
-came_claim m S T closed p aired state came h told = by state.stage h told
+came_claim m S T closed p aired state came h told =
+    came_cases (λ (s : State) (log : List Exchange). S s.take p aired s.settled s.stage) m.plan state [] came h over
   where
-    After : State → Type 0
-    After s = S s.take p aired s.settled s.stage
-
-    ends : (q : Phase) (c : Command) → S state.take p aired state.settled (Awaiting q)
-        → ToldOf m.plan.mode T p aired (Awaiting q) came → command_in m.plan.list m.plan.port q ≡ Some c
-        → (b : Bool) → is_end m.plan.mode c came ≡ b
-        → After (option_map_or (λ e. ended_in m.plan (Awaiting q) e state)
-        (if b then Some (record { command = c; heard = came }) else None) state)
-    ends q c g t is false e = h
-    ends q c g t is true over =
-        let e : Exchange = record { command = c; heard = came } in
-        let counts = is_counted m.plan.mode e in
+    over : (q : Phase) (c : Command) → state.stage ≡ Awaiting q → command_in m.plan.list m.plan.port q ≡ Some c
+        → is_end m.plan.mode c came ≡ true
+        → Leads S state.take p aired state.settled (transition_of m.plan state q (record { command = c; heard = came }))
+    over q c at is e =
+        let counts = is_counted m.plan.mode (record { command = c; heard = came }) in
         subst (λ (turn : Transition). Leads S state.take p aired state.settled turn)
         (turn_same m.plan state.take state.tries state.unanswered counts q (answer_to c came))
         (turn_claim m.plan.mode m.plan.list m.plan.port m.plan.limit m.clips S T closed state.take p aired state.settled
-        state.tries state.unanswered counts q c came is over g t)
-
-    awaits : (q : Phase) → S state.take p aired state.settled (Awaiting q)
-        → ToldOf m.plan.mode T p aired (Awaiting q) came → (o : Option Command)
-        → command_in m.plan.list m.plan.port q ≡ o
-        → After (option_map_or (λ e. ended_in m.plan (Awaiting q) e state) (exchange_of m.plan.mode came o) state)
-    awaits q g t None is = h
-    awaits q g t (Some c) is = ends q c g t is (is_end m.plan.mode c came) refl
-
-    by : (stage : Stage) → S state.take p aired state.settled stage → ToldOf m.plan.mode T p aired stage came
-        → After (option_map_or (λ e. ended_in m.plan stage e state)
-        (exchange_of m.plan.mode came (awaited_in m.plan stage)) state)
-    by (Awaiting q) g t = awaits q g t (command_in m.plan.list m.plan.port q) refl
-    by _ g t = h
+        state.tries state.unanswered counts q c came is e (subst (S state.take p aired state.settled) at h)
+        (subst (λ (stage : Stage). ToldOf m.plan.mode T p aired stage came) at told))
 
 came_told : (plan : Plan) (T : Telling) (p : PortState) (aired : List Item) (state : State) (came h : Option Heard)
     → ToldOf plan.mode T p aired state.stage h → ToldOf plan.mode T p aired (came_to plan came state).stage h
-came_told plan T p aired state came h told = by state.stage
+came_told plan T p aired state came h told =
+    came_cases (λ (s : State) (log : List Exchange). ToldOf plan.mode T p aired s.stage h) plan state [] came told
+    (λ q c at is e. turns (transition_of plan state q (record { command = c; heard = came }))
+    (unanswered_after plan.mode (record { command = c; heard = came }) state.unanswered))
   where
-    After : State → Type 0
-    After s = ToldOf plan.mode T p aired s.stage h
-
-    turns : (transition : Transition) (n : ℕ) → After (state_after transition n state)
+    turns : (transition : Transition) (n : ℕ)
+        → ToldOf plan.mode T p aired (state_after transition n state).stage h
     turns (Goes q) n = tt
     turns _ n = tt
-
-    ends : (q : Phase) (c : Command) (b : Bool)
-        → After (option_map_or (λ e. ended_in plan (Awaiting q) e state)
-        (if b then Some (record { command = c; heard = came }) else None) state)
-    ends q c false = told
-    ends q c true =
-        let e : Exchange = record { command = c; heard = came } in
-        turns (transition_of plan state q e) (unanswered_after plan.mode e state.unanswered)
-
-    awaits : (q : Phase) (o : Option Command) → After (option_map_or (λ e. ended_in plan (Awaiting q) e state)
-        (exchange_of plan.mode came o) state)
-    awaits q None = told
-    awaits q (Some c) = ends q c (is_end plan.mode c came)
-
-    by : (stage : Stage)
-        → After (option_map_or (λ e. ended_in plan stage e state) (exchange_of plan.mode came (awaited_in plan stage))
-        state)
-    by (Awaiting q) = awaits q (command_in plan.list plan.port q)
-    by _ = told
 
 -- ---- a tick
 

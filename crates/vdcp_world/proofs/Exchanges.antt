@@ -1,6 +1,6 @@
 -- A tick and the end of an exchange, in the phase table.
-use Rattle.std.proofs.Common.{◌≡◌, ℕ, ◌+◌, ◌≤◌, ◌⊎◌, inl, inr, Bool, true, false, ◌||◌, ◌&&◌, not, List, length, take, Option, Some, None, refl, ap, sym, arith, ◌∙◌, length-take, ◌<◌}
-use Rattle.std.specs.Option.{option_map}
+use Rattle.std.proofs.Common.{◌≡◌, ℕ, ◌+◌, ◌≤◌, ◌++◌, ◌⊎◌, inl, inr, Bool, true, false, ◌||◌, ◌&&◌, not, List, [], ◌∷◌, length, take, Option, Some, None, refl, ap, sym, arith, ◌∙◌, length-take, ◌<◌}
+use Rattle.std.specs.Option.{option_map, option_map_or}
 use Rattle.std.specs.Prelude.{slice_get, if◌then◌else◌, get_or}
 use Rattle.std.proofs.lemmas.Option.{slice_get_cases}
 use Rattle.vdcp_value.specs.declared.clip_id.ClipId.{ClipId}
@@ -14,12 +14,16 @@ use Rattle.vdcp_port.specs.Port.{PortState, Cued}
 use Rattle.vdcp_auto.specs.Commands.{cue_for, cue_of, is_presence, is_sense, fits}
 use Rattle.vdcp_auto.specs.Replies.{is_ack, is_empty, is_receipt, is_refusal}
 use Rattle.vdcp_auto.specs.Table.{command_in, on_reply, on_refusal}
-use Rattle.vdcp_auto.specs.Turn.{is_end, on_answer, on_unanswered, stage_after, settled_after, phase_to_send, transition_on}
+use Rattle.vdcp_auto.specs.Turn.{awaited_in, came_to, ended_by, ended_in, exchange_of, is_end, on_answer, on_unanswered, stage_after, settled_after, phase_to_send, transition_on}
 use Rattle.vdcp_auto.specs.declared.phase.Mode.{Mode}
 use Rattle.vdcp_auto.specs.declared.phase.Mode.TheVariants.{Plain, Confirming}
 use Rattle.vdcp_auto.specs.declared.phase.Phase.{Phase}
 use Rattle.vdcp_auto.specs.declared.phase.Transition.{Transition}
+use Rattle.vdcp_auto.specs.Course.{logged}
+use Rattle.vdcp_auto.specs.declared.exchange.Exchange.{Exchange}
+use Rattle.vdcp_auto.specs.declared.exchange.Heard.{Heard}
 use Rattle.vdcp_auto.specs.declared.exchange.Heard.TheVariants as heard
+use Rattle.vdcp_auto.specs.State.{Stage, Awaiting, State}
 use Rattle.vdcp_auto.specs.declared.phase.Phase.TheVariants as phase
 use Rattle.vdcp_world.proofs.PhaseTable.{Near, Place, PlaceReady, PlaceAt, Tells, Firm, FirmAt, FirmTells, is_asked}
 use Rattle.vdcp_auto.specs.Plan.{Plan}
@@ -189,3 +193,31 @@ pub turn_same : (plan : Plan) (take : Bool) (tries unanswered : ℕ) (counts : B
     ≡ transition_on plan take tries unanswered counts q o
 turn_same plan take tries unanswered counts q None = refl
 turn_same plan take tries unanswered counts q (Some r) = refl
+
+-- what came, or silence, ends the exchange that was awaited, or leaves all as it was
+pub came_cases : (P : State → List Exchange → Type 0) (plan : Plan) (state : State) (log : List Exchange)
+    (came : Option Heard) → P state log
+    → ((q : Phase) (c : Command) → state.stage ≡ Awaiting q → command_in plan.list plan.port q ≡ Some c
+    → is_end plan.mode c came ≡ true
+    → P (ended_in plan (Awaiting q) (record { command = c; heard = came }) state)
+    (log ++ record { command = c; heard = came } ∷ []))
+    → P (came_to plan came state) (logged log (ended_by plan came state))
+came_cases P plan state log came same over = by state.stage refl
+  where
+    After : Stage → Option Exchange → Type 0
+    After stage o = P (option_map_or (λ e. ended_in plan stage e state) o state) (logged log o)
+
+    ends : (q : Phase) (c : Command) → state.stage ≡ Awaiting q → command_in plan.list plan.port q ≡ Some c
+        → (b : Bool) → is_end plan.mode c came ≡ b
+        → After (Awaiting q) (if b then Some (record { command = c; heard = came }) else None)
+    ends q c at is true e = over q c at is e
+    ends q c at is false e = same
+
+    awaits : (q : Phase) → state.stage ≡ Awaiting q → (o : Option Command) → command_in plan.list plan.port q ≡ o
+        → After (Awaiting q) (exchange_of plan.mode came o)
+    awaits q at None is = same
+    awaits q at (Some c) is = ends q c at is (is_end plan.mode c came) refl
+
+    by : (stage : Stage) → state.stage ≡ stage → After stage (exchange_of plan.mode came (awaited_in plan stage))
+    by (Awaiting q) at = awaits q at (command_in plan.list plan.port q) refl
+    by _ at = same

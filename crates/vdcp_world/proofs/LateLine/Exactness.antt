@@ -2,7 +2,6 @@
 use Rattle.std.proofs.Common.{◌≡◌, ℕ, ◌+◌, ◌⊎◌, inl, inr, Bool, true, false, not, ◌||◌, ◌&&◌, if◌then◌else◌, List, [], ◌∷◌, ◌++◌, Option, Some, None, refl, arith, sym, ap, subst, ◌∙◌, take}
 use Rattle.std.proofs.lemmas.Bool.{or_parts}
 use Rattle.std.specs.List.{list_any}
-use Rattle.std.specs.Option.{option_map_or}
 use Rattle.vdcp_value.specs.declared.part.Item.{Item}
 use Rattle.vdcp_words.specs.declared.command.Command.{Command}
 use Rattle.vdcp_words.specs.declared.reply.Reply.{Reply}
@@ -15,7 +14,7 @@ use Rattle.vdcp_auto.specs.Replies.{is_ack}
 use Rattle.vdcp_auto.specs.Settled.{may_have_aired, settled, settles}
 use Rattle.vdcp_auto.specs.State.{Stage, State, Ready, Awaiting, Ended}
 use Rattle.vdcp_auto.specs.Table.{command_in}
-use Rattle.vdcp_auto.specs.Turn.{awaited_in, came_to, ended_by, ended_in, exchange_of, is_end, state_after, transition_of, unanswered_after}
+use Rattle.vdcp_auto.specs.Turn.{awaited_in, came_to, ended_by, exchange_of, state_after, transition_of, unanswered_after}
 use Rattle.vdcp_auto.specs.declared.exchange.Exchange.{Exchange}
 use Rattle.vdcp_auto.specs.declared.exchange.Heard.{Heard}
 use Rattle.vdcp_auto.specs.declared.phase.Mode.{Mode}
@@ -24,6 +23,7 @@ use Rattle.vdcp_auto.specs.declared.phase.Phase.{Phase}
 use Rattle.vdcp_auto.specs.declared.phase.Phase.TheVariants as phase
 use Rattle.vdcp_auto.specs.declared.phase.Transition.{Transition}
 use Rattle.vdcp_auto.specs.declared.phase.Transition.TheVariants.{Settles}
+use Rattle.vdcp_world.proofs.Exchanges.{came_cases}
 use Rattle.vdcp_world.proofs.LateLine.ConfirmedPlaces.{none_sent}
 use Rattle.vdcp_world.proofs.LateLine.Delivering.{airs_none, at_same, none_same, no_more}
 use Rattle.vdcp_world.proofs.LateLine.DeliveringPlay.{airs_nothing}
@@ -213,15 +213,15 @@ pub came_may : AiringGrows → SettledGrows
     → may_in plan (came_to plan came state) (logged log (ended_by plan came state)) ≡ false
     → (is_exact_at (came_to plan came state).stage ≡ true)
     ⊎ ((may_in plan state log ≡ false) × ((came_to plan came state).settled ≡ state.settled))
-came_may airs counts plan state log came before = by state.stage refl
+came_may airs counts plan state log came before =
+    came_cases After plan state log came (λ after none. inr (none, refl))
+    (λ q c at is e. ended q c at is (transition_of plan state q (record { command = c; heard = came }))
+    (unanswered_after plan.mode (record { command = c; heard = came }) state.unanswered))
   where
     After : State → List Exchange → Type 0
     After now more =
         now.settled ≡ settled plan.mode more → may_in plan now more ≡ false
         → (is_exact_at now.stage ≡ true) ⊎ ((may_in plan state log ≡ false) × (now.settled ≡ state.settled))
-
-    same : After state log
-    same = λ after none. inr (none, refl)
 
     still : (q : Phase) (c : Command) → state.stage ≡ Awaiting q → command_in plan.list plan.port q ≡ Some c
         → settled plan.mode (log ++ record { command = c; heard = came } ∷ []) ≡ settled plan.mode log
@@ -240,26 +240,3 @@ came_may airs counts plan state log came before = by state.stage refl
         → After (state_after t unanswered state) (log ++ record { command = c; heard = came } ∷ [])
     ended q c at is (Settles k) unanswered = λ after none. inl refl
     ended q c at is _ unanswered = λ after none. inr (still q c at is (sym after ∙ before) none, refl)
-
-    ends : (q : Phase) (c : Command) → state.stage ≡ Awaiting q → command_in plan.list plan.port q ≡ Some c
-        → (b : Bool)
-        → After (option_map_or (λ e. ended_in plan (Awaiting q) e state)
-        (if b then Some (record { command = c; heard = came }) else None) state)
-        (logged log (if b then Some (record { command = c; heard = came }) else None))
-    ends q c at is true =
-        ended q c at is (transition_of plan state q (record { command = c; heard = came }))
-        (unanswered_after plan.mode (record { command = c; heard = came }) state.unanswered)
-    ends q c at is false = same
-
-    awaits : (q : Phase) → state.stage ≡ Awaiting q → (o : Option Command) → command_in plan.list plan.port q ≡ o
-        → After (option_map_or (λ e. ended_in plan (Awaiting q) e state) (exchange_of plan.mode came o) state)
-        (logged log (exchange_of plan.mode came o))
-    awaits q at None is = same
-    awaits q at (Some c) is = ends q c at is (is_end plan.mode c came)
-
-    by : (stage : Stage) → state.stage ≡ stage
-        → After (option_map_or (λ e. ended_in plan stage e state) (exchange_of plan.mode came (awaited_in plan stage))
-        state)
-        (logged log (exchange_of plan.mode came (awaited_in plan stage)))
-    by (Awaiting q) at = awaits q at (command_in plan.list plan.port q) refl
-    by _ at = same

@@ -2,7 +2,6 @@
 -- events are settled. And that every event keeps it, if it keeps the places of the mode.
 use Rattle.std.proofs.Common.{ℕ, ◌+◌, ◌≡◌, Bool, true, false, not, ◌&&◌, List, [], ◌∷◌, ◌++◌, length, Option, Some, None, refl, sym, ap, subst, if◌then◌else◌, inl, inr, ◌||◌}
 use Rattle.std.specs.List.{list_any}
-use Rattle.std.specs.Option.{option_map_or}
 use Rattle.std.specs.Prelude.{nat_le}
 use Rattle.vdcp_value.specs.declared.clip_id.ClipId.{ClipId}
 use Rattle.vdcp_value.specs.declared.part.Item.{Item}
@@ -14,7 +13,8 @@ use Rattle.vdcp_auto.specs.Log.{answer_to, is_counted}
 use Rattle.vdcp_auto.specs.Plan.{Plan}
 use Rattle.vdcp_auto.specs.State.{Stage, Ready, Awaiting, Ended, State}
 use Rattle.vdcp_auto.specs.Table.{command_in, on_no_answer}
-use Rattle.vdcp_auto.specs.Turn.{awaited_in, came_to, ended_in, exchange_of, is_end, on_unanswered, phase_to_send, settled_after, stage_after, transition_on}
+use Rattle.vdcp_auto.specs.Turn.{came_to, ended_in, is_end, on_unanswered, phase_to_send, settled_after, stage_after, transition_on}
+use Rattle.vdcp_auto.specs.declared.exchange.Exchange.{Exchange}
 use Rattle.vdcp_auto.specs.declared.exchange.Heard.{Heard}
 use Rattle.vdcp_auto.specs.declared.exchange.Heard.TheVariants as heard
 use Rattle.vdcp_auto.specs.declared.outcome.Outcome.TheVariants as outcome
@@ -25,6 +25,7 @@ use Rattle.vdcp_auto.specs.declared.phase.Phase.TheVariants as phase
 use Rattle.vdcp_auto.specs.declared.phase.Transition.{Transition}
 use Rattle.vdcp_auto.specs.declared.phase.Transition.TheVariants.{Ends}
 use Rattle.vdcp_world.specs.LateLine.Pipe.{IsPipe}
+use Rattle.vdcp_world.proofs.Exchanges.{came_cases}
 use Rattle.vdcp_world.proofs.LateLine.Claims.{Closed, Comes, Covers}
 use Rattle.vdcp_world.proofs.LateLine.Delivering.{none_pushed}
 use Rattle.vdcp_world.proofs.LateLine.Endings.{EndedAt, Misses, ended_either, ended_reads, ended_settles, settled_at, ended_lessens}
@@ -196,37 +197,27 @@ module _ (mode : Mode) (Spot : Spots) (Calm : Calms) where
         → Comes mode ups came → Holds list clips state.settled s a aired ups downs state.stage
         → Holds list clips (came_to (plan_of list port limit) came state).settled s a aired ups downs
         (came_to (plan_of list port limit) came state).stage
-    came_held list clips port limit s a aired ups downs state came comes h = by state.stage h
+    came_held list clips port limit s a aired ups downs state came comes h =
+        came_cases (λ (t : State) (log : List Exchange). Holds list clips t.settled s a aired ups downs t.stage)
+        (plan_of list port limit) state [] came h over
       where
-        After : State → Type 0
-        After t = Holds list clips t.settled s a aired ups downs t.stage
-
-        ends : (q : Phase) → Holds list clips state.settled s a aired ups downs (Awaiting q) → (c : Command)
-            → command_in list port q ≡ Some c → (b : Bool) → is_end mode c came ≡ b
-            → After (option_map_or (λ e. ended_in (plan_of list port limit) (Awaiting q) e state)
-            (if b then Some (record { command = c; heard = came }) else None) state)
-        ends q g c is false e = h
-        ends q g c is true e = record {
-          place =
-              led list clips port limit s a aired ups downs state
-              (is_counted mode (record { command = c; heard = came })) q c
-              came is e comes g;
-          fit = g.fit;
-          true_told = g.true_told;
-        }
-
-        awaits : (q : Phase) → Holds list clips state.settled s a aired ups downs (Awaiting q) → (o : Option Command)
-            → command_in list port q ≡ o
-            → After (option_map_or (λ e. ended_in (plan_of list port limit) (Awaiting q) e state)
-            (exchange_of mode came o) state)
-        awaits q g None is = h
-        awaits q g (Some c) is = ends q g c is (is_end mode c came) refl
-
-        by : (stage : Stage) → Holds list clips state.settled s a aired ups downs stage
-            → After (option_map_or (λ e. ended_in (plan_of list port limit) stage e state)
-            (exchange_of mode came (awaited_in (plan_of list port limit) stage)) state)
-        by (Awaiting q) g = awaits q g (command_in list port q) refl
-        by _ g = h
+        over : (q : Phase) (c : Command) → state.stage ≡ Awaiting q → command_in list port q ≡ Some c
+            → is_end mode c came ≡ true
+            → (let turned = ended_in (plan_of list port limit) (Awaiting q) (record { command = c; heard = came }) state
+            in
+            Holds list clips turned.settled s a aired ups downs turned.stage)
+        over q c at is e =
+            let g : Holds list clips state.settled s a aired ups downs (Awaiting q) =
+            subst (Holds list clips state.settled s a aired ups downs) at h
+            in
+            record {
+              place =
+                  led list clips port limit s a aired ups downs state
+                  (is_counted mode (record { command = c; heard = came })) q c
+                  came is e comes g;
+              fit = g.fit;
+              true_told = g.true_told;
+            }
 
     module _ (list : List Item) (clips : List (ClipId × Timecode)) (settled : ℕ) (s : Bool) (a : Cued)
         (aired : List Item) (ups : List Answer) where
@@ -352,8 +343,8 @@ module _ (mode : Mode) (Spot : Spots) (Calm : Calms) where
           h.place;
     }
 
-    pub covers : Covers mode Holds
-    covers = record {
+    pub covered : Covers mode Holds
+    covered = record {
       closed = closed;
       begins = λ list clips s a ups downs none fit told pipe. record {
         place = (tended.begins list s a ups downs none, pipe);

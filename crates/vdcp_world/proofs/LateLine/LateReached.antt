@@ -19,7 +19,7 @@ use Rattle.vdcp_world.proofs.LateLine.LateController.{controller_event}
 use Rattle.vdcp_world.proofs.LateLine.Started.{Downs, Ups, answered_up, asked_down}
 use Rattle.vdcp_world.proofs.LateLine.PlainCovers.{plain_tended}
 use Rattle.vdcp_world.proofs.LateLine.ConfirmedCovers.{confirming_tended}
-use Rattle.vdcp_world.proofs.LateLine.Held.{Holds, covers}
+use Rattle.vdcp_world.proofs.LateLine.Held.{Holds, covered}
 use Rattle.vdcp_world.proofs.LateLine.ConfirmedPlaces.{Secured, Spot}
 use Rattle.vdcp_world.proofs.LateLine.Places.{Place, Safe}
 
@@ -89,6 +89,6 @@ reached_airs below c r = by r.plan.mode refl
         (begun r.can_start.some r.can_start.few) (kept_new mode S covers r.plan r.port r.down r.up is r.can_start)))
 
     by : (mode : Mode) → r.plan.mode ≡ mode → AirsIn c
-    by Plain is = of Plain (Holds Plain Place Safe) (covers Plain Place Safe plain_tended) is
+    by Plain is = of Plain (Holds Plain Place Safe) (covered Plain Place Safe plain_tended) is
     by Confirming is =
-        of Confirming (Holds Confirming Spot Secured) (covers Confirming Spot Secured confirming_tended) is
+        of Confirming (Holds Confirming Spot Secured) (covered Confirming Spot Secured confirming_tended) is
