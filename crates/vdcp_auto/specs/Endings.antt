@@ -1,4 +1,4 @@
--- What the log says where a controller has ended Lost or, in confirm mode, Refused.
+-- What the log says if a controller has ended Lost or, in confirm mode, Refused.
 use Rattle.std.specs.Prelude.{◌≡◌, ◌≢◌, ℕ, ◌-◌, ◌≤◌, false, List, [], ◌∷◌, ◌++◌, length, drop, filter, count_by}
 use Rattle.std.specs.List.{list_any}
 use Rattle.vdcp_value.specs.declared.part.Item.{Item}

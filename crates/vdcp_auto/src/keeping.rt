@@ -1,4 +1,4 @@
-//! Whole logs: the first command that is forbidden.
+//! The first forbidden command of a whole log.
 ghost use Rattle.std.specs.Prelude.{[], IfNone, IfSome, IsSomeAnd, slice_get, take};
 ghost use Rattle.vdcp_auto.specs.RuleBook.{KeepsRules, May};
 ghost use Rattle.vdcp_auto.specs.Judging.{Knows};

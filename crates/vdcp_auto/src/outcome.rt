@@ -1,3 +1,5 @@
+//! How controllers end.
+
 /// How a controller ended. Events are numbered from 0.
 #[derive(Clone, Copy, Debug, PartialEq, Eq)]
 pub enum Outcome {

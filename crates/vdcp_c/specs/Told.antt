@@ -1,4 +1,4 @@
--- What codes and a message's struct tell.
+-- What a code and a message's struct stand for.
 use Rattle.std.specs.Prelude.{ℤ, pos, ◌≡◌, ◌<◌, length, take}
 use Rattle.vdcp_frame.specs.declared.message.Fault.{Fault}
 use Rattle.vdcp_frame.specs.declared.message.Fault.TheVariants.{BadStart, BadCount, BadSum, Long}

@@ -1,4 +1,4 @@
-//! The caller's room.
+//! Bytes put into room that the caller lends.
 ghost use Rattle.std.specs.Prelude.{◌≤◌, length};
 ghost use Rattle.vdcp_c.specs.Rooms.{Fits, IsPut};
 

@@ -1,4 +1,4 @@
-//! An operator has a hand in a run.
+//! A run in which an operator has a hand.
 ghost use Rattle.std.specs.Prelude.{◌≡◌, ◌≢◌, ◌↔◌, IfErr, IfOk, IsFalse, IsSome, IsTrue, OnErr, OnOk, Err, None, Ok, Option, Some};
 ghost use Rattle.vdcp_auto.specs.Plan.{plan_of};
 ghost use Rattle.vdcp_auto.specs.Turn as turns;

@@ -1,4 +1,4 @@
--- What a head of the code says of some bytes.
+-- What the code's `Head` says of some bytes.
 use Rattle.std.specs.Prelude.{ℕ, List}
 use Rattle.vdcp_frame.specs.declared.head.Head.{Head}
 use Rattle.vdcp_frame.specs.declared.head.Head.TheVariants as head

@@ -1,3 +1,5 @@
+//! Messages, and what can be wrong with a burst of them.
+
 /// A message of VDCP's unextended form.
 #[derive(Clone, Copy, Debug, PartialEq, Eq)]
 pub enum Message<'a> {

@@ -1,4 +1,4 @@
--- Where a PLAY goes out, the state that was heard before it may have been any with the cue done and nothing playing.
+-- If a PLAY goes out, the state that was heard before it may have been any with the cue done and nothing playing.
 use Rattle.std.proofs.Common.{◌≡◌, ℕ, ◌+◌, Bool, true, false, not, ◌||◌, ◌&&◌, Option, None, Some, refl, sym, ap, ◌∙◌, length}
 use Rattle.std.specs.Option.{option_map}
 use Rattle.std.specs.Prelude.{if◌then◌else◌, nat_lt}

@@ -1,4 +1,4 @@
--- A journal's text, its rows, and what is left of it where it is cut short.
+-- A journal's text, its rows, and what is left of it if it is cut short.
 use Rattle.csv.specs.Reading.{strip_bom}
 use Rattle.csv.specs.Writing.{default_writer, escaped, fields_text as more_text, field_text, needs_quotes}
 use Rattle.std.proofs.Common.{◌≡◌, ℕ, zero, suc, Bool, true, false, List, [], ◌∷◌, ◌++◌, map, take, refl, ap, ◌∙◌, arith}

@@ -1,4 +1,4 @@
--- What is seen of a moment.
+-- A journal's time, as callers see it.
 use Rattle.std.specs.Prelude.{ℕ, List, [], Option, None, Some}
 use Rattle.vdcp_journal.specs.declared.moment.Moment.{Moment}
 

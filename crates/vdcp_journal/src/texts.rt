@@ -1,4 +1,4 @@
-//! What the fields of a row name.
+//! How the fields of a row are read.
 ghost use Rattle.hex.specs.Hex.{encode_lower};
 ghost use Rattle.std.specs.Prelude.{◌≡◌, ◌<◌, ◌≤◌, ◌^◌, ◌∷◌, [], ℕ, All, List, IfSome, Some, codes, decimal, length, option_copied, option_map};
 ghost use Rattle.vdcp_auto.specs.declared.outcome.Outcome.{Outcome};

@@ -1,4 +1,4 @@
--- A PLAY that what was heard last announces, and that may have gone out without its row.
+-- The PLAY that the state heard last announces, and that may have gone out without its row.
 use Rattle.std.proofs.Common.{◌≡◌, ℕ, All, Bool, true, false, List, [], ◌∷◌, ◌++◌, Option, None, Some, append-nil, append_assoc, refl, sym, ap, ap₂, length, subst, ◌∙◌, true≢false}
 use Rattle.std.specs.Option.{option_map, option_to_list}
 use Rattle.std.specs.Prelude.{IsSome, IsTrue, if◌then◌else◌, is_some, not, ◌&&◌, remove}

@@ -1,4 +1,4 @@
--- What a driver's wire has sent by any act of it are the automation's commands by then.
+-- By each act of its wire a driver has sent its automation's commands until then.
 use Rattle.std.proofs.Common.{ℕ, ◌≡◌, false, List, [], ◌∷◌, ◌++◌, map, refl, sym, ap, ap₂, subst, ◌∙◌, append_assoc, append-nil, arith, length}
 use Rattle.std.proofs.lemmas.Grind.{flat_map-append}
 use Rattle.std.specs.Option.{option_to_list}

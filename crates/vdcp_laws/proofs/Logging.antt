@@ -1,4 +1,4 @@
--- The log that a journal shows is the automation's, where the command that stands last was timed out.
+-- The log that a journal shows is the automation's, if the command that stands last was timed out.
 use Rattle.std.proofs.Common.{ℕ, ◌≡◌, Bool, List, [], ◌∷◌, ◌++◌, map, refl, sym, ap, ap₂, subst, ◌∙◌, append_assoc, append-nil, arith}
 use Rattle.std.proofs.lemmas.Grind.{common_steps}
 use Rattle.std.specs.Option.{option_map_or}

@@ -1,4 +1,4 @@
--- An automation, one exchange after another, is what a driver is that hears at once.
+-- An automation, exchange by exchange, is the driver that hears at once.
 use Rattle.std.proofs.Common.{ℕ, ◌≡◌, List, [], ◌∷◌, ◌++◌, map, refl, sym, ap, ap₂, ◌∙◌, append_assoc, append-nil}
 use Rattle.std.specs.Option.{option_to_list}
 use Rattle.std.specs.Prelude.{Option, None, Some}

@@ -1,3 +1,5 @@
+//! The two ways to hear a line: at silences, or at once.
+
 /// When what comes is heard.
 #[derive(Clone, Copy, Debug, PartialEq, Eq)]
 pub enum Hearing {

@@ -1,4 +1,4 @@
--- What the page of a run is told.
+-- What the page of a run shows.
 use Rattle.std.specs.Prelude.{ℕ, ◌≡◌, ◌+◌, ◌*◌, ◌-◌, ◌/◌, ◌^◌, min, List, codes, map, Option, None, Some, if◌then◌else◌}
 use Rattle.serde_json.specs.Data.{Data, array, boolean, member, no_members, null, number, object, string, unsigned}
 use Rattle.serde_json.specs.View.{items_of}

@@ -1,4 +1,4 @@
-//! What the page of a run is told.
+//! What the page of a run shows.
 ghost use Rattle.std.specs.Prelude.{◌≡◌, IfOk, map};
 ghost use Rattle.serde_json.specs.Data.{array, boolean, string};
 ghost use Rattle.serde_json.specs.View.{items_of, view};

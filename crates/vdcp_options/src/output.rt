@@ -1,4 +1,4 @@
-//! Where what is told of a line goes: standard error, or a capture's file.
+//! Where a log or a capture goes: standard error, or a capture's file.
 ghost use Rattle.std.specs.Prelude.{◌≤◌, IfOk, length};
 
 use crate::system::System;

@@ -1,4 +1,4 @@
--- Who may ask, what a request is shown, and which call it asks for.
+-- Which requests are let in, what a request is shown, and which call it asks for.
 use Rattle.std.specs.Prelude.{ℕ, Bool, true, false, ◌&&◌, ◌||◌, List, codes, decimal, Option, None, Some, bytes_eq, if◌then◌else◌}
 use Rattle.http.specs.FieldValue.{FieldValue}
 use Rattle.http.specs.HeaderMap.{get}

@@ -1,4 +1,4 @@
--- What is told of a panel that was opened.
+-- The line printed of a panel that was opened.
 use Rattle.std.specs.Prelude.{ℕ, Bool, List, ◌++◌, codes, if◌then◌else◌, string_bytes}
 use Rattle.vdcp_panel.specs.declared.panel.Names.{Names}
 

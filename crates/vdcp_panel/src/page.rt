@@ -1,4 +1,4 @@
-//! What all pages have.
+//! Style and script that all pages share.
 
 /// A page of this title, with its own styles, body and script after those of every page.
 #[macro_export]

@@ -1,4 +1,4 @@
--- What a port holds stays playable, and its counts run where something is waited for.
+-- What a port holds stays playable, and its counts run if something is waited for.
 use Rattle.std.proofs.Common.{◌≡◌, ◌&&◌, Bool, true, false, nat_eq, nat_lt, arith, refl, List, subst}
 use Rattle.std.specs.Prelude.{Option, None, Some, IsTrue, if◌then◌else◌}
 use Rattle.vdcp_value.specs.declared.clip_id.ClipId.{ClipId}

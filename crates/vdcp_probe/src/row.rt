@@ -1,3 +1,5 @@
+//! Rows of the port's table, put as questions, and the steps that ask them.
+
 /// What it means for as-run lists if a row differs.
 #[derive(Clone, Copy, Debug, PartialEq, Eq)]
 pub enum Group {

@@ -1,4 +1,4 @@
-//! How a run ended, what is told of that, and its exit status.
+//! How a run ended, what is printed of that, and its exit status.
 ghost use Rattle.std.specs.Io.KnownBytes.{Appends};
 ghost use Rattle.std.specs.Prelude.{◌≡◌, ◌≢◌, IfOk, IsSome, None, OnOk};
 ghost use Rattle.vdcp_run.specs.Ends.{line_end_of};

@@ -1,4 +1,4 @@
--- What the page of a port is told.
+-- What the page of a port shows.
 use Rattle.std.specs.Prelude.{ℕ, ◌≡◌, List, codes, map, Option, None, Some, String, string_bytes}
 use Rattle.std.specs.declared.alloc.Global.{Global}
 use Rattle.serde_json.specs.Data.{Data, array, member, no_members, null, number, object, string, unsigned}

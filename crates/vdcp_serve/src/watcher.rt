@@ -1,4 +1,4 @@
-//! What is told of the port, and to whom.
+//! Reports of the port to the log and the page.
 use crate::panel::PortPanel;
 use std::io;
 use std::net::SocketAddr;

@@ -1,3 +1,5 @@
+//! The choice of the calls that fail.
+
 /// Which calls fail. Calls are counted from 0.
 #[derive(Clone, Copy, Debug, PartialEq, Eq)]
 pub enum Fails {

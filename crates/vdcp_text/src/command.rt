@@ -1,4 +1,4 @@
-//! A command of its text.
+//! A command, read from its text.
 ghost use Rattle.std.specs.Prelude.{◌≡◌, ◌∷◌, ◌++◌, ℕ, IfSome, IsSomeAnd, List, Some, length};
 ghost use Rattle.vdcp_words.specs.Commands.{IsWritableCommand};
 ghost use Rattle.vdcp_words.specs.Texts.{command_text};

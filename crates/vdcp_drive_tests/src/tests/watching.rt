@@ -1,4 +1,4 @@
-//! Who watches a driver: the controller in each listen, and each item that goes to air.
+//! Observers of a driver: the controller in each listen, and each item that goes to air.
 use super::calls::{run_watched, serve_watched};
 use super::ends::{automation, server};
 use super::expecting::expect;

@@ -1,4 +1,4 @@
-//! What `judge` is told of a capture.
+//! The settings of `judge`.
 use vdcp_auto::Mode;
 use vdcp_value::Rate;
 

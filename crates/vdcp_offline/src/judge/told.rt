@@ -1,4 +1,4 @@
-//! What is told of the exchanges of a capture, one after another.
+//! What `judge` prints of the exchanges of a capture, one after another.
 ghost use Rattle.std.specs.Prelude.{◌≡◌, ◌+◌, ◌<◌, ◌^◌, ◌≤◌, ◌++◌, ◌∷◌, [], List, IfOk, OnOk, if◌then◌else◌, slice_get, string_bytes};
 ghost use Rattle.vdcp_offline.specs.Findings.{event_line, forbidden_line, is_forbidden, judged_text};
 ghost use Rattle.vdcp_offline.specs.Found.{AreMore, Tells};

@@ -1,4 +1,4 @@
--- A burst ends clean where nothing is held.
+-- A burst ends clean if nothing is held.
 use Rattle.std.proofs.Common.{ℕ, List, take, refl}
 use Rattle.vdcp_frame.specs.Progress.{reading}
 use Rattle.vdcp_c.proofs.Short.{clean_end, cut_end}

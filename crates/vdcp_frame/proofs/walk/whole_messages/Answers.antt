@@ -1,4 +1,4 @@
--- Where none is still to come, the bytes passed spell all messages.
+-- If none is still to come, the bytes passed spell all messages.
 use Rattle.std.proofs.Common.{◌≡◌, ℕ, List, take, subst, sym, ap, ◌∙◌}
 use Rattle.vdcp_frame.specs.Burst.{messages_of}
 use Rattle.vdcp_frame.specs.Reading.{SpellsAll}

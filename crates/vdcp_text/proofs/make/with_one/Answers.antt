@@ -1,4 +1,4 @@
--- Where the argument is no ID's text, no command that takes an ID has these words.
+-- If the argument is no ID's text, no command that takes an ID has these words.
 use Rattle.std.proofs.Common.{inl, inr, []}
 use Rattle.vdcp_text.proofs.MakeLemmas.{no_id}
 use Rattle.vdcp_text.proofs.make.with_one.Goals as goal

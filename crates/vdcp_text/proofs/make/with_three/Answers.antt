@@ -1,4 +1,4 @@
--- Where the first argument is no ID's text, no CUE WITH DATA has these words.
+-- If the first argument is no ID's text, no CUE WITH DATA has these words.
 use Rattle.std.proofs.Common.{inr, ◌∷◌, []}
 use Rattle.vdcp_text.proofs.MakeLemmas.{no_id}
 use Rattle.vdcp_text.proofs.make.with_three.Goals as goal

@@ -1,4 +1,4 @@
--- What the call of feed gives, where the piece is left after it.
+-- What the call of feed gives, and what it leaves of the piece.
 use Rattle.std.proofs.Common.{◌≡◌, ℕ, ◌-◌, List, ◌++◌, length, take, drop, refl, sym, subst}
 use Rattle.std.proofs.lemmas.List.{take_rest}
 use Rattle.vdcp_frame.specs.Reader.{Answer, answer_of, FollowsNext}
