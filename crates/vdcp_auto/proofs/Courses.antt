@@ -56,7 +56,7 @@ over_course plan (input.Heard h ∷ inputs) s over = if_not (is_some (awaited pl
 over_course plan (input.Silence ∷ inputs) s over = if_not (is_some (awaited plan (ticked s))) _ []
     (over_awaits plan s over)
 
--- Where something comes, or silence.
+-- If something comes, or silence.
 
 abbrev rest : Plan → Option Heard → List Input → State → List Exchange
 rest plan came inputs s = option_to_list (ended_by plan came s) ++ course_from plan (came_to plan came s) inputs

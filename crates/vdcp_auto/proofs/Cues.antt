@@ -108,7 +108,7 @@ play_stands m = record {
 true_is_false : {A : Type 0} → true ≡ false → A
 true_is_false e = absurd (let no_way : ⊥ = cc in no_way)
 
--- no cue stands where something has just settled
+-- no cue stands if something has just settled
 pub settled_cue : SettledGrows → (mode : Mode) (list : List Item) (log : List Exchange) (e : Exchange)
     → settles mode log e ≡ true → ¬ CueStands mode list (log ++ e ∷ [])
 settled_cue law mode list log e is s =
@@ -124,7 +124,7 @@ settled_cue law mode list log e is s =
       ))
     ]
 
--- a cue that was just sent stands where it is the next item's, and was taken
+-- if a cue that was just sent stands, it is the next item's, and was taken
 pub new_cue_from : SettledGrows → (mode : Mode) (list : List Item) (log : List Exchange) (e : Exchange)
     → is_cue e ≡ true → CueStands mode list (log ++ e ∷ [])
     → CuesItemAt list (settled mode log) e.command × IsTaken mode e

@@ -29,7 +29,7 @@ a_command = 0x02 ∷ 0x03 ∷ 0x30 ∷ 0x05 ∷ 0x01 ∷ 0xca ∷ []
 abbrev a_short_reply : List ℕ
 a_short_reply = 0x02 ∷ 0x02 ∷ 0x30 ∷ 0x85 ∷ 0x4b ∷ []
 
--- who asked this unit hears this in the burst, and it is a receipt or not
+-- an automation that asked this unit hears this in the burst, and it is a receipt or not
 record Row : Type 0 where
   unit : ℕ
   burst : List ℕ

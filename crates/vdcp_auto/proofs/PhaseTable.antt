@@ -104,7 +104,7 @@ presence = present ++ absent
 abbrev size : List (Option Heard)
 size = heard_reply (reply.Size (0x00 ∷ 0x00 ∷ 0x10 ∷ 0x00 ∷ [])) ∷ []
 
--- Where they lead, with a list of clip one and clip two and limit 3.
+-- Where the answers lead, with a list of clip one and clip two and limit 3.
 
 -- an answer is awaited in this phase
 abbrev in_phase : Phase → Bool → ℕ → ℕ → State
@@ -124,7 +124,7 @@ line_from s answers stage = record { state = s; answers = answers; stage = stage
 abbrev line : Phase → List (Option Heard) → Stage → Line
 line p = line_from (in_phase p false 0 0)
 
--- the same where a take is wished, and where the cue was lost once less than the limit
+-- the same if a take is wished, and if the cue was lost once less than the limit
 abbrev line_with_take : List (Option Heard) → Stage → Line
 line_with_take = line_from (in_phase (phase.Wait 0) true 0 0)
 

@@ -46,7 +46,7 @@ row_at limit row (Retries k) known below = (refl, below)
 row_at limit row (Ends Lost) known below = cc
 row_at limit row other known below = below
 
--- how many in a row, where the exchange counts or not, and is answered or not
+-- how many in a row, by whether the exchange counts, and whether it is answered
 abbrev counted_row : ℕ → Bool → Bool → ℕ
 counted_row row counts answered = if counts then (if answered then 0 else row + 1) else row
 

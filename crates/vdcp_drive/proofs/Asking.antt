@@ -286,7 +286,7 @@ abbrev commands_heard : ℕ → ℕ → List (Option Heard) → List Command
 commands_heard port limit hs =
     map (question_command port) (asked_from limit hs first_asking ++ asked_now (asking_from limit hs first_asking))
 
--- a question is asked next, where these commands went out
+-- a question is asked next, once these commands went out
 pub record Stands (commands : List Arrival → List Command) (unit limit listens left : ℕ) (q : Question) (n : ℕ) (u : Told) :
     Type 0 where
   pub asking_is : asking_by unit limit u.came ≡ Asks q n
@@ -461,7 +461,7 @@ asks_out unit port limit listens left left' q n h answer u told' less a (v, is, 
       },
     )
 
--- where the other end has closed, or no listen is left
+-- if the other end has closed, or no listen is left
 stops : (unit port limit listens left left' : ℕ) (q : Question) (n : ℕ) (answer : Vacancy) (u v : Told) → n < limit
     → AskedAt unit port limit listens left q n u → v.sent ≡ u.sent → v.drops ≡ u.drops
     → heard_of unit v.came ≡ heard_of unit u.came

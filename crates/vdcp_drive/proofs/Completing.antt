@@ -72,7 +72,7 @@ reads_unfinished law xs u =
 
 -- Bytes one after another.
 
--- bytes complete nothing and are held, where they finish no message
+-- bytes complete nothing and are held, if they finish no message
 record AreHeld (held xs : List ℕ) : Type 0 where
   none : completed (holds held) xs ≡ []
   all : held_after (holds held) xs ≡ holds (held ++ xs)
@@ -87,7 +87,7 @@ are_held law held (x ∷ xs) u =
       all = ap (λ (at : Held). held_after at xs) s.1 ∙ r.all ∙ ap holds (append_assoc held (x ∷ []) xs);
     }
 
--- where only the last byte may finish one, it decides
+-- if only the last byte may finish one, it decides
 record IsDecided (held xs : List ℕ) : Type 0 where
   gives : completed (holds held) xs ≡ messages_of (held ++ xs)
   leaves : held_after (holds held) xs ≡ held_with (held ++ xs) (messages_of (held ++ xs)) (end_of (held ++ xs))

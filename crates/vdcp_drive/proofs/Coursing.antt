@@ -48,7 +48,7 @@ course_one : (plan : Plan) (s : State) (h : Option Heard) (ins : List Input) →
 course_one plan s None ins = refl
 course_one plan s (Some x) ins = refl
 
--- where nothing is awaited after a tick, nothing happens any more
+-- if nothing is awaited after a tick, nothing happens any more
 record IsIdle (plan : Plan) (h : Option Heard) (s : State) : Type 0 where
   ends : ended_by plan h s ≡ None
   stays : came_to plan h s ≡ s
@@ -234,7 +234,7 @@ course_if law plan unit count a a' told told' (Ok x) h = λ s e is.
     )
 course_if law plan unit count a a' told told' (Err f) h = tt
 
--- The same where the wire failed.
+-- The same if the wire failed.
 
 left_so : (law : Below) (plan : Plan) (unit : ℕ) (a' : Auto Burst) (came since : List Arrival)
     → came ≡ since → All AreOctetsIn since → until_close since ≡ since

@@ -3,7 +3,7 @@ use Rattle.std.proofs.Common.{ℕ, ◌≡◌, List, [], ◌∷◌, ◌++◌, fal
 use Rattle.vdcp_drive.specs.Bursts.{ended_behind, open_behind}
 use Rattle.vdcp_wire.specs.Wires.{Arrival, bytes, silence, close, has_closed}
 
--- Where no close came yet.
+-- As long as no close came.
 
 pub ended_bytes : (s : List ℕ) (came : List Arrival) (piece : List ℕ) → has_closed came ≡ false
     → ended_behind s (came ++ bytes piece ∷ []) ≡ ended_behind s came

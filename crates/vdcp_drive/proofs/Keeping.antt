@@ -67,7 +67,7 @@ on_keep rules (keeps r ∷ xs) old new none h = (h.0.keep, h.1.0, on_keep rules 
 on_keep rules (misses c ∷ xs) old new none h = absurd none
 on_keep rules (x ∷ xs) old new none h = rw h.1.1 at (on_keep rules xs h.0 new none h.2)
 
--- where the wire failed after these were kept
+-- if the wire failed after these were kept
 device_keeps : {W K V : Type 0} (rules : Rules W K V) (steps more : List Step) (old new : World W K V)
     (answer : Result Ran KeptFault) → answer ≡ Err fault.Device → MissesNone steps → MissesNone more
     → Happens rules (steps ++ more) old new
@@ -75,7 +75,7 @@ device_keeps : {W K V : Type 0} (rules : Rules W K V) (steps more : List Step) (
 device_keeps rules steps more old new answer is none last h =
     rw is (on_keep rules (steps ++ more) old new (none_both steps more none last) h)
 
--- where the next one couldn't be kept
+-- if the next one couldn't be kept
 unkept_keeps : {W K V : Type 0} (rules : Rules W K V) (steps more : List Step) (c : Command) (old new : World W K V)
     (answer : Result Ran KeptFault) → answer ≡ Err fault.Unkept → more ≡ misses c ∷ [] → MissesNone steps
     → Happens rules (steps ++ more) old new

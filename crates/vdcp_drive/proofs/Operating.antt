@@ -19,7 +19,7 @@ use Rattle.vdcp_drive.specs.declared.operator.Call.{Call}
 use Rattle.vdcp_drive.specs.declared.operator.Call.TheVariants as call
 use Rattle.vdcp_drive.proofs.Chains.{chain_both}
 
--- after so many listens
+-- after this many listens
 pub record Stood {S E W K V O : Type 0} (parts : Parts S E W K V O) (made : ℕ) (old now : Scene S E W K V O) : Type 0 where
   pub said : List (Option Call)
   pub count : length said ≡ made
@@ -120,6 +120,6 @@ none_of (Some x) h = absurd (h refl)
 spent_ended : ran.Spent ≡ ran.Ended → ⊥
 spent_ended h = cc
 
--- where all listens were made the controller hasn't ended
+-- if all listens were made the controller hasn't ended
 pub spent_going : (o : Option Outcome) → ((ran.Spent ≡ ran.Ended) ↔ IsSome o) → o ≡ None
 spent_going o h = none_of o (λ x. spent_ended (h.1 x))

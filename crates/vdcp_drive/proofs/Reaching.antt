@@ -58,7 +58,7 @@ ended_by_run ran.Closed (Some o) count came to = let none = to.0 in cc
 ended_by_run ran.Spent None count came to = (λ is. cc, λ some. cc)
 ended_by_run ran.Spent (Some o) count came to = let none = to.0 in cc
 
--- where the wire failed
+-- if the wire failed
 failed_led : (plan : Plan) (state state' : State) (answer : Result Ran KeptFault) → answer ≡ Err fault.Device
     → IsReachedFrom plan state state' → Led plan state state' answer
 failed_led plan state state' answer is reached = rw is (record { reached = reached; ended_so = tt; unkept = λ other. cc })

@@ -199,7 +199,7 @@ round_heard {E} {W} {K} {V} rules fold plan unit a s₁ s₂ e₂ l w w₁ w₂ 
 
 -- One round more.
 
--- after so many rounds, which brought this
+-- after this many rounds, which brought this
 pub record Stands {E W K V : Type 0} (rules : Rules W K V) (fold : Fold E) (plan : Plan) (unit made : ℕ) (a a' : Auto E)
     (world world' : World W K V) : Type 0 where
   pub came : List Arrival

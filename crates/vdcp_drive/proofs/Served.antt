@@ -295,7 +295,7 @@ front_sent law q ms m others front rest parts =
           (ap (λ (l : List ℕ). sent_in out ++ l) (sym (append-nil front)) ∙ sym (sent_both out (sends front ∷ []))),
     )
 
--- where the wire failed
+-- if the wire failed
 cut_served : (law : Below) (p : ClockedPort) (before : List Arrival) (done some behind : List Act) (port : ClockedPort)
     (aired : Option Item) → IsOpen before → IsCutShort (stands_at p before) done port aired → done ≡ some ++ behind
     → SendsServed p before some
@@ -392,7 +392,7 @@ moments_served law p before (what ∷ later) done some behind o fits is end part
     (split (turn_acts s what) (acts_of t later ++ done) some behind
     (sym (append_assoc (turn_acts s what) (acts_of t later) done) ∙ parts))
 
--- The items that went to air, also where the wire failed.
+-- The items that went to air, also if the wire failed.
 
 pub record AirsServed (p : ClockedPort) (before : List Arrival) (all : List Act) (items : List Item) : Type 0 where
   pub rest : List Item

@@ -115,7 +115,7 @@ one_turn {W} {V} does sees made s port port' reader reader' aired' wire wire₁ 
           watch watch₁ watch₂ h.looked (watch₂, rw looks at seen, refl));
     }
 
--- Where they end.
+-- How the turns end.
 
 pub served_so : {W V : Type 0} (does : Act → W → W → Type 0) (sees : Look → V → V → Type 0) (made count : ℕ)
     (s : Service) (old new : Serving W) (watch watch' : V) (is_closed : Bool) (r : Ran)
@@ -169,7 +169,7 @@ served_short does sees made count s port reader old new wire₁ watch watch₁ w
           (subst (λ (x : Service). IsCutShort x done new.port new.aired) (same_service port b h.port_is) cut) refl;
     }
 
--- What they leave, where the wire had not failed before.
+-- What the turns leave, if the wire had not failed before.
 
 pub leaves_answer : {W : Type 0} (does : Act → W → W → Type 0) (lent : List Look → Type 0) (failures : W → ℕ)
     (turns : ℕ) (old new : Serving W) (a : Ran) → (a ≡ ran.Ended → ⊥) → failures old.wire ≡ 0

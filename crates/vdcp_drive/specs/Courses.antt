@@ -28,7 +28,7 @@ inputs_behind unit so_far came = map (λ burst. input_of (heard_in unit burst)) 
 abbrev pub inputs_of : ℕ → List Arrival → List Input
 inputs_of unit came = inputs_behind unit [] came
 
--- the controller once these are heard, and where a burst has begun since, its command is awaited
+-- the controller once these are heard; if a burst has begun since, its command is awaited
 abbrev pub left_behind : Plan → State → List Input → List Arrival → State
 left_behind plan state ins came =
     if is_within_burst came then ticked (after_inputs_from plan state ins) else after_inputs_from plan state ins

@@ -19,7 +19,7 @@ use Rattle.vdcp_drive.specs.declared.line.Ran.{Ran}
 abbrev pub kept_by : Plan → List Exchange → State → List Kept
 kept_by plan log state = kept_of log ++ awaited_notes plan state
 
--- in a run that gave this answer, in which these exchanges ended, and which left its controller in this state: where the
+-- in a run that gave this answer, in which these exchanges ended, and which left its controller in this state: if the
 -- wire failed, also the command that was going out
 abbrev pub notes_of : Plan → List Exchange → State → Result Ran KeptFault → List Kept
 notes_of plan log state (Ok ran) = kept_by plan log state

@@ -24,7 +24,7 @@ use Rattle.vdcp_drive.specs.declared.line.Ran.TheVariants as ran
 
 -- The next command goes out.
 
--- where it fails: in the drop, or in the send
+-- how its sending fails: in the drop, or in the send
 pub data HasSendBroken {W : Type 0} (does : Act → W → W → Type 0) (first : Bool) (plan : Plan) (unit : ℕ)
     (state state' : State) (wire wire' : W) : Type 0 where
   in_drop : (c : Command) → given plan state ≡ Some c → first ≡ true → state' ≡ state → does fails wire wire'
@@ -102,7 +102,7 @@ RunsTo ran.Ended outcome count came = IsSome outcome × (length came ≤ count)
 RunsTo ran.Closed outcome count came = IsNone outcome × IsTrue (has_closed came) × (length came ≤ count)
 RunsTo ran.Spent outcome count came = IsNone outcome × (has_closed came ≡ false) × (length came ≡ count)
 
--- where a run ended: with what answer, what its last steps were, and what it left
+-- how a run ended: with what answer, what its last steps were, and what it left
 pub data Ending {E : Type 0} (fold : Fold E) (plan : Plan) (unit count : ℕ) (came : List Arrival) (a : Auto E)
     (answer : Result Ran KeptFault) (more : List Step) (a' : Auto E) : Type 0 where
   -- by itself
@@ -121,7 +121,7 @@ pub data Ending {E : Type 0} (fold : Fold E) (plan : Plan) (unit count : ℕ) (c
   in_listen : answer ≡ Err fault.Device → more ≡ opening fold plan unit a ++ looks (ticked a.state) ∷ acts fails ∷ []
       → a' ≡ gives a → Ending fold plan unit count came a answer more a'
 
--- a run of at most so many listens gave this answer
+-- a run of at most this many listens gave this answer
 pub record HasRun {E W K V : Type 0} (rules : Rules W K V) (fold : Fold E) (plan : Plan) (unit count : ℕ) (a a' : Auto E)
     (world world' : World W K V) (answer : Result Ran KeptFault) : Type 0 where
   pub came : List Arrival
@@ -131,7 +131,7 @@ pub record HasRun {E W K V : Type 0} (rules : Rules W K V) (fold : Fold E) (plan
   pub happened : Happens rules (steps_of fold plan unit a came ++ more) world world'
   pub ending : Ending fold plan unit count came (after fold plan unit a came) answer more a'
 
--- what a run of at most so many listens leaves of a driver, and of what keeps and watches, with this answer
+-- what a run of at most this many listens leaves of a driver, and of what keeps and watches, with this answer
 pub record RunLeaves {S E W K V : Type 0} (items : S → List Item) (rules : Rules W K V) (fold : Fold E)
     (failures : W → ℕ) (listens : ℕ) (old new : Driving S E W) (keep keep' : K) (watch watch' : V)
     (answer : Result Ran KeptFault) : Type 0 where
@@ -144,7 +144,7 @@ pub record RunLeaves {S E W K V : Type 0} (items : S → List Item) (rules : Rul
   pub unsent : answer ≡ Err fault.Unkept → IsSome (given (plan_of items old.controller) new.controller.state)
   pub controller : new.controller ≡ record old.controller { state = new.controller.state }
   pub unit : new.unit ≡ old.unit
-  -- the wire: it fails exactly where the answer is that, and then for good
+  -- the wire: it fails exactly if the answer is that, and then for good
   pub works : OnOk answer (failures new.wire ≡ 0)
   pub unkept : answer ≡ Err fault.Unkept → failures new.wire ≡ 0
   pub device : answer ≡ Err fault.Device → failures new.wire ≡ 1

@@ -62,7 +62,7 @@ abbrev pub Rounds : {S E W K V O : Type 0} → Parts S E W K V O → Option Call
 Rounds {S} {E} {W} {K} {V} {O} parts said old new =
     (asked : Scene S E W K V O) × Asks parts said old asked × Runs parts 1 (Ok ran.Spent) asked new
 
--- how it ended, with so many listens left
+-- how it ended, with this many listens left
 pub data LastRound {S E W K V O : Type 0} (parts : Parts S E W K V O) (left : ℕ) (answer : Result Ran KeptFault)
     (old new : Scene S E W K V O) : Type 0 where
   -- none was left
@@ -78,7 +78,7 @@ pub data LastRound {S E W K V O : Type 0} (parts : Parts S E W K V O) (left : �
       → parts.says old.driver.controller.state (Some c) old.operator new.operator → parts.misses c old.keep new.keep
       → new.driver ≡ old.driver → new.watch ≡ old.watch → LastRound parts left answer old new
 
--- a run of at most so many listens gave this answer: before each of them the operator said this
+-- a run of at most this many listens gave this answer: before each of them the operator said this
 pub record IsOperated {S E W K V O : Type 0} (parts : Parts S E W K V O) (count : ℕ) (old new : Scene S E W K V O)
     (answer : Result Ran KeptFault) : Type 0 where
   pub said : List (Option Call)

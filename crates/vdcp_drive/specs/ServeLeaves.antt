@@ -59,13 +59,13 @@ HasTurned does s wire (Err e) port' reader' aired' wire' =
 
 -- Some turns.
 
--- what so many turns answer, by what came
+-- what this many turns answer, by what came
 abbrev pub ServesTo : Ran → ℕ → List Arrival → Type 0
 ServesTo ran.Ended count came = ⊥
 ServesTo ran.Closed count came = IsTrue (has_closed came) × (length came ≤ count)
 ServesTo ran.Spent count came = (has_closed came ≡ false) × (length came ≡ count)
 
--- where they ended: with what answer, what the wire did last and a watcher was lent, and the port and the reader then
+-- how they ended: with what answer, what the wire did last and a watcher was lent, and the port and the reader then
 pub data ServeEnding (count : ℕ) (came : List Arrival) (s : Service) (answer : Result Ran DriveFault) (done : List Act)
     (seen : List Look) (port : ClockedPort) (reader : Progress) : Type 0 where
   by_itself : (r : Ran) → answer ≡ Ok r → ServesTo r count came → done ≡ [] → seen ≡ [] → port ≡ s.port
@@ -73,7 +73,7 @@ pub data ServeEnding (count : ℕ) (came : List Arrival) (s : Service) (answer :
   cut_short : (aired : Option Item) → answer ≡ Err fault.Device → has_closed came ≡ false
       → IsCutShort s done port aired → seen ≡ record { port = port; aired = aired } ∷ [] → ServeEnding count came s answer done seen port reader
 
--- at most so many turns gave this answer, after which a watcher was lent these looks
+-- at most this many turns gave this answer, after which a watcher was lent these looks
 pub record HasServed {W : Type 0} (does : Act → W → W → Type 0) (lent : List Look → Type 0) (count : ℕ) (s : Service)
     (old new : Serving W) (answer : Result Ran DriveFault) : Type 0 where
   pub came : List Arrival
@@ -85,7 +85,7 @@ pub record HasServed {W : Type 0} (does : Act → W → W → Type 0) (lent : Li
   pub looked : lent (looks_of s came ++ seen)
   pub ending : ServeEnding count came (left_by s came) answer done seen new.port new.reader
 
--- what at most so many turns leave of a server with this answer, and that the watcher was lent
+-- what at most this many turns leave of a server with this answer, and that the watcher was lent
 pub record ServeLeaves {W : Type 0} (does : Act → W → W → Type 0) (lent : List Look → Type 0) (failures : W → ℕ)
     (turns : ℕ) (old new : Serving W) (answer : Result Ran DriveFault) : Type 0 where
   pub serves : failures old.wire ≡ 0 → (burst : List ℕ) → HasRead burst old.reader →

@@ -33,7 +33,7 @@ pub record RunsOn {E : Type 0} (fold : Fold E) (plan : Plan) (unit count : ℕ) 
   pub sent_is : new.sent ≡ old.sent ++ bytes_of unit commands
   pub drops_are : new.drops ≡ old.drops ++ places fold.drops unit (length old.sent) commands
 
--- the same where the wire failed: of the last command these bytes didn't go out
+-- the same if the wire failed: of the last command these bytes didn't go out
 pub record BreaksOn {E : Type 0} (fold : Fold E) (plan : Plan) (unit : ℕ) (a a' : Auto E) (old new : Told) : Type 0 where
   pub since : List Arrival
   pub octets : All AreOctetsIn since

@@ -28,7 +28,7 @@ kept_in (keeps r ∷ later) = r ∷ kept_in later
 kept_in (misses c ∷ later) = kept_in later
 kept_in (looks s ∷ later) = kept_in later
 
--- what went out, what came, and how many bytes had gone out before each drop, where n had gone out before
+-- what went out, what came, and how many bytes had gone out before each drop, if n had gone out before
 abbrev pub sent_in : List Act → List ℕ
 sent_in [] = []
 sent_in (sends b ∷ later) = b ++ sent_in later
@@ -74,7 +74,7 @@ until_close (bytes piece ∷ later) = bytes piece ∷ until_close later
 until_close (silence ∷ later) = silence ∷ until_close later
 until_close (close ∷ later) = close ∷ []
 
--- how many bytes stand before each command, where n stand before the first; and that for drops before each, or none
+-- how many bytes stand before each command, if n stand before the first; and that for drops before each, or none
 abbrev pub starts_behind : ℕ → ℕ → List Command → List ℕ
 starts_behind unit n [] = []
 starts_behind unit n (c ∷ commands) = n ∷ starts_behind unit (n + length (command_bytes unit c)) commands

@@ -30,7 +30,7 @@ question_command port question.Status = command.Status 1
 abbrev pub vacancy_of : ℕ → Vacancy
 vacancy_of state = if nat_eq state 1 then vacancy.Vacant else vacancy.Occupied state
 
--- where a reply leads that answers the question; None where it is another
+-- where a reply leads that answers the question; None if it is another
 abbrev pub led_by : Question → Reply → Option Asking
 led_by question.Open (reply.Opened granted) = Some (if granted then Asks question.Select 0 else Over vacancy.Denied)
 led_by question.Select reply.Ack = Some (Asks question.Status 0)
@@ -85,7 +85,7 @@ questions_by unit limit came =
 abbrev pub commands_asked : ℕ → ℕ → ℕ → List Arrival → List Command
 commands_asked unit port limit came = map (question_command port) (questions_by unit limit came)
 
--- what the questions came to: where one is still asked, the other end has closed or no listen is left
+-- what the questions came to: if one is still asked, the other end has closed or no listen is left
 abbrev pub CameTo : Asking → List Arrival → ℕ → Vacancy → Type 0
 CameTo (Over v) came left answer = answer ≡ v
 CameTo (Asks q unanswered) came left vacancy.Closed = IsTrue (has_closed came)

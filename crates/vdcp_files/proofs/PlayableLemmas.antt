@@ -30,7 +30,7 @@ fits_or_not : (b : Bool) → is_none (if b then None else Some Outside) ≡ b
 fits_or_not true = refl
 fits_or_not false = refl
 
--- an item has no fault exactly where it can be cued
+-- an item has no fault exactly if it can be cued
 pub no_fault : (clip : Option Timecode) (part : Option Part) → is_none (fault_in clip part) ≡ can_cue clip part
 no_fault None part = refl
 no_fault (Some clip) None = refl

@@ -71,7 +71,7 @@ head_of-spelt (framed kind unit code rest) front more s =
     ∙ data_found kind unit code rest s.check more s.fits.unit_fits s.adds_up
     ∙ ap (λ (n : ℕ). found (framed kind unit code rest) n) (sym size)
 
--- ---- so where the head is no message, no front is a spelling
+-- ---- so if the head is no message, no front is a spelling
 
 abbrev IsNoMessage : Head → Type 0
 IsNoMessage (part needs) = Unit {0}

@@ -15,7 +15,7 @@ use Rattle.std.proofs.Math.Seq.{take-add, take-append-add}
 
 -- ---- one message
 
--- where two spellings begin one list of bytes, they are one
+-- if two spellings begin one list of bytes, they are one
 pub one_front : (m n : Content) (a b x y : List ℕ) → Spells m a → Spells n b → a ++ x ≡ b ++ y → (m ≡ n) × (a ≡ b)
     × (x ≡ y)
 one_front m n a b x y s t e =
@@ -182,7 +182,7 @@ module _ (limit : ℕ) (burst : List ℕ) (ms : List Content) (whole held : List
       (λ (b : Bool). ReadsUpTo limit burst ms (cond b (long_end limit (unfinished_end held)) (unfinished_end held)))
       (le-ltb limit (length burst) short) reads_unfinished
 
-  -- a longer burst is a fault, where there was none before
+  -- a longer burst is a fault, if there was none before
   pub reads_long : limit < length burst → ReadsUpTo limit burst ms (fault Long (limit + 1))
   reads_long long = subst (ReadsUpTo limit burst ms) (long_unfinished limit held)
       (subst (λ (b : Bool). ReadsUpTo limit burst ms

@@ -55,7 +55,7 @@ none_coming from burst ms end within octets all reads =
     (sym (passed_and_coming 4096 from burst ms within octets all) ∙ sym (reads_as_computed burst ms end octets reads).0
     ∙ sym (append-nil ms))
 
--- where none is still to come all were passed
+-- if none is still to come all were passed
 pub all_passed : (from : ℕ) (burst : List ℕ) (ms : List Content) → from ≤ 4096 → AreOctets burst
     → SpellsAll ms (take from burst)
     → coming (record { burst = burst; place = from }) ≡ [] → ms ≡ messages_of burst

@@ -9,7 +9,7 @@ is_part (part needs) = true
 is_part (wrong which size) = false
 is_part (found m size) = false
 
--- a burst leaves a reader that took so many bytes and holds these of them
+-- a burst leaves a reader that took this many bytes and holds these of them
 pub record CanHold (taken : ℕ) (held : List ℕ) : Type 0 where
   pub limit : taken ≤ burst_limit
   pub within : length held ≤ taken

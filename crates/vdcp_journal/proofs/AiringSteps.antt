@@ -149,8 +149,8 @@ grows b n m is = grind arith
 abbrev plays : List Row → Bool
 plays rows = has_open_play (ended_in rows) || asks_play (asked_in rows)
 
--- a row settles one event at the most, and that only where a PLAY is open, which then is open no more; and a row that is no
--- PLAY opens none
+-- a row settles one event at the most, and that only if a PLAY is open, which then is open no more; and a row that is
+-- no PLAY opens none
 record Step (mode : Mode) (rows all : List Row) (row : Row) : Type 0 where
   pub least : settled mode (ended_in rows) ≤ settled mode (ended_in all)
   pub most : settled mode (ended_in all) ≤ settled mode (ended_in rows) + 1
@@ -372,7 +372,7 @@ settled_now law opens mode rows row k (Some time) h was now =
       },
     )
 
--- what is added to the airings for so many settled events
+-- what is added to the airings for this many settled events
 pub record Added (played : Option Moment) (row : Row) (count : ℕ) (airings airings' : List Airing) : Type 0 where
   pub same : count ≤ length airings → airings' ≡ airings
   pub more : length airings < count → (time : Moment) → played ≡ Some time → airings' ≡ airings ++ new_airing time row ∷ []

@@ -99,7 +99,7 @@ few-rows (fields ∷ rows) h =
           (fields_text fields) (joined (map fields_text rows)),
     )
 
--- rows that are written are read, where they don't begin as a byte order mark does
+-- rows that are written are read, if they don't begin as a byte order mark does
 pub rows-read : (rows : List Fields) → AreRows rows
     → strip_bom (joined (map fields_text rows)) ≡ joined (map fields_text rows)
     → rows_of (joined (map fields_text rows)) ≡ rows

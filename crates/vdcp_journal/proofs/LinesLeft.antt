@@ -91,7 +91,7 @@ left-same (Some a) None new front k c = absurd k
 left-same (Some a) (Some b) None front k c = absurd c
 left-same (Some a) (Some b) (Some d) front k c = sym k ∙ c
 
--- a line is found, where none was held
+-- a line is found, if none was held
 pub left-found : (none body line begun rest : List ℕ) (old new : Option (List ℕ)) → none ≡ [] → line ≡ body ++ 10 ∷ []
     → begun ≡ line ++ rest → new ≡ old → Keeps (left_of none begun old) (left_of line rest new)
 left-found none body line begun rest old new empty is split same = rw (empty, same) (found old)

@@ -150,7 +150,7 @@ left plan t q p take n m i s is stays tries h =
     is ∙ ap (λ (x : Transition). state_after x 0 (made (Awaiting q) take n m i)) goes
     ∙ ap (λ (k : ℕ). made (Ready p) take 0 m k) tries
 
--- where the state is asked once more after it was heard
+-- what is left if the state is asked once more after it was heard
 abbrev Leaves : Plan → Phase → Type 0
 Leaves plan p = (take : Bool) (n m i g b : ℕ) → asks (command_in plan.list plan.port p) ≡ true
     → asks (given plan (once plan (heard.Reply (state g b)) (made (Ready p) take n m i))) ≡ true
@@ -182,7 +182,7 @@ put_again : (p : Phase) → put (put p) ≡ put p
 put_again phase.Open = refl
 put_again other = refl
 
--- twice is once, where the state is asked thrice
+-- twice is once, if the state is asked thrice
 abbrev Again : Plan → Heard → State → Type 0
 Again plan h s = asks (given plan s) ≡ true → asks (given plan (once plan h s)) ≡ true
     → asks (given plan (once plan h (once plan h s))) ≡ true → once plan h (once plan h s) ≡ once plan h s

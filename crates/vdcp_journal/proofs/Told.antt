@@ -83,7 +83,7 @@ logs_on : (log : List Exchange) (o : Option Exchange) (e : Exchange) (more : Lis
     → logged log o ++ more ≡ log ++ (e ∷ more)
 logs_on log o e more is = ap (λ x. logged log x ++ more) is ∙ append_assoc log (e ∷ []) more
 
--- a row, and then the rows after it, where those are reached from wherever the row leads
+-- a row, and then the rows after it, if those are reached from wherever the row leads
 abbrev Reaches : Plan → List Row → Type 0
 Reaches plan rows =
     (s : State) (log : List Exchange) (asked : Option Command) → Reached plan s log → awaited plan s ≡ asked

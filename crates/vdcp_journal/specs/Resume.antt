@@ -61,7 +61,7 @@ is_loss _ = false
 abbrev pub losses : List Row → ℕ
 losses rows = count_by (λ row. is_loss row.note) rows
 
--- the limit of a run that was lost so often: each time it may spend as much more, up to 1,000 in all
+-- the limit of a run that was lost this often: each time it may spend as much more, up to 1,000 in all
 abbrev pub limit_after : ℕ → ℕ → ℕ
 limit_after limit lost = min 1000 (limit * (lost + 1))
 
@@ -77,7 +77,7 @@ IsLostAfter plan rows = outcome_of (after_rows (plan_after plan rows) start rows
 abbrev pub MayGoOn : Option Ending → Type 0
 MayGoOn outcome = (outcome ≡ None) ⊎ (outcome ≡ Some Lost)
 
--- a note stands after these rows of a run: it tells what the controller does that went on then, and a loss stands where
+-- a note stands after these rows of a run: it tells what the controller does that went on then, and a loss stands if
 -- that was lost
 abbrev pub Stands : Plan → List Row → Note → Type 0
 Stands plan rows n = Tells (plan_after plan rows) (after_rows (plan_after plan rows) start rows) n

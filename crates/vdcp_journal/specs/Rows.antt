@@ -64,7 +64,7 @@ heading_fields time heading =
     moment_text time ∷ codes "list" ∷ encode_lower heading.digest ∷ mode_text heading.mode
     ∷ decimal heading.unit ∷ decimal heading.port ∷ decimal heading.limit ∷ []
 
--- a row as CSV: commas, quotes only where needed, a line feed
+-- a row as CSV: commas, quotes only if needed, a line feed
 abbrev pub fields_text : Fields → List ℕ
 fields_text fields = row_text default_writer fields
 

@@ -27,11 +27,11 @@ hears_state n = hears_so is_state n
 abbrev pub hears_done : Note → Bool
 hears_done n = hears_so is_done n
 
--- and nothing plays: where the controller waits for that, PLAY comes next
+-- and nothing plays: if the controller waits for that, PLAY comes next
 abbrev pub hears_free : Note → Bool
 hears_free n = hears_so (λ r. is_done r && not (is_playing r)) n
 
--- and a clip plays: where the controller waits for its end, PLAY comes then
+-- and a clip plays: if the controller waits for its end, PLAY comes then
 abbrev pub hears_waiting : Note → Bool
 hears_waiting n = hears_so (λ r. is_done r && is_playing r) n
 
@@ -40,7 +40,7 @@ abbrev pub takes : Bool → List Note
 takes true = note.Take ∷ []
 takes false = []
 
--- What may be left of all these notes. Where the state was asked and heard twice in a row, the same each time, and then
+-- What may be left of all these notes. If the state was asked and heard twice in a row, the same each time, and then
 -- asked again, once is enough. A PLAY tells that the cue was done when the state was heard before it, and that it might
 -- go out: so any state will do that lets it, and a take after which it might is spent. And so again with what is left.
 pub data IsThinned (all : List Note) : List Note → Type 0 where

@@ -397,7 +397,7 @@ none_more {F} safe k m is = record {
       ∙ ap (λ (x : Recording F). before ++ notes_in (rows_left x.pending)) (sym is)) whole;
 }
 
--- what a command makes of what is noted, where it leads to this
+-- what a command makes of what is noted, if it leads to this
 abbrev Leads : Pending → Row → Bool → Bool → Bool → List Note → List Note → Type 0
 Leads p row says plays asks more told =
     IsThinned (notes_seen (seen_before (left_after p row plays asks))
@@ -669,7 +669,7 @@ sent_more {F} safe c more k l m n r =
           (asks_state row.note) refl refl next);
     }
 
--- an end comes where none is pending
+-- an end comes if none is pending
 end_tells : (p q : Pending) (heard : Option Heard) (time : Moment) (more : List Kept) (told : List Note)
     → Alternates (is_pending p) (end_of heard ∷ more) → q ≡ ended p (record { time = time; note = end_note heard })
     → (Alternates (is_pending q) more
@@ -794,7 +794,7 @@ may_be_left (pending.Over before asks hears plays row) notes stands may = inr (
 )
 may_be_left (pending.Failed f) notes stands may = inl refl
 
--- with what they are where nothing was awaited before
+-- with what they are if nothing was awaited before
 shown : {E W K : Type 0} (adds : Kept → K → K → Type 0) (loses : Command → K → K → Type 0) (told : W → Option Told)
     (fold : Fold E) (plan : Plan) (unit : ℕ) (a a' : Auto E) (wire wire' : W) (answer : Result Ran KeptFault) (k m : K)
     (n : KeepsRun adds loses told fold plan unit a a' wire wire' answer k m) → awaited plan a.state ≡ None
@@ -802,7 +802,7 @@ shown : {E W K : Type 0} (adds : Kept → K → K → Type 0) (loses : Command �
 shown adds loses told fold plan unit a a' wire wire' answer k m n none =
     ap (λ (c : Option Command). map kept.Sent (option_to_list c) ++ n.notes) (sym none) ∙ n.shows
 
--- where each command was kept
+-- if each command was kept
 whole_run : {E W F : Type 0} (safe : F → Option (List ℕ)) (told : W → Option Told) (fold : Fold E) (plan : Plan)
     (unit : ℕ) (a a' : Auto E) (wire wire' : W) (answer : Result Ran KeptFault) (k m : Recording F)
     (n : KeepsRun (Notes safe) (Loses safe) told fold plan unit a a' wire wire' answer k m)
@@ -831,7 +831,7 @@ whole_run safe told fold plan unit a a' wire wire' answer k m n none chain untor
           (notes_alternate (is_pending k.pending) plan (log_of fold plan unit a n.came) a'.state answer);
     }
 
--- where the next one couldn't be kept
+-- if the next one couldn't be kept
 lost_run : {E W F : Type 0} (safe : F → Option (List ℕ)) (told : W → Option Told) (fold : Fold E) (plan : Plan)
     (unit : ℕ) (a a' : Auto E) (wire wire' : W) (k l m : Recording F) (c : Command)
     (n : KeepsRun (Notes safe) (Loses safe) told fold plan unit a a' wire wire' (Err fault.Unkept) k m)

@@ -25,7 +25,7 @@ not_begun items name wanted word lines run ended end failure replayed (may_have 
 not_begun items name wanted word lines run ended end failure replayed (not_listed k said past is) =
     no_event k said past is
 
--- where the operator says nothing
+-- if the operator says nothing
 
 unsettled_none : (is_one : Bool) (n : ℕ) → (if is_one then Some n else None) ≡ None → IsFalse is_one
 unsettled_none true n is = cc

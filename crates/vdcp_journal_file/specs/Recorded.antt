@@ -117,7 +117,7 @@ call_note call.Stop = note.Stop
 abbrev pub IsTorn : ℕ → List Row → List ℕ → Type 0
 IsTorn unit rows torn = (one : Row) × (rest : List ℕ) × (torn ++ rest ≡ rows_text unit (rows ++ one ∷ []))
 
--- what more is in the file than whole rows, and how much of it was noted last: something only where a command couldn't be
+-- what more is in the file than whole rows, and how much of it was noted last: something only if a command couldn't be
 -- kept, a beginning of that and of what was noted last
 abbrev pub IsTornBy : Result Ran KeptFault → ℕ → List Row → List ℕ → Type 0
 IsTornBy (Ok ran) unit last torn = torn ≡ []
@@ -147,7 +147,7 @@ pub record IsRecorded {E W F : Type 0} (safe : F → Option (List ℕ)) (told : 
   pub unkept : MayBeLeft (notes_seen (seen_before old.pending) ++ notes_in rows) left
   pub comes : (t : Told) → told wire ≡ Some t → has_closed t.came ≡ false
       → IfTold (told wire') (λ u. u.came ≡ t.came ++ came)
-  -- where nothing was awaited before, the rows are just what came shows, each command and what ended its exchange, but for
+  -- if nothing was awaited before, the rows are just what came shows, each command and what ended its exchange, but for
   -- what says nothing new
   pub shows : awaited plan a.state ≡ None
       → IsThinned (notes_seen (seen_before old.pending) ++ (notes_in (rows_left old.pending)

@@ -97,7 +97,7 @@ is_again (Some before) (Some last) (note.Sent (command.Status asked)) =
     before.asked == last.asked && before.groups == last.groups && before.state == last.state && asked == before.asked
 is_again _ _ _ = false
 
--- what is pending says nothing new where this goes out next
+-- what is pending says nothing new if this goes out next
 abbrev pub says_nothing_new : Pending → Note → Bool
 says_nothing_new left next = is_again (seen_before left) (seen_last left) next
 
@@ -118,8 +118,8 @@ with_play (pending.Answered (Some before) asks hears) row = pending.Played befor
 with_play left row = left
 
 -- The rows that are made safe before a command goes out, or a call is given: all that is pending, and its own. That of a
--- state that is asked is held back, and what says nothing new before it is left out. All is held back where a PLAY goes out
--- that is announced.
+-- state that is asked is held back, and what says nothing new before it is left out. All is held back if a PLAY goes
+-- out that is announced.
 abbrev pub rows_due : Pending → Row → List Row
 rows_due left row =
     if asks_state row.note then (if says_nothing_new left row.note then [] else rows_left left)
@@ -141,7 +141,7 @@ IsTimedOut None left = left ≡ pending.Nothing
 IsTimedOut (Some command) left =
     (time : Moment) × (left ≡ pending.End (record { time = time; note = note.Silence }))
 
--- the event that a run begins with is still to be written, if it is said
+-- the event that a run begins with is still to be written, if one is named
 abbrev pub NotesFrom : Option ℕ → Pending → Type 0
 NotesFrom None left = left ≡ pending.Nothing
 NotesFrom (Some event) left =

@@ -221,7 +221,7 @@ abbrev pub IsOver : Option Outcome → Type 0
 IsOver outcome = (outcome ≡ Some Done) ⊎ (outcome ≡ Some Stopped)
 
 -- after the last run of a journal of what is wanted, the controller with this plan and state goes on, which plays the
--- items from an event on: a new one; or, where that run is over and the operator says nothing, the one of that run
+-- items from an event on: a new one; or, if that run is over and the operator says nothing, the one of that run
 pub data IsOpenedAgain (items : List Item) (wanted : Heading) (word : Option ℕ) (from : ℕ) (plan : Plan) (state : State)
     : Type 0 where
   begins : (lines : FileBytes) (run : Run) (ended : Plan) (end : State)

@@ -14,7 +14,7 @@ use Rattle.vdcp_world.specs.LateLine.LateHeadline as late
 use Rattle.vdcp_world.specs.LateLine.LateHeadline.{LateHeadline, is_late_complete}
 use Rattle.vdcp_laws.specs.AsrunLaw.{IsOfAired, IsOfAllAired, rows_for}
 
--- what went to air is a beginning, and no more than that where it is no longer
+-- what went to air begins so, and is no more than that if it is no longer
 nothing_more : (aired front last : List Item) → aired ≡ front ++ last → length aired ≡ length front → aired ≡ front
 nothing_more aired front [] e same = e ∙ append-nil front
 nothing_more aired front (item ∷ last) e same =

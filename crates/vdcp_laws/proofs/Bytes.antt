@@ -173,7 +173,7 @@ messages_spelt law ms held fits u small =
     sym (law.messages (spelt ms ++ held) ms (reading (length (spelt ms ++ held)) held)
     (octets_spelt law ms held fits u) (follows_spelt law ms held fits u small))
 
--- and where all are whole it ends clean
+-- and if all are whole it ends clean
 pub clean_spelt : (law : Spelt) (ms : List Content) → All Fits ms → length (spelt ms ++ []) ≤ burst_limit
     → end_of (spelt ms ++ []) ≡ clean
 clean_spelt law ms fits small =

@@ -255,7 +255,7 @@ abbrev late_ups : List Arrival
 late_ups = bytes granted_bytes ∷ bytes (0x04 ∷ []) ∷ bytes present_bytes ∷ silence ∷ silence
     ∷ bytes (0x04 ∷ 0x05 ∷ 0x80 ∷ 0x04 ∷ 0x04 ∷ []) ∷ bytes done_bytes ∷ bytes (0x04 ∷ []) ∷ []
 
--- The port when the rest of the second cue has put the event to air, where the clip has n frames.
+-- The port when the rest of the second cue has put the event to air, if the clip has n frames.
 abbrev playing_for : Timecode → ℕ → ClockedPort
 playing_for length n = record {
   clips = (clip, length) ∷ [];

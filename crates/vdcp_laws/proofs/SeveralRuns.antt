@@ -43,7 +43,7 @@ are_beginning law list _ (ran {aired} before plan port asked e can j begins) =
           ∙ sym (append_assoc aired (aired_now e) h.0),
     )
 
--- What a journal shows of a run: the number of all that aired, where no event more may have aired.
+-- What a journal shows of a run: the number of all that aired, if no event more may have aired.
 
 -- of an automation that awaits nothing the log is all
 all_logged : (plan : Plan) (s : State) (log : List Exchange) → awaited plan s ≡ None

@@ -137,8 +137,8 @@ with_heard plan h e =
 abbrev pub heard_again : Plan → Heard → Ends → Ends
 heard_again plan h e = with_heard plan h (with_take (with_command plan e))
 
--- What a killed automation goes on as: what its notes make it; or, where what was heard last announces a PLAY, which may have
--- gone out without a note, what it is once that was given.
+-- What a killed automation goes on as: what its notes make it; or, if what was heard last announces a PLAY, which may
+-- have gone out without a note, what it is once that was given.
 pub data GoesOn (plan : Plan) (e : Ends) : Ends → Type 0 where
   as_noted : GoesOn plan e e
   as_announced : (h : Heard) → Announces plan e.automation.state e.notes h → GoesOn plan e (with_command plan (heard_again plan h e))

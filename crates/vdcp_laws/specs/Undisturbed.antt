@@ -18,7 +18,7 @@ abbrev pub with_time_out : Plan → ℕ → Ends → Ends
 with_time_out plan unit e =
     with_automation (listens plan unit silence e.automation) (notes_ended plan None e.automation.state) e
 
--- so many frames pass at the server
+-- this many frames pass at the server
 abbrev pub with_frames : ℕ → Ends → Ends
 with_frames zero e = e
 with_frames (suc frames) e = with_frames frames (with_down silence e)
@@ -58,7 +58,7 @@ pub record CanPlay (plan : Plan) (port : ClockedPort) : Type 0 where
   pub cue_takes : 1 ≤ port.cue_frames
   pub playable : All (λ item. IsTrue (is_playable port.clips item)) plan.list
 
--- as many exchanges as a list of so many events takes at most
+-- how many exchanges a list of this many events takes at most
 abbrev pub most_exchanges : Mode → ℕ → ℕ
 most_exchanges Plain events = 5 * events + 4
 most_exchanges Confirming events = 6 * events + 6

@@ -7,7 +7,7 @@ use Rattle.std.specs.Result.{IsOk, MatchResult}
 pub utf8_of : (text : List ℕ) → IsAscii text → IsUtf8 text
 utf8_of text ascii = IsUtf8-from_ascii text ascii
 
--- a value, where an error can't be
+-- a value, if an error can't be
 pub ok_unless : {X Y : Type 0} (r : Result X Y) (P : X → Type 0) (Q : Y → Type 0) → MatchResult r P Q
     → ((error : Y) → ¬ Q error) → IsOk r
 ok_unless (Ok value) P Q m none = refl

@@ -13,7 +13,7 @@ abbrev pub has_part : List Item → Bool
 has_part items = list_any (λ item. is_some item.part) items
 
 -- the text of these events from number k on: number and item, as csv writes them with commas,
--- quotes only where needed, and line feeds
+-- quotes only if needed, and line feeds
 abbrev pub events_text : Rate → Bool → ℕ → List Item → List ℕ
 events_text rate with_parts k [] = []
 events_text rate with_parts k (item ∷ items) =

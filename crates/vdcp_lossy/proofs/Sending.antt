@@ -98,7 +98,7 @@ goes_twice chances w came old dropped new later may is_dropped is_sent (inr gain
       (sent_first came doing.Copied old dropped new is_dropped is_sent) gains;
 }
 
--- where the second copy was asked for
+-- if the second copy was asked for
 pub asked_twice : {A E : Type 0} (result : Result A E) (chances : Chances) (w : Way) (came sent : List ℕ) (d : Doing)
     (old dropped new later : Option Told)
     → d ≡ doing.Copied → MayBeDone chances w came d → dropped ≡ adds_drop old → sent ≡ came

@@ -98,8 +98,8 @@ about v = Some v.event
 abbrev pub event_of : {S : Type 0} → View (FromEvent S) → ℕ
 event_of c = min (c.source.from + c.state.settled) (2 ^ 64 - 1)
 
--- who asked was answered by the controller as it is and by these clips, and a call that is held is about the event that is
--- next
+-- requests were answered by the controller as it is and by these clips, and a call that is held is about the event that
+-- is next
 pub record ShowsRun {S : Type 0} (c : View (FromEvent S)) (clips : Option (List (ClipId × Timecode))) (names : Names)
     (calls calls' : List Call) : Type 0 where
   pub view : RunSeen

@@ -20,7 +20,7 @@ said_from (first ∷ line) [] = said_in (first ∷ line) ∷ []
 said_from line (byte ∷ bytes) =
     if nat_eq byte 10 then said_in line ∷ said_from [] bytes else said_from (line ++ byte ∷ []) bytes
 
--- the bytes that are left of a reader, where they are known; once it has ended there is none
+-- the bytes that are left of a reader, if they are known; once it has ended there is none
 abbrev pub left : {I : Type 0} → (I → Option (List ℕ)) → Option I → Option (List ℕ)
 left remaining None = Some []
 left remaining (Some reader) = remaining reader

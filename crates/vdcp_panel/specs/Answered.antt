@@ -6,7 +6,7 @@ use Rattle.vdcp_panel.specs.Asked.{called, is_let_in, shown}
 use Rattle.vdcp_panel.specs.declared.call.Call.{Call}
 use Rattle.vdcp_panel.specs.declared.gate.Gate.{Gate}
 
--- the calls that are held once this one was asked for: one more, where there is room
+-- the calls that are held once this one was asked for: one more, if there is room
 abbrev pub calls_after : List Call → Option Call → List Call
 calls_after calls None = calls
 calls_after calls (Some c) = if nat_lt (length calls) 16 then calls ++ c ∷ [] else calls
@@ -20,7 +20,7 @@ body_of (Some bytes) = bytes
 abbrev pub IsHeld : List Call → List Call → Type 0
 IsHeld calls calls' = (c : Call) × (calls' ≡ calls ++ c ∷ [])
 
--- a request was answered so, where this page and this state were seen, and a call is about this event
+-- a request was answered so, if this page and this state were seen, and a call is about this event
 pub record IsAnswered (g : Gate) (page state : List ℕ) (event : Option ℕ) (calls : List Call) (r : Request (List ℕ))
     (response : Response) (calls' : List Call) : Type 0 where
   -- it is shown what it asks for, as it is

@@ -66,7 +66,7 @@ abbrev pub called_at : Place → Verb → Option Call
 called_at (places.Call call) verbs.Post = Some call
 called_at _ _ = None
 
--- what a request is shown: the page or the state, where it is let in and reads
+-- what a request is shown: the page or the state, if it is let in and reads
 abbrev pub shown : Gate → (page state : List ℕ) → Request (List ℕ) → Option (List ℕ)
 shown g page state r =
     if is_let_in g r then shown_at page state (place_of (uri_path (head_of r).uri)) (verb_of (head_of r).method)

@@ -61,7 +61,7 @@ bytes_for_first p m ms =
     bytes_for_both p (m ∷ []) ms
     ∙ ap (λ (bytes : List ℕ). bytes ++ bytes_for_all (after_message p m) ms) (bytes_for_alone p m)
 
--- where one item at most airs, the first one that airs is all of them
+-- if one item at most airs, the first one that airs is all of them
 first_of_one : (a b : Option Item) → length (option_to_list a ++ option_to_list b) ≤ 1
     → option_to_list (option_or a b) ≡ option_to_list a ++ option_to_list b
 first_of_one None b most = refl

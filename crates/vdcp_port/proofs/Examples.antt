@@ -243,7 +243,7 @@ same_ports =
     -- nothing is made ready, and what is ready stays so
     (after_ready (selected two_clips), selected two_clips) ∷
     (after_ready done_1, done_1) ∷
-    -- nothing ends, and a cue stays where nothing plays
+    -- nothing ends, and a cue stays if nothing plays
     (after_ended (selected two_clips), selected two_clips) ∷
     (after_ended done_1, done_1) ∷
     -- a port that is closed is a new one
@@ -318,7 +318,7 @@ past_the_end : judged (0x00 ∷ 0x08 ∷ 0x00 ∷ 0x00 ∷ []) three_seconds ≡
 unfolding part_fits
 past_the_end = rw (frames_3, frames_8, frames_10) refl
 
--- what goes out where a part is accepted, and where it isn't
+-- what goes out if a part is accepted, and if it isn't
 abbrev sent_if : List ℕ → List ℕ → Bool → List ℕ
 sent_if start duration accepted =
     let change : Change = cues (part_of clip_1 start duration) in

@@ -17,7 +17,7 @@ use Rattle.vdcp_port.specs.Kept.{IsPlayableCue, IsKept}
 use Rattle.vdcp_port.specs.Port.{Cued, empty, cueing, done, PortState, is_open, is_selected}
 use Rattle.vdcp_port.specs.Row.{Row, Change, row, refused, keeps, opens, closes, selects, cues, airs, stops, play_row, size_row, command_row, asked_row}
 
--- an item is cued only where it is playable, and airs only where it is cued
+-- an item is cued only if it is playable, and airs only if it is cued
 abbrev IsDue : List (ClipId × Timecode) → PortState → Change → Type 0
 IsDue clips p (cues item) = IsTrue (is_playable clips item)
 IsDue clips p (airs item) = p.cued ≡ done item

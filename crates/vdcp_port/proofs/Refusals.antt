@@ -23,7 +23,7 @@ says_no (Some (reply.Nak byte)) = true
 says_no (Some (reply.Opened granted)) = if granted then false else true
 says_no (Some _) = false
 
--- the row changes nothing where its answer says no
+-- the row changes nothing if its answer says no
 abbrev Spares : Row → Type 0
 Spares r = says_no r.answer ≡ true → r.change ≡ keeps
 

@@ -26,7 +26,7 @@ use Rattle.vdcp_run.specs.declared.settings.RunSettings.{RunSettings}
 use Rattle.vdcp_text.specs.declared.failure.Failure.{Failure}
 use Rattle.vdcp_value.specs.declared.part.Item.{Item}
 
--- the run answered Ended exactly where the controller has ended, and no command was kept back once it has
+-- the run answered Ended exactly if the controller has ended, and no command was kept back once it has
 abbrev pub EndedWith : Result Ran KeptFault → Option Outcome → Type 0
 EndedWith (Ok a) outcome = (a ≡ ran.Ended) ↔ IsSome outcome
 EndedWith (Err fault.Device) outcome = Unit {0}
@@ -72,7 +72,7 @@ ended_unneeded end answer outcome is h ended =
     subst (λ (e : LineEnd). (e ≡ line_end.Unneeded) ⊎ (e ≡ line_end.Failed)) (sym is)
     (ended_needs_none answer outcome h ended)
 
--- who gives a command hasn't ended
+-- a controller that gives a command hasn't ended
 pub gives_none : (plan : Plan) (stop : Bool) (stage : Stage) → IsSome (given_in plan stop stage)
     → ¬ IsSome (outcome_of stage)
 gives_none plan stop (Ready p) gives = λ some. cc
@@ -116,7 +116,7 @@ comes_so {S} items controller old new answer end same stays led ended line by ke
       by.reported_is kept;
 }
 
--- ---- what is told where nothing failed
+-- ---- what is told if nothing failed
 
 silent_by : (n : ℕ) → n ≤ 2 → (unwritten unkept line : Option Failure) (rest : ℕ)
     → status_unless unwritten (status_unless unkept (status_unless line rest)) ≡ n

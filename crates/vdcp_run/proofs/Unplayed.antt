@@ -116,7 +116,7 @@ unkept_status settings items (Some journal) failure (inl e) = inr (ap status_of 
 unkept_status settings items (Some journal) failure (inr (inl h)) = journal_status settings items journal failure h
 unkept_status settings items (Some journal) failure (inr (inr h)) = inr (place_status settings.asrun failure h)
 
--- also where the list isn't the journal's
+-- also if the list isn't the journal's
 told_status_if : (is_other : Bool) (list : Bor (List ℕ)) (failure : Failure) → one_or_three failure
     → one_or_three (if is_other then failures.NotTheList list else failure)
 told_status_if true list failure known = inl refl

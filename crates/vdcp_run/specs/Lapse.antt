@@ -20,7 +20,7 @@ since_with brings.Closed before = before
 since_with (brings.Bytes zero) before = before
 since_with (brings.Bytes (suc n)) before = since.Bytes
 
--- what the wire below does, but for a silence by the clock, where that stays as it is. A command that is sent begins anew
+-- what the wire below does; at a silence by the clock that stays as it is. A command that is sent begins anew
 abbrev pub Lapses : {W : Type 0} → (Act → W → W → Type 0) → (lapsed : Bool) → (since' : Since) → Act → W → W → Type 0
 Lapses does lapsed since' (sends bytes) old new = does (sends bytes) old new × (since' ≡ since.Nothing)
 Lapses does true since' (brings what) old new = (what ≡ silence) × (new ≡ old)

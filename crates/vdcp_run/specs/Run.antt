@@ -48,7 +48,7 @@ plan_for settings items = record {
   limit = settings.limit;
 }
 
--- the event that a new controller begins with: the one that is said, or else the list's first
+-- the event that a new controller begins with: the one that is named, or else the list's first
 abbrev pub first_event : Option ℕ → ℕ
 first_event from = unwrap_or from 0
 
@@ -83,7 +83,7 @@ IsUnlisted (Some (journals.New name)) failure = failure ≡ failures.Memory
 IsUnlisted (Some (journals.Older name)) failure = Unit {0}
 IsUnlisted (Some (journals.Again name)) failure = Unit {0}
 
--- where no file is named nothing is written, and that is no failure
+-- if no file is named nothing is written, and that is no failure
 abbrev pub MayBeUnwritten : Option (Bor (List ℕ)) → Option RunJournal → Option Failure → Type 0
 MayBeUnwritten name journal None = Unit {0}
 MayBeUnwritten None journal (Some failure) = ⊥
@@ -105,7 +105,7 @@ reported_text rate items controller =
     events_text rate (has_part (items controller.source.source)) controller.source.from
     (take controller.state.settled (drop controller.source.from (items controller.source.source)))
 
--- the text that the file gets: where a journal goes on all that it shows
+-- the text that the file gets: if a journal goes on, all that this shows
 abbrev pub IsListed : {S : Type 0} → (S → List Item) → Rate → Option RunJournal → View (FromEvent S) → List ℕ → Type 0
 IsListed items rate None controller text = text ≡ reported_text rate items controller
 IsListed items rate (Some (journals.New name)) controller text = text ≡ reported_text rate items controller
@@ -123,7 +123,7 @@ name_of (journals.New name) = name
 name_of (journals.Older name) = name
 name_of (journals.Again name) = name
 
--- that of the journal that a recorder writes, where there is one
+-- that of the journal that a recorder writes, if there is one
 abbrev pub journal_of : {F : Type 0} → Option (Recording F) → Option (Bor (List ℕ))
 journal_of recorder = option_map (λ r. r.name) recorder
 
@@ -196,7 +196,7 @@ outcome_status (Some (Refused k)) = 1
 outcome_status (Some (Foreign k)) = 1
 outcome_status (Some (Strange k)) = 1
 
--- 3 where there is a failure
+-- 3 if there is a failure
 abbrev pub status_unless : Option Failure → ℕ → ℕ
 status_unless None status = status
 status_unless (Some failure) status = 3
@@ -210,7 +210,7 @@ run_status end =
 
 -- this is the end of a controller that was made with this plan: some calls led it to this state, and its log has the
 -- exchanges that they ended. The outcome and the first event that isn't reported are the state's, with the numbers of the
--- whole list. The line was unneeded only where the controller has ended, and where it has, the line was unneeded or it
+-- whole list. The line was unneeded only if the controller has ended, and if it has, the line was unneeded or it
 -- failed
 pub record IsEndOf (plan : Plan) (end : RunEnd) : Type 0 where
   pub log : List Exchange
@@ -243,7 +243,7 @@ pub record EndsRun {S : Type 0} (settings : RunSettings) (kept : Option (Bor (Li
   pub unwritten : MayBeUnwritten settings.asrun settings.journal end.unwritten
   pub unkept : MayBeUnkept kept end.unkept
 
--- A run begins so, with this recorder, if its controller hasn't ended: where the last run of some journal of these items
+-- A run begins so, with this recorder, if its controller hasn't ended: if the last run of some journal of these items
 -- goes on, which is made with these settings, that nothing came is still to be written, if an exchange was open
 pub record GoesOn {F : Type 0} (settings : RunSettings) (items : List Item) (start : Start) (recorder : Option (Recording F))
     : Type 0 where
@@ -254,13 +254,13 @@ pub record GoesOn {F : Type 0} (settings : RunSettings) (items : List Item) (sta
   pub left : IfSome recorder
       (λ r. IsTimedOut (open_after (plan_of_run (heading_for settings items) items run) run.rows) r.pending)
 
--- where that is opened again, the event with which it begins
+-- if that is opened again, the event with which it begins
 pub record BeginsAgain {F : Type 0} (settings : RunSettings) (items : List Item) (start : Start)
     (recorder : Option (Recording F)) : Type 0 where
   pub opened : IsOpenedAgain items (heading_for settings items) settings.from start.from start.plan start.state
   pub left : IfSome recorder (λ r. NotesFrom (Some start.from) r.pending)
 
--- a new controller of these items, with the event that is said, or else the first one
+-- a new controller of these items, with the event that is named, or else the first one
 abbrev pub BeginsNew : RunSettings → List Item → Start → Type 0
 BeginsNew settings items begun = (begun.from ≡ first_event settings.from)
     × (begun.plan ≡ plan_for settings (drop (first_event settings.from) items)) × (begun.state ≡ turns.start)
@@ -315,7 +315,7 @@ pub record IsRun (settings : RunSettings) (list : File) (out out' : Option (List
   pub gained : Appends out out' (end_text end)
   pub status_is : status ≡ run_status end
 
--- the number of the event to begin with, if it is said, is above the list's length
+-- the number of the event to begin with, if one is named, is above the list's length
 abbrev pub IsNoEvent : Option ℕ → List Item → Failure → Type 0
 IsNoEvent None items failure = ⊥
 IsNoEvent (Some event) items failure = (length items < event) × (failure ≡ failures.NoEvent event)

@@ -100,8 +100,8 @@ pub record Parts (E W F V : Type 0) : Type 1 where
   pub plan : Plan
   pub unit : ℕ
 
--- a run of at most so many listens gave this answer: before each command went out its journal, if it has one, had the rows
--- safe that were due
+-- a run of at most this many listens gave this answer: before each command went out its journal, if it has one, had
+-- the rows safe that were due
 abbrev pub Runs : {E W F V : Type 0} → Parts E W F V → ℕ → Result Ran KeptFault → Playing E W F V → Playing E W F V → Type 0
 Runs parts count answer old new = HasRun (rules_of parts.does parts.safe parts.sees) parts.fold parts.plan parts.unit count
     old.auto new.auto old.world new.world answer
@@ -133,7 +133,7 @@ abbrev pub Rounds : {E W F V : Type 0} → Parts E W F V → Option Call → Pla
 Rounds {E} {W} {F} {V} parts said old new =
     (asked : Playing E W F V) × IsGiven parts.safe said old asked × Runs parts 1 (Ok ran.Spent) asked new
 
--- how it ended, with so many listens left
+-- how it ended, with this many listens left
 pub data LastRound {E W F V : Type 0} (parts : Parts E W F V) (left : ℕ) (answer : Result Ran KeptFault)
     (old new : Playing E W F V) : Type 0 where
   -- none was left
@@ -150,7 +150,7 @@ pub data LastRound {E W F V : Type 0} (parts : Parts E W F V) (left : ℕ) (answ
         world = record { wire = old.world.wire; keep = new.world.keep; watch = old.world.watch };
       } → LastRound parts left answer old new
 
--- a run of at most so many listens gave this answer: before each of them the operator said this
+-- a run of at most this many listens gave this answer: before each of them the operator said this
 pub record HasOperated {E W F V : Type 0} (parts : Parts E W F V) (count : ℕ) (answer : Result Ran KeptFault)
     (old new : Playing E W F V) : Type 0 where
   pub said : List (Option Call)
@@ -192,7 +192,7 @@ HasPlayed operated (hears.AtOnce poll) does safe sees unit listens start world w
 
 -- ---- the questions to the port before it
 
--- over this wire it was asked, if it was to be, and gave this answer, which left the wire so, and so many listens
+-- over this wire it was asked, if it was to be, and gave this answer, which left the wire so, and this many listens
 pub record IsAsked {W : Type 0} (told : W → Option Told) (settings : RunSettings) (start : Start) (wire wire' : W)
     (left : ℕ) (answer : Result Vacancy WireFault) : Type 0 where
   pub unasked : settings.ask ≡ false → (answer ≡ Ok vacancy.Vacant) × (wire' ≡ wire) × (left ≡ settings.listens)
@@ -224,7 +224,7 @@ pub data HasTried {W V F : Type 0} (told : W → Option Told) (does : Act → W 
 
 -- ---- over a connection
 
--- where answers are heard at once a silence may come by the clock, which the wire below doesn't tell
+-- if answers are heard at once a silence may come by the clock, which the wire below doesn't tell
 abbrev pub does_by : {W : Type 0} → Hearing → (Act → W → W → Type 0) → Act → W → W → Type 0
 does_by hears.AtSilences does = does
 does_by (hears.AtOnce poll) does = MayLapse does
@@ -240,7 +240,7 @@ TriesOver told does safe settings start wire recorder end =
     HasTried (told_by settings.hearing told) (does_by settings.hearing does) safe unseen settings start (over wire recorder) tt
     end
 
--- a session of a connection: nothing went out where its controller had ended before, or the connection was no wire
+-- a session of a connection: nothing went out if its controller had ended before, or the connection was no wire
 pub data HasSession {F : Type 0} (safe : F → Option (List ℕ)) (settings : RunSettings) (start : Start)
     (recorder : Option (Recording F)) (end : RunEnd) : Type 0 where
   had_ended : IsSome (outcome_of start.state.stage) → end.line ≡ line_end.Unneeded

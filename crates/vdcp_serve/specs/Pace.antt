@@ -36,7 +36,7 @@ is_over bursts.Sound silent = false
 is_over bursts.Faulty silent = silent
 is_over bursts.Skipped silent = false
 
--- how what comes reads behind a silence that was answered, and where bytes come
+-- how what comes reads behind a silence that was answered, and once bytes come
 abbrev pub after_silence : Burst → (silent : Bool) → Burst
 after_silence bursts.Faulty false = bursts.Skipped
 after_silence bursts.Skipped false = bursts.Skipped

@@ -61,8 +61,8 @@ page_bytes v = v.page.now
 abbrev pub state_bytes : PortView → List ℕ
 state_bytes v = compact_text (seen_data v)
 
--- who asked was answered by the port as it is: its access, its slots with the frames that are left and its state byte,
--- and by what went to air and who is connected
+-- requests were answered by the port as it is: its access, its slots with the frames that are left and its state byte,
+-- and by what went to air and the address that is connected
 pub record ShowsPort (rate : Rate) (p : ClockedPort) (aired : List Airing) (from : Option (String Global)) (names : Names)
     : Type 0 where
   pub view : PortView

@@ -62,7 +62,7 @@ counts-frames number label_at goes (suc n) a =
       omega (arith, more.1),
     )
 
--- where the labels count from a, one that stands in the list has as its number a and those before it
+-- if the labels count from a, one that stands in the list has as its number a and those before it
 pub number_in : (number : Label → ℕ) (label : Label) (a : ℕ) (xs : List Label)
     → ((other : Label) → is_same label other ≡ true → number other ≡ number label)
     → CountsFrom number a xs → list_any (is_same label) xs ≡ true → a + labels_before label xs ≡ number label

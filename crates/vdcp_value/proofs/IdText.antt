@@ -113,7 +113,7 @@ trim-last xs n len last =
     ∙ ap (λ x. take n xs ++ x ∷ []) last in
     sym (ap without_end_spaces whole ∙ trim-push (take n xs))
 
--- and where there is none nothing goes
+-- and if there is none nothing goes
 pub trim-none : (xs : List ℕ) → 1 ≤ length xs → nat_eq (get_or xs (length xs - 1) 0) 32 ≡ false →
     without_end_spaces xs ≡ xs
 trim-none [] some last = absurd (omega (arith, some))

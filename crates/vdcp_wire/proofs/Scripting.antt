@@ -9,7 +9,7 @@ use Rattle.vdcp_wire.specs.Scripts.{arrivals, brought_in_all, closes}
 use Rattle.vdcp_wire.specs.Wires.{Arrival, bytes, Told, SendsFront, adds_came, arrival_of, brought, has_closed}
 use Rattle.vdcp_wire.specs.WireLaws.{closed_bytes, closed_silence, closed_close}
 
--- what a listen gave, where more bytes stand after
+-- what a listen gave, if more bytes stand after
 front_stays : (c : Came) (all more : List ℕ) → brought c ≤ length all → arrival_of c (all ++ more) ≡ arrival_of c all
 front_stays (Bytes n) all more within = ap bytes (take-append-le n all more within)
 front_stays Silence all more within = refl
@@ -67,7 +67,7 @@ closed_by arrived (Bytes n) buffer h = sym (closed_bytes arrived (take n buffer)
 closed_by arrived Silence buffer h = sym (closed_silence arrived ∙ h)
 closed_by arrived Closed buffer h = sym (closed_close arrived)
 
--- a beginning of the bytes, or nothing where there was no room
+-- a beginning of the bytes, or nothing if there was no room
 pub sends_some : (t : Told) (octets piece rest sent : List ℕ) (grown : Bool) → octets ≡ piece ++ rest
     → sent ≡ (if grown then t.sent ++ piece else t.sent)
     → SendsFront octets (Some t) (Some (record { sent = sent; came = t.came; drops = t.drops }))

@@ -163,7 +163,7 @@ first_read f m more ms end fits reads =
     f.first (m ∷ []) ms (spelling m) more end (one_spelt m (spelling m) spelt)
     (omega (arith, spelling_size m (spelling m) spelt)) reads
 
--- and alone, where nothing does
+-- and alone, if nothing does
 read_only : FrameLaws → (m : Content) (ms : List Content) (end : End) → Fits m → Reads (spelling m) ms end →
     (ms ≡ m ∷ []) × (end ≡ clean)
 read_only f m ms end fits reads =

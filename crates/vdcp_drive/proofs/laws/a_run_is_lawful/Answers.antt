@@ -10,7 +10,7 @@ use Rattle.vdcp_drive.specs.Bursts.{is_within_burst}
 use Rattle.vdcp_drive.specs.Courses.{inputs_of, left_behind}
 use Rattle.vdcp_drive.proofs.laws.a_run_is_lawful.Goals as goal
 
--- also where its next command was given since
+-- also if its next command was given since
 given_since : (plan : Plan) (state : State) (log : List Exchange) (within : Bool) → Reached plan state log
     → Reached plan (if within then ticked state else state) log
 given_since plan state log true h = called h Tick

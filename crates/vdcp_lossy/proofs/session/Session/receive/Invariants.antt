@@ -4,7 +4,7 @@ use Rattle.std.specs.Io.KnownBytes.{Keeps}
 use Rattle.vdcp_lossy.specs.Carried.{sent_by}
 use Rattle.vdcp_lossy.proofs.session.Session.receive.Given as goal
 
--- where bytes came, some are held, or the burst is too long
+-- if bytes came, some are held, or the burst is too long
 abbrev pub invariant-listens : goal.invariant-listens
 invariant-listens g l = record {
   works : g.W.Wire.failures l.wire ≡ 0;
