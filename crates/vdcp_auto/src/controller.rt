@@ -240,7 +240,7 @@ impl<S: Source> Controller<S> {
         &self.source
     }
 
-    /// Takes what came. Nothing changes where nothing is awaited. In confirm mode receipts change
+    /// Takes what came. Nothing changes if nothing is awaited. In confirm mode receipts change
     /// nothing, and nothing that comes does while a command is awaited that only a receipt answers.
     pub fn hear(&mut self, heard: &Heard)
         ensures { self.new ≡ record self.old {
@@ -250,7 +250,7 @@ impl<S: Source> Controller<S> {
         self.receive(Some(*heard));
     }
 
-    /// Nothing came in time. Nothing changes where nothing is awaited.
+    /// Nothing came in time. Nothing changes if nothing is awaited.
     pub fn timeout(&mut self)
         ensures { self.new ≡ record self.old {
           state = turns.came_to (plan_of S.items self.old) None self.old.state;
@@ -305,7 +305,7 @@ impl<S: Source> Controller<S> {
         }
     }
 
-    /// The wishes of `take` and `stop` that the controller hasn't acted on are forgotten, as where an
+    /// The wishes of `take` and `stop` that the controller hasn't acted on are forgotten, as if an
     /// automation is started anew.
     pub fn forget(&mut self)
         ensures { self.new ≡ record self.old { state = turns.forgotten self.old.state } }
@@ -314,7 +314,7 @@ impl<S: Source> Controller<S> {
         self.stop = false;
     }
 
-    /// Gives the next command, and awaits its answer. None where there is nothing to send: an answer is
+    /// Gives the next command, and awaits its answer. None if there is nothing to send: an answer is
     /// still awaited, or the controller has ended.
     pub fn tick(&mut self) -> Option<Command>
         ensures command { result ≡ turns.given (plan_of S.items self.old) self.old.state }

@@ -35,7 +35,7 @@ pub enum Mode {
 /// ```
 ///
 /// After the operator's stop the next tick goes to Halt, and from there to HaltClose, but not from
-/// Close, Halt and HaltClose. Close ends Done, and HaltClose Stopped; the other ends can come where
+/// Close, Halt and HaltClose. Close ends Done, and HaltClose Stopped; the other ends can come if
 /// a reply says so, and Lost wherever an answer is awaited.
 #[derive(Clone, Copy, Debug, PartialEq, Eq)]
 pub enum Phase {

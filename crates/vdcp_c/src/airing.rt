@@ -16,7 +16,7 @@ pub struct vdcp_airing {
     pub id: [u8; 8],
     pub start: [u8; 4],
     pub duration: [u8; 4],
-    /// 0 where there is none, 1 a whole clip, 2 a part.
+    /// 0: there is none; 1: a whole clip; 2: a part.
     pub what: u32,
     /// The frames left.
     pub left: u32,

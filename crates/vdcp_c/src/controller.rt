@@ -40,7 +40,7 @@ pub struct vdcp_controller {
     pub unanswered: u32,
     pub tries: u32,
     pub unused2: u32,
-    /// The event of the phase or the outcome; 0 where it names none.
+    /// The event of the phase or the outcome; 0 if it names none.
     pub event: u64,
     /// How many events it takes for aired.
     pub settled: u64,

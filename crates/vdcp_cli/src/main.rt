@@ -29,7 +29,7 @@ fn main(rt: HostRuntime) -> ExitCode {
 
 // Reads the arguments of the command line and runs what they ask for.
 fn run_words(rt: &HostRuntime) -> Result<u8, Failure<'static>> {
-    // Where a standard stream is closed, the next file or connection would get its descriptor, and with it what
+    // If a standard stream is closed, the next file or connection would get its descriptor, and with it what
     // is printed. So these three take the descriptors first.
     let _input = open_nothing(rt)?;
     let _output = open_nothing(rt)?;

@@ -79,7 +79,7 @@ fn clips_of<'a>(
     }
 }
 
-// The operator's hand in a run; or the status, where its page or its start is refused.
+// The operator's hand in a run; or the status, if its page or its start is refused.
 fn hand_of<'a, E: Write>(
     system: &'a System<'_>,
     matches: &ArgMatches<'_>,
@@ -128,7 +128,7 @@ fn journal_of<'a>(matches: &'a ArgMatches<'_>) -> Option<RunJournal<'a>> {
     }
 }
 
-// Whether a journal that is gone on with is opened again. Where an event to begin with is said, it is.
+// Whether a journal that is gone on with is opened again: also if an event to begin with is named.
 fn opens_again(matches: &ArgMatches) -> bool {
     matches.get_flag("open-again") || matches.get_str("from").is_some()
 }

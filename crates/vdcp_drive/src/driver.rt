@@ -155,7 +155,7 @@ impl<S: Source, E: Ear, W: Wire> Driver<S, E, W> {
         }
     }
 
-    /// As `run_with`, where nobody watches, nothing is kept and nothing waits.
+    /// As `run_with`, but nobody watches, nothing is kept and nothing waits.
     pub(crate) fn run_on(&mut self, listens: u64) -> Result<Ran, DriveFault>
         ensures tells { IfOk result (λ r. (t : Told) → W.told self.old.wire ≡ Some t → has_closed t.came ≡ false →
             IfTold (W.told self.new.wire) (λ u. RunsOn E.fold (plan_of S.items self.old.controller) self.old.unit

@@ -58,7 +58,7 @@ pub trait Keep {
     ghost can_fail: { Type 0 } = { ⊤ };
 
     /// It is given a command to this unit, and its bytes, before the first of them goes out, and makes it safe, with all
-    /// that it noted before. Where it fails, the command may be missing, and the end of the exchange before it.
+    /// that it noted before. If it fails, the command may be missing, and the end of the exchange before it.
     fn keep_sent(&mut self, unit: u8, command: &Command, bytes: &[u8]) -> Result<(), KeepFault>
         requires { bytes.now ≡ spelling (command_message unit command.now) }
         ensures kept { OnOk result (adds (kept.Sent command.now) self.old self.new) }

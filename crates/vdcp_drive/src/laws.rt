@@ -65,7 +65,7 @@ pub(crate) fn laws_below()
 pub fn a_new_run_is_a_course()
     ensures run { (plan : Plan) (unit count : ℕ) (a' : Auto Burst) (r : Ran) (u : Told) →
         RunsOn at_silences plan unit count new_auto a' r nothing_told u → HasCourse plan unit u a'.state }
-    // also where the wire failed
+    // also if the wire failed
     ensures broken { (plan : Plan) (unit : ℕ) (a' : Auto Burst) (u : Told) →
         BreaksOn at_silences plan unit new_auto a' nothing_told u → HasCourseBroken plan unit u a'.state }
 {
@@ -74,7 +74,7 @@ pub fn a_new_run_is_a_course()
 
 /// What holds of every controller and its log holds of the controller that such a run leaves and of the course of what
 /// came: its count of settled events is what the course shows to be settled, the rule book allows each command that was
-/// sent, and the rest; also where the wire failed. (Of other automations: `a_run_is_reached`.)
+/// sent, and the rest; also if the wire failed. (Of other automations: `a_run_is_reached`.)
 pub fn a_run_is_lawful()
     ensures run { (plan : Plan) (unit : ℕ) (told : Told) (state : State) → 1 ≤ plan.limit → plan.limit ≤ 1000 →
         HasCourse plan unit told state → IsLawful plan state (course plan (inputs_of unit told.came)) }

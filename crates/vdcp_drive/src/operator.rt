@@ -39,8 +39,8 @@ pub trait Operator<S: Source> {
 }
 
 impl<S: Source, E: Ear, W: Wire> Driver<S, E, W> {
-    /// As `run_with`, with an operator, who is asked before each listen unless the controller has ended. A call is kept
-    /// before it is given. `Unkept` also if a call can't be kept: it isn't given then.
+    /// As `run_with`, with an operator, asked before each listen unless the controller has ended. A call is kept
+    /// before it is given. The run fails as `Unkept` also if a call can't be kept: it isn't given then.
     pub fn run_operated<V: Watch<S>, K: Keep, O: Operator<S>>(
         &mut self,
         listens: u64,

@@ -21,7 +21,7 @@ pub fn keep_older<R: Files + AllocGlobal>(rt: &R, name: &str) -> io::Result<Opti
             Ok(()) => return Ok(Some(kept)),
             Err(error) if error.kind() == ErrorKind::AlreadyExists => {}
             Err(_) => {
-                // (where a file can't have two names it changes its own, which for a moment no file has)
+                // (if a file can't have two names it changes its own, which for a moment no file has)
                 fs::rename(rt, name, kept.as_str())?;
                 return Ok(None);
             }

@@ -1,6 +1,6 @@
 //! Messages of the Video Disk Communications Protocol, in its unextended form.
 //!
-//! A burst is what comes in one direction from one silence to the next. Where a whole burst lies in
+//! A burst is what comes in one direction from one silence to the next. If a whole burst lies in
 //! memory, `Messages` gives its messages one after another, and then how it ends:
 //!
 //! ```text
@@ -13,7 +13,7 @@
 //!
 //! `read_at` is one step of such a walk, for a caller that keeps its place itself.
 //!
-//! Where a burst comes in pieces, a `Reader` holds what has come of a message:
+//! If a burst comes in pieces, a `Reader` holds what has come of a message:
 //!
 //! ```text
 //! for each piece that comes {

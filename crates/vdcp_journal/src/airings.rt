@@ -96,7 +96,7 @@ impl<S: Source + Drop> AiringsSoFar<S> {
         }
     }
 
-    /// Takes the row that comes next, after fewer than 2^64 - 1. Where memory is refused it is of no more use.
+    /// Takes the row that comes next, after fewer than 2^64 - 1. If memory is refused it is of no more use.
     pub fn add(&mut self, row: &Row) -> Result<(), AllocError>
         ensures { (mode : Mode) (rows : List Row) → FoundSoFar S.items mode rows self.old → length rows + 1 < 2 ^ 64 →
             OnOk result (FoundSoFar S.items mode (rows ++ row.now ∷ []) self.new) }

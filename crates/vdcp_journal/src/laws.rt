@@ -65,7 +65,7 @@ pub fn a_cut_journal_is_a_front_of_its_rows()
     an_id_has_one_text();
 }
 
-/// Where rows leave out only what says nothing new, they tell what the controller does, make it what it was, and show as
+/// If rows leave out only what says nothing new, they tell what the controller does, make it what it was, and show as
 /// many events aired, and whether one more may have.
 pub fn a_thinned_journal_makes_the_same()
     ensures makes { (plan : Plan) (all rows : List Row) → AreThinned all rows → AreTold plan start all →

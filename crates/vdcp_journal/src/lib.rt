@@ -9,7 +9,7 @@
 //! `JournalRows` reads a journal's rows, one after another, and `WholeLines` leaves out a last one that was torn.
 //!
 //! A journal may have the rows of several runs, one after another: `begins_at` says whether a row begins another one.
-//! `RunSoFar` makes the controller of a run anew, row by row; where the run was lost it goes on under a greater limit.
+//! `RunSoFar` makes the controller of a run anew, row by row; if the run was lost it goes on under a greater limit.
 //! `AiringsSoFar` finds when each reported event aired, and which event may have aired besides.
 //!
 //! Files, in reading order: `moment`, `digest`, `row`, `fields`, `texts`, `write`, `whole`, `size`, `read`, `faults`,

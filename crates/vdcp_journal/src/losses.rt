@@ -5,8 +5,8 @@ ghost use Rattle.vdcp_journal.specs.Resume.{is_loss, limit_after};
 use crate::row::Note;
 use vdcp_auto::Outcome;
 
-/// The limit under which a run goes on that was begun with a limit of 1 to 1,000 and lost so often: each time it may leave
-/// as many exchanges more unanswered, up to 1,000 in a row in all.
+/// The limit under which a run goes on that was begun with a limit of 1 to 1,000 and lost this often: each time it may
+/// leave as many exchanges more unanswered, up to 1,000 in a row in all.
 pub(crate) fn limit_after(limit: u32, lost: u32) -> u32
     requires some { 1 ≤ limit }
     requires few { limit ≤ 1000 }

@@ -216,8 +216,8 @@ impl<R: Read + Drop> JournalRows<R> {
     /// Reads the heading of the journal that a reader gives, as CSV. It is to give whole rows: `WholeLines` leaves out one
     /// that is torn.
     ///
-    /// `Empty` where there is no row, `Heading` where the first one is no heading, and `Long`, `Memory` or `Device`
-    /// where it can't be read.
+    /// The fault is `Empty` if there is no row, `Heading` if the first one is no heading, and `Long`, `Memory` or
+    /// `Device` if it can't be read.
     pub fn begin(alloc: Global, reader: R) -> Result<JournalRows<R>, JournalReadFault>
         ensures begun { IfOk result (λ journal. TookRows R.remaining (R.remaining reader) journal []) }
         ensures refused { IfErr result (IsJournalFault (R.remaining reader)) }
@@ -242,8 +242,8 @@ impl<R: Read + Drop> JournalRows<R> {
         }
     }
 
-    /// The next row, or None at the end. `Row` where it isn't the row of a journal of this heading, and `Long`, `Memory` or
-    /// `Device` where it can't be read. After the end and after a fault no row can be asked for.
+    /// The next row, or None at the end. The fault is `Row` if it isn't the row of a journal of this heading, and
+    /// `Long`, `Memory` or `Device` if it can't be read. After the end and after a fault no row can be asked for.
     pub fn next_row(&mut self) -> Result<Option<Row>, JournalReadFault>
         requires { IsReading self.old }
         ensures reading { IfOk result (λ found. OnSome found (IsReading self.new)) }

@@ -75,8 +75,9 @@ impl<'s, S: Source> RunSoFar<'s, S> {
         }
     }
 
-    /// Takes the next row, if the controller does there what it notes. `Command` where it sends another command or none,
-    /// `Unawaited` where it awaits nothing or not that, and `Outcome` where it hasn't ended so; then the run is of no more use.
+    /// Takes the next row, if the controller does there what it notes. The fault is `Command` if it sends another
+    /// command or none, `Unawaited` if it awaits nothing or not that, and `Outcome` if it hasn't ended so; then the run
+    /// is of no more use.
     pub fn follow(&mut self, row: &Row) -> Result<(), ResumeFault>
         ensures stands { (plan : Plan) (source : FromEvent (Bor S)) (rows : List Row)
             → IsMadeBy (items_left (λ s. S.items s.now)) plan source rows self.old

@@ -67,7 +67,7 @@ impl<R: Read> WholeLines<R> {
         None
     }
 
-    // Finds the next line, if there is one, where each that was found was given.
+    // Finds the next line, if there is one, once each that was found was given.
     fn find_line(&mut self) -> io::Result<()>
         ensures kept { Keeps (lines_left R.remaining self.old) (lines_left R.remaining self.new) }
         ensures none { OnOk result (self.new.given ≡ self.new.whole → IsAtEnd (lines_left R.remaining self.new)) }

@@ -20,11 +20,11 @@ use vdcp_journal::Heading;
 use vdcp_list::Rest;
 use vdcp_text::Failure;
 
-/// Begins a new controller after the last run of the journal of this name, where it is one of what is wanted: at the event
-/// of this number, if the operator says one, or else at the first that the run doesn't report. Where that may have aired,
-/// `MayHaveAired`; for a number above the list's length, `NoEvent`. A run that is done or stopped is told again, where
-/// the operator says nothing. The row that says where the controller begins is written with the first command. Where
-/// it is refused nothing is written.
+/// Begins a new controller after the last run of the journal of this name, if it is one of what is wanted: at the event
+/// of this number, if the operator says one, or else at the first that the run doesn't report. The failure is
+/// `MayHaveAired` if that may have aired, and `NoEvent` if the number is above the list's length. If the operator says
+/// nothing, the end of a run that is done or stopped is told again. The row that says where the controller begins is
+/// written with the first command. If no run begins nothing is written.
 pub fn begin_again<'a, 'r, 's, R: Files<File = File> + Clock + AllocGlobal, S: Source>(
     rt: &'r R,
     name: &'a str,

@@ -41,9 +41,9 @@ pub struct AsrunSettings {
 /// Prints the as-run list that a journal of this list shows: run by run, the events that a controller given the run's rows
 /// reports, and the times of each if they are wanted. A torn last row counts as none.
 ///
-/// The status is 0 where it is printed, 1 where a row of the list or of the journal is refused, or the list isn't the
-/// journal's, and 3 where a file can't be read, memory was refused or a writer failed. The list is read first. Where it
-/// isn't 0, `err` gets one line, unless it was a writer that failed. Where it is 0, `err` gets a line for each run whose
+/// The status is 0 if it is printed, 1 if a row of the list or of the journal is refused, or the list isn't the
+/// journal's, and 3 if a file can't be read, memory was refused or a writer failed. The list is read first. If it
+/// isn't 0, `err` gets one line, unless it was a writer that failed. If it is 0, `err` gets a line for each run whose
 /// next event may have aired.
 pub fn do_asrun<J: io::Read + Drop, L: io::Read + Drop, W: io::Write, E: io::Write>(
     alloc: Global,

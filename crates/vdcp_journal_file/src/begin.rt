@@ -9,9 +9,10 @@ use std::rt::{Clock, Files};
 use vdcp_journal::Heading;
 use vdcp_text::Failure;
 
-/// Makes a journal: its file, with the first row. Both are safe then, if the system can say that of a folder. The event that
-/// the run begins with, if it is said, is written with the first command.
-/// `Exists` if there is a file of this name, which stays as it is; else `Open`, `InUse`, `Write` or `Memory`.
+/// Makes a journal: its file, with the first row. Both are safe then, if the system can say that of a folder. The event
+/// that the run begins with, if one is named, is written with the first command.
+/// The failure is `Exists` if there is a file of this name, which stays as it is; else `Open`, `InUse`, `Write` or
+/// `Memory`.
 pub fn begin_journal<'a, 'r, R: Files<File = File> + Clock + AllocGlobal>(
     rt: &'r R,
     name: &'a str,

@@ -110,8 +110,8 @@ pub(crate) fn mend_end<'a, R: Clock + AllocGlobal, S: Source>(
     }
 }
 
-// The last run of a journal's file, but for a last row that asks for the state: that may have gone out with or without one.
-// Where there is such a row, how many bytes stand before it.
+// The last run of a journal's file, but for a last row that asks for the state, which may have gone out with or without
+// one; and how many bytes stand before such a row, if there is one.
 fn replay_kept<'a, 's, S: Source>(
     alloc: Global,
     name: &'a str,
@@ -131,8 +131,8 @@ fn replay_kept<'a, 's, S: Source>(
     Ok((front.run, Some(before_last)))
 }
 
-// What may have been sent and heard since the last row. The next command, where it asks for the state, or is a PLAY; and,
-// where the last state announces a PLAY, that, with a state before it that lets it go out.
+// What may have been sent and heard since the last row: the next command, if it asks for the state, or is a PLAY; and,
+// if the last state announces a PLAY, that, with a state before it that lets it go out.
 fn unkept<S: Source>(run: &LastRun<'_, S>) -> [Option<Note>; 3] {
     let next = match (run.open, run.controller.to_send()) {
         (None, Some(command @ (Command::Status(_) | Command::Play))) => Some(Note::Sent(command)),
@@ -148,7 +148,7 @@ fn unkept<S: Source>(run: &LastRun<'_, S>) -> [Option<Note>; 3] {
     }
 }
 
-// The state that a PLAY goes out after, where the controller waits for the clip before to end, and the last row announces
+// The state that a PLAY goes out after, if the controller waits for the clip before to end, and the last row announces
 // the PLAY: what that row says, but that nothing plays.
 fn announcing<S: Source>(run: &LastRun<'_, S>) -> Option<Heard> {
     let waits = matches!(

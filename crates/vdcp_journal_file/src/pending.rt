@@ -136,14 +136,14 @@ impl Pending {
         }
     }
 
-    /// Whether what is pending says nothing new where this goes out next: the same was seen twice, and is asked again.
+    /// Whether what is pending says nothing new if this goes out next: the same was seen twice, and is asked again.
     pub(crate) fn says_nothing_new(self, next: Note) -> bool
         ensures { result ≡ says_nothing_new self next }
     {
         is_again(self.seen_before(), self.seen_last(), next)
     }
 
-    /// With this row, where it is of a PLAY that goes out next, and is announced.
+    /// With this row, if it is of a PLAY that goes out next, and is announced.
     pub(crate) fn with_play(self, row: Row) -> Option<Pending>
         ensures held { IfSome result (λ held. (held ≡ with_play self row) × (is_announced self row.note ≡ true)) }
         ensures unannounced { IfNone result (is_announced self row.note ≡ false) }

@@ -77,8 +77,8 @@ pub(crate) struct Replayed<'s, S: Source> {
 }
 
 /// Gives the rows of the last run of a journal to a new controller of the list's events from the run's first on, and times
-/// out the exchange that was open. `JournalRow` where it is no journal of what is wanted, `Read` where it can't be read,
-/// and `Memory`.
+/// out the exchange that was open. The failure is `JournalRow` if it is no journal of what is wanted, `Read` if it
+/// can't be read, or `Memory`.
 pub(crate) fn replay<'a, 's, S: Source, I: io::Read + Drop>(
     alloc: Global,
     name: &'a str,
@@ -105,7 +105,7 @@ pub(crate) fn replay<'a, 's, S: Source, I: io::Read + Drop>(
     }
 }
 
-// Why a journal's lines are refused, where one may be too long.
+// Why a journal's lines are refused: one is too long, if there is such a one, and else this.
 pub(crate) fn refusal_of(long_line: Option<usize>, refusal: Refusal) -> Refusal
     ensures long { IfSome long_line (λ row. result ≡ refusals.Row row faults.Long) }
     ensures other { IfNone long_line (result ≡ refusal) }
@@ -191,8 +191,8 @@ fn the_last<'s, S: Source>(
     }
 }
 
-/// A run that begins with this event of a list, by the row of this number, under the settings of a heading. `Event` where the
-/// list has no such event.
+/// A run that begins with this event of a list, by the row of this number, under the settings of a heading. It is
+/// refused as `Event` if the list has no such event.
 pub(crate) fn begun<'s, S: Source>(
     source: &'s S,
     heading: &Heading,

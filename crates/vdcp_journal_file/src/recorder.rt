@@ -30,8 +30,8 @@ use vdcp_words::{Command, LONGEST};
 ///
 /// What ended an exchange is made safe before the next command goes out, in one with the row of that command. The row of
 /// a command that asks for the state is held back: it is written before the next command goes out, with what was heard,
-/// or left out where the same was asked and heard just before and is asked again. So a clip that plays on writes nothing.
-/// Where a state with the cue done, while a clip plays, stands last in the file, it announces a PLAY: that goes out at
+/// or left out if the same was asked and heard just before and is asked again. So a clip that plays on writes nothing.
+/// If a state with the cue done, while a clip plays, stands last in the file, it announces a PLAY: that goes out at
 /// once, and its row is written before the next command.
 /// After a failure nothing more is written.
 #[derive(Drop)]
@@ -112,7 +112,7 @@ impl<'a, 'r, R: Clock + AllocGlobal, F: Disk + Drop> Recorder<'a, 'r, R, F> {
     }
 
     // Makes safe what is due before a command goes out, or a call is given: all that is pending but what says nothing
-    // new, and its own row, which is held back where it asks for the state. A PLAY that is announced waits for nothing.
+    // new, and its own row, which is held back if it asks for the state. A PLAY that is announced waits for nothing.
     // `bytes` are those of the command; if they are None, they are made for its row.
     fn keep(&mut self, note: Note, bytes: Option<ArrayVec<u8, LONGEST>>) -> Result<(), RecordFault>
         requires { IfSome bytes (λ b. AreBytesOf self.old.unit b.items note) }
@@ -171,7 +171,7 @@ impl<'a, 'r, R: Clock + AllocGlobal, F: Disk + Drop> Recorder<'a, 'r, R, F> {
         });
     }
 
-    /// Notes the event that the run begins with, if it is said. It is written with the first command.
+    /// Notes the event that the run begins with, if one is named. It is written with the first command.
     pub(crate) fn note_from(&mut self, event: Option<usize>)
         requires { self.old.pending ≡ Nothing }
         ensures noted { NotesFrom event self.new.pending }

@@ -29,14 +29,14 @@ use vdcp_words::Command;
 pub struct Resumption<'a, 'r, R, S: Source> {
     /// It plays the list from an event on.
     pub controller: Controller<Rest<S>>,
-    /// It appends to the journal. None where the controller has ended: there is nothing to send.
+    /// It appends to the journal. None if the controller has ended: there is nothing to send.
     pub recorder: Option<Recorder<'a, 'r, R, File>>,
 }
 
-/// Goes on with the last run of the journal of this name, where it is one of what is wanted: gives its rows to a new
-/// controller of the list, and times out the exchange that was open. Where the run was lost, the controller may leave as
+/// Goes on with the last run of the journal of this name, if it is one of what is wanted: gives its rows to a new
+/// controller of the list, and times out the exchange that was open. If the run was lost, the controller may leave as
 /// many exchanges more unanswered, up to 1,000 in a row in all. A torn last row is cut off, and a torn first one is
-/// written. Where it is refused nothing is written.
+/// written. If it is refused nothing is written.
 pub fn resume_journal<'a, 'r, 's, R: Files<File = File> + Clock + AllocGlobal, S: Source>(
     rt: &'r R,
     name: &'a str,
@@ -64,7 +64,7 @@ pub fn resume_journal<'a, 'r, 's, R: Files<File = File> + Clock + AllocGlobal, S
     go_on(rt, name, wanted.unit, file, run)
 }
 
-/// Opens the file of this name. Where its first row was torn, that is written.
+/// Opens the file of this name. If its first row was torn, that is written.
 pub(crate) fn opened<'a, R: Files<File = File> + Clock + AllocGlobal>(
     rt: &R,
     name: &'a str,
@@ -170,7 +170,7 @@ fn size_left(whole: u64, all: u64) -> Option<u64>
     if whole < all { Some(whole) } else { None }
 }
 
-/// What goes on, in a file of whole rows. Where the controller has ended and no row says so, one is written.
+/// What goes on, in a file of whole rows. If the controller has ended and no row says so, one is written.
 pub(crate) fn go_on<'a, 'r, 's, R: Files<File = File> + Clock + AllocGlobal, S: Source>(
     rt: &'r R,
     name: &'a str,
@@ -208,7 +208,7 @@ pub(crate) fn go_on<'a, 'r, 's, R: Files<File = File> + Clock + AllocGlobal, S: 
     })
 }
 
-// What is still to be written where this command's exchange was timed out, if one was.
+// What is still to be written if this command's exchange was timed out, if one was.
 fn pending_after<R: Clock>(rt: &R, open: Option<Command>) -> Pending
     ensures pending { IsTimedOut «open» result }
     ensures ends { MayHold result }

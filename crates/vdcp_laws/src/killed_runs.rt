@@ -22,8 +22,8 @@ ghost use Rattle.vdcp_words.specs.declared.command.Command.TheVariants.{Play};
 /// Whatever happens on a line that keeps order, and however often the automation is killed and goes on from its
 /// journal, if no command goes out before its row is safe: the headline holds. A kill is no more than what a line could have
 /// done: since the notes that are safe no command was given out, all else may have happened, and what was awaited has timed
-/// out, which is noted (`goes_on`). Each row tells what a new controller does, and also where the journal leaves out what says
-/// nothing new, its rows give that the state of the one that runs.
+/// out, which is noted (`goes_on`). Each row tells what a new controller does, and also if the journal leaves out what
+/// says nothing new, its rows give that the state of the one that runs.
 pub fn a_killed_run_keeps_the_headline()
     ensures goes_on { (c : LateChannel) (notes : List Note) (since : List LateEvent) → IsRun c notes →
         All IsNoTick since → IsRun (gone_on c (after_late_events c since)) (notes ++ silence_notes c) }
@@ -52,10 +52,11 @@ pub fn what_asks_may_go_out_unkept()
         IsRun (asked_in_vain (gone_on c (after_late_events c since))) (notes ++ (note.Sent asks ∷ note.Silence ∷ [])) }
 {}
 
-/// Where what was heard last announces a PLAY, that may have gone out before its row was safe, whatever brought the state, and
-/// whether the state was asked since or not. If it did, the state was asked once more, its answer heard, and PLAY given. If it
-/// didn't, going on may take it for given and lost all the same (`goes`): a line could have had it so, on which the same state
-/// came once more, as a copy, after a take. Either way the rows may tell of any state that lets a PLAY go out (`shows`).
+/// If what was heard last announces a PLAY, that may have gone out before its row was safe, whatever brought the state,
+/// and whether the state was asked since or not. If it did, the state was asked once more, its answer heard, and PLAY
+/// given. If it didn't, going on may take it for given and lost all the same (`goes`): a line could have had it so, on
+/// which the same state came once more, as a copy, after a take. Either way the rows may tell of any state that lets a
+/// PLAY go out (`shows`).
 pub fn an_announced_play_may_go_out_unkept()
     ensures goes { (c : LateChannel) (notes : List Note) (h : Heard) (since : List LateEvent) → IsRun c notes →
         Announces c.plan c.state notes h → All IsNoTick since →

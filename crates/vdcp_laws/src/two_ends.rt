@@ -52,7 +52,7 @@ use vdcp_wire::Wire;
 
 /// An automation that hears at once and a server, joined by two streams of bytes that keep order, are a late channel: in
 /// whatever pieces and however late the bytes come, with time-outs at any moment, after questions to the port whose
-/// bytes and answers may still be on their way, and over one connection after another, where the automation was killed
+/// bytes and answers may still be on their way, and over one connection after another, if the automation was killed
 /// and went on from its journal, also with the PLAY that this announces, or the server was started anew. It is a run that
 /// has the journal's notes.
 pub fn two_ends_are_a_late_channel()
@@ -163,7 +163,8 @@ pub fn nothing_airs_after_a_complete_end()
 /// of that list.
 pub fn several_runs_air_a_beginning()
     ensures list { (list aired : List Item) → HaveAired list aired → (more : List Item) × (list ≡ aired ++ more) }
-    // that number is what a run's journal settles, where it shows that no event more may have aired, also as a kill left it
+    // that number is what a run's journal settles, if it shows that no event more may have aired, also as a kill left
+    // it
     ensures next { (plan : Plan) (port : ClockedPort) (asked : List Command) (kept now : Ends) (all rows asks : List Row) →
         CanJoin plan port asked → AreJoined plan port asked kept → IsSince plan port.state.unit kept now →
         notes_in all ≡ kept.notes → AreThinned all (rows ++ asks) → AsksAtMost asks →
@@ -205,7 +206,7 @@ pub fn a_kill_loses_what_came_since()
         AreJoined plan port asked kept → IsSince plan port.state.unit kept now → aired_now (with_kept kept now) ≡ aired_now now }
 {}
 
-/// The rows of a journal of these notes, also where it leaves out what may be left, make the automation's controller of a
+/// The rows of a journal of these notes, also if it leaves out what may be left, make the automation's controller of a
 /// new one, and each tells what the controller does there. The log that all of them show is the automation's, with the
 /// command that is awaited timed out.
 pub fn a_journal_makes_the_automation()
@@ -218,7 +219,7 @@ pub fn a_journal_makes_the_automation()
     ensures shows { (plan : Plan) (port : ClockedPort) (asked : List Command) (e : Ends) (all : List Row) →
         AreJoined plan port asked e → notes_in all ≡ e.notes →
         log_of all ≡ logged (log_now e) (ended_by plan None e.automation.state) }
-    // where they announce a PLAY, what goes on with it has these notes more
+    // if they announce a PLAY, what goes on with it has these notes more
     ensures announced { (plan : Plan) (port : ClockedPort) (e : Ends) (h : Heard) →
         Announces plan e.automation.state e.notes h →
         (connected_anew plan port (with_command plan (heard_again plan h e))).notes

@@ -18,7 +18,7 @@ use vdcp_value::{Item, Part, Rate, Timecode};
 
 /// Writes the as-run list of the first `reported` events of a source: a row each, of the event's
 /// number from 0 and its ID; and, if any event of the source has a part, of start and duration at
-/// this rate too, both empty for a whole clip. It is CSV with commas, quotes only where needed, and
+/// this rate too, both empty for a whole clip. It is CSV with commas, quotes only if needed, and
 /// line feeds.
 ///
 /// The parts of these events are tested first: `Time` is the first that isn't lawful at the rate, and

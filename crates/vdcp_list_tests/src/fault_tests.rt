@@ -5,7 +5,7 @@ use std::process::Abort;
 use vdcp_list::{ListFault, SlotFault, WriteFault};
 use vdcp_value::RowFault;
 
-/// The places of two values that are equal where they shouldn't be, or unequal where they should.
+/// The places of two values that are equal and shouldn't be, or unequal and should be equal.
 fn wrong_pair<T: PartialEq>(values: &[T]) -> Option<(usize, usize)> {
     for i in 0..values.len() {
         for j in 0..values.len() {

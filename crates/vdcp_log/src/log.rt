@@ -14,7 +14,7 @@ use vdcp_text::{EndText, ItemText, MeaningText, MessageText};
 use vdcp_value::{Item, Rate};
 use vdcp_wire::{Came, PIECE, Wire, WireFault};
 
-/// What is told for people while a channel is up, and where.
+/// What is told for people while a channel is up, and the writer that gets it.
 #[derive(Drop)]
 pub enum Telling<L> {
     Nothing,
@@ -132,7 +132,7 @@ impl fmt::Display for Direction {
 /// isn't clean, which are the lines of the burst's reading with words, but for `clean`; to a capture all bytes, and each
 /// silence after which an automation waits no longer. If neither is told, nothing is read.
 ///
-/// What comes is read as it is heard. Where that is at once, reading begins anew after each message, so a burst may have
+/// What comes is read as it is heard. If that is at once, reading begins anew after each message, so a burst may have
 /// any length, and what a silence has torn is read on. A row of a capture has the bytes of one message as it was heard, or
 /// all those up to a silence that can't be read.
 #[derive(Drop)]

@@ -4,7 +4,7 @@
 //! stand, and which events the exchanges show to be aired. Of the capture it takes nothing but its bytes, so it judges
 //! any automation. It reports a failure to standard error in one line, and gives the exit status.
 //!
-//! The capture is read line by line, and only what is told of it is kept.
+//! The capture is read line by line, and only what is printed of it is kept.
 //!
 //! Files, in reading order: `settings`, `capture`, `findings`, `told`.
 ghost use Rattle.std.specs.Io.KnownBytes.{Appends, Keeps};

@@ -17,13 +17,13 @@ use vdcp_log::Hearing;
 use vdcp_panel as panel;
 use vdcp_words::Command;
 
-/// How long a wait is cut into at most, so that who asks for the page is answered meanwhile, in milliseconds.
+/// How long a wait is cut into at most, so that requests for the page are answered meanwhile, in milliseconds.
 const PIECE: u64 = 20;
 
 /// How long before the start the connection is made, in milliseconds.
 const LEAD: u64 = 2_000;
 
-/// How many pieces of time the page is shown once the run has ended, so that who follows it sees that.
+/// How many pieces of time the page is shown once the run has ended, so that a browser that follows it sees that.
 const LINGER: u64 = 50;
 
 /// The hand that an operator has in a run: what is typed, the page, and when commands may go out.
@@ -45,7 +45,7 @@ pub struct Hand<'a, R: Clock, I: Read, E: Write> {
 
 impl<'a, R: Clock, I: Read + Drop, E: Write> Hand<'a, R, I, E> {
     /// A hand that reads calls there, has this page, and puts the first event to air then, since 1970, each if it is
-    /// there. What is typed and is no call is told. The port is asked for its state as often as `hearing` says.
+    /// there. What is typed and is no call is reported. The port is asked for its state as often as `hearing` says.
     pub fn new(
         clock: &'a R,
         typed: Option<I>,
@@ -74,7 +74,7 @@ impl<'a, R: Clock, I: Read + Drop, E: Write> Hand<'a, R, I, E> {
         }
     }
 
-    /// Waits until it is time to connect: two seconds before the start, if that is said, or at a call, which is held.
+    /// Waits until it is time to connect: two seconds before the start, if one is set, or at a call, which is held.
     pub fn await_lead<S: Source>(&mut self, controller: &Controller<Rest<S>>)
         ensures asks { self.old.held ≡ None →
             Asks I.remaining controller.now self.old.page self.old.typed self.new.held self.new.page self.new.typed }
@@ -128,7 +128,7 @@ impl<'a, R: Clock, I: Read + Drop, E: Write> Hand<'a, R, I, E> {
         None
     }
 
-    // The next call that was made, if there is one. Who asks for the page is answered.
+    // The next call that was made, if there is one. Requests for the page are answered.
     fn next<S: Source>(&mut self, controller: &Controller<Rest<S>>) -> Option<Call>
         ensures next { IsNext I.remaining controller.now self.old.page self.old.typed result self.new.page self.new.typed }
         ensures held { self.new.held ≡ self.old.held }
@@ -153,7 +153,7 @@ impl<'a, R: Clock, I: Read + Drop, E: Write> Hand<'a, R, I, E> {
         page.next_call()
     }
 
-    // The next call that is typed, if what was typed is one; if it is none, that is told.
+    // The next call that is typed, if what was typed is one; if it is none, that is reported.
     fn typed_call(&mut self) -> Option<Call>
         ensures typed { TypedCalls I.remaining self.old.typed result self.new.typed }
         ensures rest { self.new ≡ record self.old { typed = self.new.typed; told = self.new.told } }

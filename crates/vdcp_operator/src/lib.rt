@@ -1,7 +1,7 @@
 //! The operator of a run: calls that are typed, calls from a page, and a start by the clock.
 //!
 //! `Hand` is the `Operator` of a driver: before each listen it reads what was typed (`Typed`, by `Keys`, which never wait),
-//! answers who asks for the page (`RunPage`), and waits until the next command may go out.
+//! answers requests for the page (`RunPage`), and waits until the next command may go out.
 //!
 //! Files, in reading order: `keys`, `typed`, `seen`, `shown`, `page`, `start`, `hand`.
 #![tactic(auto)]

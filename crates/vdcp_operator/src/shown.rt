@@ -45,7 +45,7 @@ impl RunPage {
         }
     }
 
-    /// Answers who asks, by the controller as it is now.
+    /// Answers requests for the page by the controller as it is now.
     pub fn show<R: Clock, S: Source>(
         &mut self,
         clock: &R,
@@ -108,7 +108,7 @@ impl RunPage {
     }
 }
 
-// The events round this one. Where memory is refused fewer are shown.
+// The events round this one. If memory is refused fewer are shown.
 fn rows_round<S: Source>(alloc: Global, list: &S, event: u64) -> Vec<EventSeen> {
     let mut rows = Vec::new(alloc);
     let next = usize::try_from(event).unwrap_or(usize::MAX);
@@ -140,7 +140,7 @@ fn number(count: usize) -> u64
     count as u64
 }
 
-// Milliseconds since 1970, or 0 where the clock can't be read.
+// Milliseconds since 1970, or 0 if the clock can't be read.
 fn millis<R: Clock>(clock: &R) -> u64 {
     match clock.since_1970() {
         Ok(time) => u64::try_from(time.as_millis()).unwrap_or(u64::MAX),

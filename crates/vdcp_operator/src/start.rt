@@ -44,7 +44,7 @@ pub fn start_of<R: Env + Files + Clock + AllocGlobal + Clone + Drop>(
     }
 }
 
-// The time that a text means, where it is this time now.
+// The time that a text means, if it is this time now.
 fn meant_by<R: Env + Files + AllocGlobal + Clone + Drop>(
     rt: &R,
     now: Timestamp,

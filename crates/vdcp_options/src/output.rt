@@ -11,7 +11,7 @@ use vdcp_journal::Moment;
 use vdcp_log::Screen;
 use vdcp_text::Failure;
 
-/// A writer of what is told of a line.
+/// A writer of a log or a capture.
 #[derive(Drop)]
 pub enum Output<'a> {
     Terminal(Screen<Stderr>),

@@ -231,7 +231,7 @@ fn run_lossy<'a, E: Write>(
     let address = matches.get_str("ADDR").unwrap_or("");
     let server = matches.get_str("SERVER").unwrap_or("");
     let settings = lossy_settings_of(matches);
-    // (who doesn't read its lines doesn't hold the two ends up)
+    // (if nobody reads its lines, that doesn't hold the two ends up)
     let mut out = Lines::new(Screen::new(system, system.rt.stdout()));
     let capture = capture_of(system, matches, &[])?;
     Ok(do_lossy(system, address, server, settings, capture, &mut out, err))

@@ -62,7 +62,7 @@ impl<V: View> Desk<'_, V> {
         }
     }
 
-    // Holds a call, where there is room, and gives the status that says so.
+    // Holds a call, if there is room, and gives the status that says so.
     fn hold(&mut self, call: Call) -> StatusCode
         ensures stays { self.new ≡ record self.old { calls = self.new.calls } }
         ensures held { self.new.calls.items ≡ calls_after self.old.calls.items (Some call) }

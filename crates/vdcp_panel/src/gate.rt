@@ -14,7 +14,7 @@ pub struct Name<'a> {
     pub origin: &'a str,
 }
 
-/// Who may ask: requests to one of these names, from no other page than one of that name, and for a call with the token.
+/// Lets in requests to one of these names, from no other page than one of that name, and for a call with the token.
 #[derive(Clone, Copy, Debug)]
 pub struct Gate<'a> {
     pub address: Name<'a>,

@@ -10,7 +10,7 @@ use std::random::RandomSource;
 use std::rt::Clock;
 
 /// Opens a panel at this address: an IPv4 address of this machine alone, a colon and a TCP port (0: the system chooses
-/// one). `err` gets the page's address, where calls are taken with `#` and the token that they need; what follows a `#` a
+/// one). `err` gets the page's address and, if calls are taken, `#` and the token that they need; what follows a `#` a
 /// browser keeps to itself. If the panel can't be opened, `err` gets the reason, and the error is the status: 2 if the text
 /// is no such address, 3 if it can't be listened at or the writer failed.
 pub fn open_panel<R: Net + AllocGlobal + RandomSource + Clock, E: io::Write>(
@@ -35,7 +35,7 @@ pub fn open_panel<R: Net + AllocGlobal + RandomSource + Clock, E: io::Write>(
     }
 }
 
-// Tells where the page of a panel is, and where it takes calls what they need.
+// Tells where the page of a panel is and, if it takes calls, what they need.
 fn tell_page<E: io::Write>(panel: &Panel, takes_calls: bool, err: &mut E) -> io::Result<()>
     ensures { OnOk result (Appends (E.contents err.old) (E.contents err.new) (page_line takes_calls panel.now.names)) }
 {
@@ -46,7 +46,7 @@ fn tell_page<E: io::Write>(panel: &Panel, takes_calls: bool, err: &mut E) -> io:
     writeln!(err, "panel http://{address}/")
 }
 
-// The status, or 3 where its line wasn't told.
+// The status, or 3 if its line wasn't told.
 fn told(line: io::Result<()>, status: u8) -> u8
     requires { (2 ≤ status) × (status ≤ 3) }
     ensures { (2 ≤ result) × (result ≤ 3) }

@@ -94,7 +94,7 @@ impl Panel {
         self.names.token.as_str()
     }
 
-    /// Does what can be done without waiting, where this is to be seen: takes two connections at most, and of each one
+    /// Shows this, as far as that can be done without waiting: takes two connections at most, and of each one
     /// makes a write, a read, an answer and a write. The calls gain those that were asked for. After a call that took some
     /// time nothing is done for nineteen times as long. (By a clock that can't be read no time passes.)
     pub fn serve_some<R: Clock, V: View>(&mut self, clock: &R, view: &V, calls: &mut Calls)

@@ -84,7 +84,7 @@ impl<T: Read + Write> Peer<T> {
         }
     }
 
-    // Writes, reads, answers and writes. It reads only where every request that came was answered.
+    // Writes, reads, answers and writes. It reads only if every request that came was answered.
     fn step<S: Service>(&mut self, service: &mut S, now: u64) -> Stay
         ensures { Calls S.answers service.old service.new (calls_at self.old) (calls_at self.new) }
     {
@@ -99,7 +99,7 @@ impl<T: Read + Write> Peer<T> {
         read.and(wrote)
     }
 
-    // Answers what came, where something did or is left.
+    // Answers what came, if something did or is left.
     #[tactic(auto, using(crate::proofs::Gained::no_calls))]
     fn answer<S: Service>(&mut self, service: &mut S, has_come: bool, now: u64)
         ensures { Calls S.answers service.old service.new (calls_at self.old) (calls_at self.new) }
@@ -115,7 +115,7 @@ impl<T: Read + Write> Peer<T> {
         }
     }
 
-    // Writes once, where something is pending.
+    // Writes once, if something is pending.
     fn write(&mut self) -> Stay
         ensures { calls_at self.new ≡ calls_at self.old }
     {
@@ -129,7 +129,7 @@ impl<T: Read + Write> Peer<T> {
         }
     }
 
-    // Reads once, where all that came was answered.
+    // Reads once, if all that came was answered.
     fn read(&mut self) -> Stay
         ensures { calls_at self.new ≡ calls_at self.old }
     {

@@ -41,7 +41,7 @@ impl<T: Read + Write + Drop> Peers<T> {
         Ok(Peers { peers, alloc, keys })
     }
 
-    /// Adds a connection that was taken then. Where there are eight, that at which nothing moved for longest is closed.
+    /// Adds a connection that was taken then. If there are eight, that at which nothing moved for longest is closed.
     pub fn add(&mut self, stream: T, now: u64) {
         if self.peers.len() >= MOST_PEERS {
             self.drop_idlest();

@@ -5,7 +5,7 @@ use std::alloc::{AllocError, Global};
 pub trait View {
     ghost use Rattle.std.specs.Prelude.{◌≡◌, ℕ, IfOk, List, Option, string_bytes};
 
-    /// The page's bytes, the state's, and which event a call is about, where calls are taken.
+    /// The page's bytes, the state's, and which event a call is about, if calls are taken.
     ghost page_bytes: { Self → List ℕ };
 
     ghost state_bytes: { Self → List ℕ };
@@ -20,7 +20,7 @@ pub trait View {
     fn state(&self, alloc: Global) -> Result<String, AllocError>
         ensures { IfOk result (λ text. string_bytes text ≡ state_bytes self.now) };
 
-    /// The number of the event that a call is about; None where no call is taken.
+    /// The number of the event that a call is about; None if no call is taken.
     fn event(&self) -> Option<u64>
         ensures { result ≡ about self.now };
 }

@@ -73,7 +73,7 @@ impl Place {
 }
 
 impl Wish {
-    /// What a request gets where a call is about this event.
+    /// What a request gets if a call is about this event.
     pub fn of(gate: &Gate<'_>, event: Option<u64>, request: &Request<Bytes>) -> Wish
         ensures call { wish_call result ≡ called gate.now event request.now }
         ensures shows { (page state : List ℕ) → shown_by page state result ≡ shown gate.now page state request.now }

@@ -66,10 +66,10 @@ impl AskFault<'_> {
 /// Asks the server at `address`, an IPv4 address, a colon and a TCP port, whether it has each clip of a playlist, and how
 /// long it is. `out` gets how many events there are and how many of their clips the server has, and then the lines that
 /// `do_check` writes of events that can't be played. Only ID REQUEST and ID SIZE REQUEST go out, each clip's once, and
-/// again where nothing comes: the port needn't be open, and stays as it is.
+/// again if nothing comes: the port needn't be open, and stays as it is.
 ///
-/// The status is 0 where each event can be played, and 1 where one can't, and where a row of the list is refused. It is 2
-/// where the address is none, which is tested first; and 3 where the list can't be read, memory was refused, nobody takes
+/// The status is 0 if each event can be played, and 1 if one can't, or if a row of the list is refused. It is 2
+/// if the address is none, which is tested first; and 3 if the list can't be read, memory was refused, nobody takes
 /// the connection, it is closed or fails, a clip's answer never comes, doesn't end, or says neither yes nor no, or a
 /// writer failed. For each of these but the last `err` gets a line.
 pub fn do_ask<R: Net + AllocGlobal, L: io::Read + Drop, W: io::Write, E: io::Write>(
@@ -173,7 +173,7 @@ fn is_first<S: Source>(events: &S, k: usize, id: ClipId) -> bool
     true
 }
 
-// How long a clip is, by what the server says; None where it hasn't got it.
+// How long a clip is, by what the server says; None if it hasn't got it.
 fn length_at<'a, T: Wire>(
     alloc: Global,
     id: ClipId,

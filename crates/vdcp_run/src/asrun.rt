@@ -33,7 +33,7 @@ pub fn save_asrun<'a, R: Files + AllocGlobal, S: Source>(
     save_text(rt, name, text.as_slice()).err()
 }
 
-// The as-run list: where a journal went on all that it shows, else what the controller reports.
+// The as-run list: if a journal went on, all that this shows, else what the controller reports.
 fn listed<'a, R: Files + AllocGlobal, S: Source>(
     rt: &R,
     controller: &Controller<Rest<S>>,
@@ -192,7 +192,7 @@ fn take_name<R: Files + AllocGlobal, D: OpenFile>(
         }
         return Err(error);
     }
-    // (that it has the name is on the disk once the folder is, where the system can say that of a folder)
+    // (that it has the name is on the disk once the folder is, if the system can say that of a folder)
     if let Some(folder) = Path::new(whole).parent() {
         if let Ok(folder) = File::open(rt, folder) {
             let _ = folder.sync_all();

@@ -18,7 +18,7 @@ pub enum Place {
     Free(String),
     /// The file of this name has an older list. A new one is written beside it, and takes its place once it is whole.
     Taken(String),
-    /// It is written to what has the name: a device, a pipe or a link to nothing, where no older list is kept.
+    /// It is written to what has the name: a device, a pipe or a link to nothing; no older list is kept.
     Device,
 }
 

@@ -27,35 +27,36 @@ use vdcp_wire::address_of;
 /// Plays a list through the port of a server at `address`: an IPv4 address, a colon and a TCP port. It
 /// reads the list, connects, and runs a new controller until that ends, the other end closes, all listens
 /// are made or the line fails. Then, whatever the end is, it makes the as-run file, if one is named, with a
-/// row for each reported event, and where it went on from a journal with all that this shows; an older file of other
-/// bytes is kept beside. And `out` gets how many events are reported, and how the controller ended, and is flushed. `err` gets the fault lines of the as-run file, the journal and the line, of which there are any.
+/// row for each reported event, and, if it went on from a journal, with all that this shows; an older file of other
+/// bytes is kept beside. And `out` gets how many events are reported, and how the controller ended, and is flushed.
+/// `err` gets the fault lines of the as-run file, the journal and the line, if there are any.
 ///
-/// A controller begins with the list's first event, or with the one that is said, or after what a journal shows; the
+/// A controller begins with the list's first event, or with the one that is named, or after what a journal shows; the
 /// numbers that are told are always those of the whole list.
 ///
-/// Where `settings` say so an operator has a hand in the run: its calls are given, and kept before, its page shows the run,
-/// and the first event goes to air at its time.
+/// If `settings` say so an operator has a hand in the run: its calls are given, and kept before, its page shows the
+/// run, and the first event goes to air at its time.
 ///
 /// What the headline says of a controller and its log holds of the reported events: they are those that the
 /// exchanges over the line show to be settled.
 ///
-/// The status is 0 where the controller ended Done or Stopped, and 1 where it ended Denied, Missing, Refused,
-/// Foreign or Strange. It is 3 where it ended Lost, where the other end closed, the listens are used up or
-/// the line failed, and where the as-run list or a row of the journal isn't written.
+/// The status is 0 if the controller ended Done or Stopped, and 1 if it ended Denied, Missing, Refused,
+/// Foreign or Strange. It is 3 if it ended Lost, if the other end closed, the listens are used up or
+/// the line failed, or if the as-run list or a row of the journal isn't written.
 ///
-/// Where it is to be asked, the port is asked first, by OPEN, SELECT and STATUS, where the next command is OPEN. Where
+/// If the port is to be asked and the next command is OPEN, it is asked first, by OPEN, SELECT and STATUS. If
 /// something is cued at it or plays, the run ends. Questions that aren't answered, as many as the limit in a row, end it
 /// as Lost, and an OPEN that is denied as Denied.
 ///
 /// `advice` gets what an operator types next, if this wasn't wanted.
 ///
-/// Where it doesn't come to this, no file is made, `out` gets nothing, and `err` gets one fault line. The
-/// status is 2 where the address is none, which is tested before the list is read; 1 where a row of the list
-/// or of the journal is refused, where the event to begin with isn't there or may have aired, and where the port isn't
-/// empty; and 3 where the list can't be read, the as-run file is the list, the journal exists, is in use or can't be
+/// If it doesn't come to this, no file is made, `out` gets nothing, and `err` gets one fault line. The
+/// status is 2 if the address is none, which is tested before the list is read; 1 if a row of the list
+/// or of the journal is refused, if the event to begin with isn't there or may have aired, or if the port isn't
+/// empty; and 3 if the list can't be read, the as-run file is the list, the journal exists, is in use or can't be
 /// opened, read or written, the as-run file of a run with a journal is that or can't be made, memory was refused or nobody
-/// takes the connection within five seconds. It is 3
-/// too where `out` or `err` failed. To a writer that failed nothing more is written.
+/// takes the connection within five seconds. It is 3 too if `out` or `err` failed. To a writer that failed nothing more
+/// is written.
 pub fn do_run<
     's,
     R: Net + Files<File = File> + Clock + AllocGlobal,
@@ -179,7 +180,7 @@ fn read_events<'a, R: Files + AllocGlobal, L: io::Read + Drop>(
     Ok(events)
 }
 
-// What is told where the list of this name isn't the journal's, and of any other failure.
+// What is told if the list of this name isn't the journal's, and of any other failure.
 fn told_of_list<'a>(list: &'a str, failure: Failure<'a>) -> Failure<'a>
     ensures { result ≡ told_of_list list.entry failure.entry }
 {
@@ -189,7 +190,7 @@ fn told_of_list<'a>(list: &'a str, failure: Failure<'a>) -> Failure<'a>
     }
 }
 
-// Tests that the number of the event to begin with, if it is said, isn't above how many events the list has.
+// Tests that the number of the event to begin with, if one is named, isn't above how many events the list has.
 fn test_event<'a, S: Source>(source: &S, from: Option<usize>) -> Result<(), Failure<'a>>
     ensures listed { OnOk result (first_event from ≤ length (S.items source.now)) }
     ensures missing { IfErr result (IsNoEvent from (S.items source.now)) }

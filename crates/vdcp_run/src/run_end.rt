@@ -67,7 +67,7 @@ impl LineEnd {
 pub struct RunEnd<'a> {
     /// The event of the list that the controller began with.
     pub from: usize,
-    /// How the controller ended, with the number that its event has in the list; None where it would go on.
+    /// How the controller ended, with the number that its event has in the list; None if it would go on.
     pub outcome: Option<Outcome>,
     /// The first event of the list that isn't reported, by its number: how many are, counted from the list's first.
     pub reported: usize,
@@ -86,7 +86,7 @@ impl RunEnd<'_> {
         ensures status { IfOk result (λ status. status ≡ run_status self.entry) }
     {
         let written = self.write_lines(out);
-        // (also where `out` failed)
+        // (also if `out` failed)
         self.write_faults(err)?;
         written?;
         Ok(self.status())
@@ -103,7 +103,7 @@ impl RunEnd<'_> {
         out.flush()
     }
 
-    /// How the run is told to have ended: a port that didn't answer its questions is lost.
+    /// How the run ended, as it is printed: one whose port didn't answer its questions is lost.
     pub fn told_outcome(&self) -> Option<Outcome>
         ensures { result ≡ told_outcome self.now.line self.now.outcome }
     {
@@ -127,7 +127,7 @@ impl RunEnd<'_> {
         write_fault(self.line.failure(), err)
     }
 
-    // The exit status: the outcome's where nothing failed.
+    // The exit status: the outcome's if nothing failed.
     fn status(&self) -> u8
         ensures { result ≡ run_status self.now }
     {
@@ -153,8 +153,8 @@ fn write_fault<E: io::Write>(failure: Option<Failure<'_>>, err: &mut E) -> io::R
     }
 }
 
-/// How a run has ended whose list wasn't begun. That its controller has ended goes before that. Where the port isn't
-/// empty no as-run list is written.
+/// How a run has ended whose list wasn't begun: as its controller did, if that has ended, and else as its line. If the
+/// port isn't empty no as-run list is written.
 pub fn unbegun<'a, R: Files + AllocGlobal, S: Source>(
     rt: &R,
     controller: &Controller<Rest<S>>,
@@ -198,7 +198,7 @@ pub fn ended<'a, R: Files + AllocGlobal, S: Source>(
     }
 }
 
-// The same, where no as-run list is wanted.
+// The same, if no as-run list is wanted.
 fn end_of<'a, S: Source>(controller: &Controller<Rest<S>>, line: LineEnd) -> RunEnd<'a>
     ensures of_controller { IsEndBy controller.now result }
     ensures line { result.line ≡ line }

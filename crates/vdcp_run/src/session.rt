@@ -29,8 +29,9 @@ use vdcp_wire::{StreamWire, Wire};
 /// How long a connection may take to come about, in seconds.
 const CONNECTING: u64 = 5;
 
-/// Connects, and plays a list with what its run begins with. Where the controller has ended already nothing is sent.
-/// `Connect` where nobody takes the connection in time, and `NotEmpty` where the port is asked and isn't empty.
+/// Connects, and plays a list with what its run begins with. If the controller has ended already nothing is sent.
+/// The failure is `Connect` if nobody takes the connection in time, and `NotEmpty` if the port is asked and isn't
+/// empty.
 pub fn play_at<
     'a,
     R: Net + Files<File = File> + Clock + AllocGlobal,
@@ -75,7 +76,7 @@ pub fn play_at<
     }
 }
 
-// Plays a list over the wire of a connection, on which time-outs come by the clock where answers are heard at once. One
+// Plays a list over the wire of a connection, on which time-outs come by the clock if answers are heard at once. One
 // that refuses to be a wire is a line that failed.
 fn play_over<
     'a,

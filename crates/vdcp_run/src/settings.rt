@@ -30,7 +30,7 @@ pub struct RunSettings<'a> {
     pub listens: u32,
     /// An operator has a hand in it: calls are typed, a page takes them, or a start is waited for.
     pub operated: bool,
-    /// The event of the list that a new controller begins with, if it is said; else it is the first one, 0.
+    /// The event of the list that a new controller begins with, if one is named; else it is the first one, 0.
     pub from: Option<usize>,
     /// The file that is made for the as-run list, if one is wanted.
     pub asrun: Option<&'a str>,
@@ -62,7 +62,7 @@ impl<'a> RunJournal<'a> {
     }
 }
 
-/// What is shown while a list is played, and captured of its line, and the writers that it goes to. Where one of them
+/// What is shown while a list is played, and captured of its line, and the writers that it goes to. If one of them
 /// fails, it gets no more, and nothing else comes of that.
 #[derive(Drop)]
 pub struct Showing<V> {

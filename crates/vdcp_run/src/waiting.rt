@@ -16,8 +16,9 @@ use vdcp_log::Hearing;
 use vdcp_wire::{StreamWire, Wire};
 use vdcp_words::Command;
 
-/// Where the controller asks whether its PLAY was lost, and would send it again at once: asks the state over this stream
-/// until no clip plays before one that is cued. Where the stream fails, or the other end closes it, that shows later.
+/// If the controller asks whether its PLAY was lost, and would send it again at once, this asks the state over
+/// this stream until no clip plays before one that is cued. If the stream fails, or the other end closes it, that shows
+/// later.
 pub fn await_clip<R: Net + Clock + AllocGlobal, S: Source>(
     rt: &R,
     stream: &R::Stream,

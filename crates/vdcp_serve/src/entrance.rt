@@ -16,7 +16,7 @@ use std::time::{Duration, Instant};
 use vdcp_log::{Hearing, Log, Logged};
 use vdcp_wire::{Duplex, StreamWire, WireFault};
 
-/// Who listens at an address and takes one connection after another. The system has those wait that come meanwhile.
+/// Listens at an address and takes one connection after another. The system has those wait that come meanwhile.
 #[derive(Drop)]
 pub struct Entrance<'a, R: Net + Clock, L: io::Write> {
     rt: &'a R,
@@ -25,7 +25,7 @@ pub struct Entrance<'a, R: Net + Clock, L: io::Write> {
     events: Events<Global>,
     settings: ServeSettings,
     log: &'a Log<L>,
-    // Where the last connection leads.
+    // The address at the other end of the last connection.
     from: Option<SocketAddr>,
 }
 

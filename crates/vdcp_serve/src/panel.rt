@@ -39,7 +39,7 @@ pub struct PortView<'a> {
     pub state: u8,
     /// The items that went to air last, in order.
     pub aired: &'a [Airing],
-    /// Who is connected.
+    /// The address that is connected, if one is.
     pub from: &'a Option<String>,
 }
 
@@ -88,7 +88,7 @@ impl<'a, R: Clock + AllocGlobal> PortPanel<'a, R> {
         let _ = self.aired.push(Airing { number, item, at });
     }
 
-    /// Answers who asks, by the port as it is now.
+    /// Answers requests for the page by the port as it is now.
     pub fn show<C: Catalogue>(&mut self, port: &Port<C>)
         ensures { ShowsPort self.old.rate port.now self.old.aired.items self.old.from self.old.panel.names }
     {
@@ -104,7 +104,7 @@ impl<'a, R: Clock + AllocGlobal> PortPanel<'a, R> {
         self.panel.serve_some(self.clock, &seen, &mut calls);
     }
 
-    // Milliseconds since 1970, or 0 where the clock can't be read.
+    // Milliseconds since 1970, or 0 if the clock can't be read.
     fn time_of_day(&self) -> u64 {
         let Ok(now) = SystemTime::now(self.clock) else {
             return 0;

@@ -49,7 +49,7 @@ pub struct ServeSettings {
     pub turns: u32,
     /// Whether the port is kept for the next connection when one ends.
     pub stay: bool,
-    /// For how many seconds nothing may come by a connection, nor go out where something is to, 1 to 86,400; None: as
+    /// For how many seconds nothing may come by a connection, nor go out if something is to, 1 to 86,400; None: as
     /// long as nobody closes it, but what is to go out fails after ten seconds.
     pub idle: Option<u32>,
 }
@@ -88,21 +88,21 @@ impl ServeEnd {
 /// connections are refused from then on.
 ///
 /// A server that stays keeps its port when a connection ends, is idle for too long or fails, and takes the next one,
-/// which finds the port as it is; meanwhile frames pass. It ends where the turns are spent.
+/// which finds the port as it is; meanwhile frames pass. It ends when the turns are spent.
 ///
 /// By the clock a frame passes when its time is over, whatever comes meanwhile, and a wait for bytes is five
 /// milliseconds at most.
 ///
-/// Where all is told, the writer gets a line for each message that came (`<-`) and went out (`->`), with the words
+/// If all is told, the writer gets a line for each message that came (`<-`) and went out (`->`), with the words
 /// that it has, one for each burst that is at fault or cut, and one for each item that goes to air (`aired` and its
 /// number from 0); and from a server that stays one for each connection that is `taken`, and `closed` or `idle`. Its
-/// fault line goes there too where a line fails. The writer of a capture gets rows of what came and went out, as `judge`
-/// reads them. Where either writer fails, it gets no more.
+/// fault line goes there too if a line fails. The writer of a capture gets rows of what came and went out, as `judge`
+/// reads them. If either writer fails, it gets no more.
 ///
-/// The status is 0 where the connection was served to its end, and where a server that stays has spent its turns. It
-/// is 2 where `address` isn't one, 1 where a row of the catalogue is refused, and 3 where the catalogue can't be read,
+/// The status is 0 if the connection was served to its end, or if a server that stays has spent its turns. It
+/// is 2 if `address` isn't one, 1 if a row of the catalogue is refused, and 3 if the catalogue can't be read,
 /// memory was refused, the address can't be listened at, no connection is taken, or the only line failed; `err` gets a
-/// line of these. The address is tested first, and then the catalogue is read. The status is 3 where `out` failed, to
+/// line of these. The address is tested first, and then the catalogue is read. The status is 3 if `out` failed, to
 /// which nothing more is written.
 pub fn do_serve<
     R: Net + AllocGlobal + Clock,

@@ -28,7 +28,7 @@ pub enum Coming<W> {
     Line(W),
 }
 
-/// Connections, one after another. Who comes meanwhile waits.
+/// Connections, one after another. Those that come meanwhile wait.
 pub trait Connections<W: Wire> {
     ghost use Rattle.std.specs.Prelude.{◌≡◌, IfOk};
 
@@ -36,7 +36,7 @@ pub trait Connections<W: Wire> {
     fn wait(&mut self) -> Result<Coming<W>, WireFault>
         ensures works { IfOk result (λ coming. (line : W) → coming ≡ Coming.Line line → W.failures line ≡ 0) };
 
-    /// Where the last line leads, if that is known.
+    /// The address at the other end of the last line, if it is known.
     fn from(&self) -> Option<SocketAddr>;
 }
 

@@ -19,8 +19,8 @@ use vdcp_words::Command;
 /// Makes a command to a unit, which is at most 15, of its words: the command's name and its
 /// arguments. `out` gets its bytes, in hexadecimal digits in one line.
 ///
-/// The status is 0 where it is made; 1 where no command has these words, and then `err` gets a line
-/// that says why; and 3 where a writer failed: nothing more is written to that one.
+/// The status is 0 if it is made; 1 if no command has these words, and then `err` gets a line
+/// that says why; and 3 if a writer failed: nothing more is written to that one.
 pub fn do_make<W: io::Write, E: io::Write>(
     word: &str,
     arguments: &[&str],

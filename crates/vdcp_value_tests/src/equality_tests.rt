@@ -5,7 +5,7 @@ use vdcp_value::{ClipId, Field, IdFault, Item, Part, Rate, TcFault, Timecode};
 
 const CLIP0001: [u8; 8] = [0x43, 0x4c, 0x49, 0x50, 0x30, 0x30, 0x30, 0x31];
 
-/// The places of two values that are equal where they shouldn't be, or unequal where they should.
+/// The places of two values that are equal and shouldn't be, or unequal and should be equal.
 fn wrong_pair<T: PartialEq>(values: &[T]) -> Option<(usize, usize)> {
     for i in 0..values.len() {
         for j in 0..values.len() {

@@ -16,7 +16,7 @@ use std::time::Duration;
 /// Read limit of `drop_waiting`, so that a peer that goes on sending can't hold it up.
 const MOST_READS: u32 = 128;
 
-/// For how many seconds a send waits if the other end takes nothing, unless that is said.
+/// For how many seconds a send waits if the other end takes nothing, unless another number is set.
 const SENDING: u64 = 10;
 
 /// What a wire knows of its connection.

@@ -7,7 +7,7 @@ pub enum WordFault {
     /// An ACK or a NAK was read as a command.
     #[error("an answer and no command")]
     NotCommand,
-    /// No command, or where a reply is read no reply, has the type and code.
+    /// No command, or if a reply is read no reply, has the type and code.
     #[error("an unknown type and code")]
     Unknown,
     /// The type and code stand for a word, but the data has another length: for a command any other,

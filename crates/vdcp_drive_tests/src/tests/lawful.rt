@@ -19,7 +19,7 @@ use vdcp_auto::{Controller, Source};
 use vdcp_drive::{AutoDriver, laws};
 use vdcp_wire::Wire;
 
-/// How many events a new automation reports as aired once it has run; None where its wire failed. It is
+/// How many events a new automation reports as aired once it has run; None if its wire failed. It is
 /// what the exchanges over the wire show to be settled.
 fn reported<S: Source, W: Wire>(auto: &mut AutoDriver<S, W>, listens: u64) -> Option<usize>
     requires new { auto.old.controller.state ≡ start }

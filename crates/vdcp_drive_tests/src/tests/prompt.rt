@@ -338,7 +338,7 @@ type Afterwards = (
     bool,
 );
 
-/// What is seen of a driver whose wire fails at this call, after `part` bytes of a send, where the first `sent` bytes of
+/// What is seen of a driver whose wire fails at this call, after `part` bytes of a send, if the first `sent` bytes of
 /// ALL_SENT should have gone out, and how many bytes did.
 fn failed_at(
     alloc: Global,

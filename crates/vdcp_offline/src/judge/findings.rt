@@ -60,7 +60,7 @@ impl<'e, S: Source> Found<'e, S> {
         Ok(())
     }
 
-    /// What is told of the whole capture: what has heard nothing by its end hears nothing.
+    /// What is to be printed of the whole capture. A command that has heard nothing by its end went unanswered.
     pub fn end(self) -> Result<Told<'e, S>, AllocError>
         ensures { (settings : JudgeSettings) (items : List Item) (pieces : List Piece)
             → HasFound S.items settings items pieces self.entry → IfOk result (λ told. (findings : List Finding)

@@ -17,7 +17,7 @@ use vdcp_auto::{Exchange, Judge, Source};
 use vdcp_text::ItemText;
 use vdcp_value::{Item, Rate};
 
-/// What is told so far.
+/// What is to be printed of the exchanges so far.
 #[derive(Drop)]
 pub struct Told<'e, S: Source> {
     pub settings: JudgeSettings,
@@ -32,7 +32,7 @@ pub struct Told<'e, S: Source> {
 }
 
 impl<'e, S: Source> Told<'e, S> {
-    /// Nothing is told of an automation that plays these events.
+    /// That of no exchange yet, for an automation that plays these events.
     pub fn new(alloc: Global, events: &'e S, settings: JudgeSettings) -> Self
         ensures { Tells S.items settings (S.items events.now) [] result }
     {
@@ -89,7 +89,7 @@ impl<'e, S: Source> Told<'e, S> {
         Ok(())
     }
 
-    /// All that is told: the forbidden commands, the reported events, and the counts.
+    /// All that is printed: the forbidden commands, the reported events, and the counts.
     pub fn text(self) -> Result<String, AllocError>
         ensures { (settings : JudgeSettings) (items : List Item) (findings : List Finding)
             → Tells S.items settings items findings self.entry →

@@ -93,7 +93,7 @@ fn lines_come_in_pieces(rt: HostRuntime) -> Result<(), Fail> {
     Ok(())
 }
 
-// A long line is whole where it is read, and else its rest is left out.
+// A long line is whole if it is read, and otherwise its rest is left out.
 #[test]
 fn long_line_is_cut_unread(rt: HostRuntime) -> Result<(), Fail> {
     let alloc = rt.alloc();

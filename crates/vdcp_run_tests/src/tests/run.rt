@@ -23,7 +23,7 @@ fn nothing() -> Showing<Vec<u8>> {
     }
 }
 
-// Plays a list for one listen, with this many milliseconds of silence, where nobody has a hand in it: the status.
+// Plays a list for one listen, with this many milliseconds of silence, and nobody's hand in it: the status.
 fn run_with<V: Write + Drop, W: Write, E: Write>(
     rt: &HostRuntime,
     silence: u32,
@@ -86,7 +86,7 @@ fn written_to(
     Ok((out, err, status))
 }
 
-// Where standard output fails, standard error gets the fault all the same.
+// If standard output fails, standard error gets the fault all the same.
 #[test]
 fn failing_call_of_standard_output_is_the_last(rt: HostRuntime) -> Result<(), Fail> {
     let (whole, _, _) = written_to(&rt, 1000, 1000)?;

@@ -1,7 +1,7 @@
 //! What can happen on a late line and at its ends.
 use crate::burst::Burst;
 
-/// What happens on a line that keeps order, at one of its ends, or in time. Where it can't happen, nothing
+/// What happens on a line that keeps order, at one of its ends, or in time. If it can't happen, nothing
 /// changes. Places in a queue are counted from 0, the oldest burst.
 #[derive(Debug, PartialEq, Drop)]
 pub enum LateEvent {

@@ -19,7 +19,7 @@ use crate::laws::crates_below;
 ///
 /// - what went to air is a beginning of the playlist, each event once and in order;
 /// - the events reported as aired are a beginning of these, shorter by one at most, and are those that the log shows
-///   to be aired; where no PLAY stands after the last exchange that settles, the awaited one included, they are all
+///   to be aired; if no PLAY stands after the last exchange that settles, the awaited one included, they are all
 ///   that went to air;
 /// - the rule book allows each command of the log where it stands, and the one that is awaited;
 /// - Done means that the whole playlist went to air and is reported; Denied, that nothing did; Missing(k), that event

@@ -91,7 +91,7 @@ impl<S: Source, C: Catalogue, A: Allocator + Copy> LateLink<S, C, A> {
         self.controller.outcome()
     }
 
-    /// The event happens. Where memory is refused nothing does.
+    /// The event happens. If memory is refused nothing does.
     pub fn step(&mut self, event: &LateEvent) -> Result<(), AllocError>
         ensures step { OnOk result (self.new ≡ after_late_event self.old event.now) }
         ensures refused { OnErr result (self.new ≡ self.old) }
@@ -216,7 +216,7 @@ fn deliver<C: Catalogue, A: Allocator + Copy>(
     Ok(())
 }
 
-/// The burst at this place of the queue down becomes these bytes, where it can.
+/// The burst at this place of the queue down becomes these bytes, if it can.
 fn alter_down<A: Allocator + Copy>(
     down: &mut Queue<A>,
     place: usize,
@@ -238,7 +238,7 @@ fn alter_down<A: Allocator + Copy>(
     }
 }
 
-/// The burst at this place of the queue up becomes these bytes, where it can.
+/// The burst at this place of the queue up becomes these bytes, if it can.
 fn alter_up<S: Source, A: Allocator + Copy>(
     controller: &Controller<S>,
     unit: u8,
@@ -262,7 +262,7 @@ fn alter_up<S: Source, A: Allocator + Copy>(
     }
 }
 
-/// These bytes come into the queue down, where they are junk.
+/// These bytes come into the queue down, if they are junk.
 fn add_down<A: Allocator + Copy>(
     down: &mut Queue<A>,
     place: usize,
@@ -279,7 +279,7 @@ fn add_down<A: Allocator + Copy>(
     }
 }
 
-/// These bytes come into the queue up, where they are junk.
+/// These bytes come into the queue up, if they are junk.
 fn add_up<S: Source, A: Allocator + Copy>(
     controller: &Controller<S>,
     unit: u8,

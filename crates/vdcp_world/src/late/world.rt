@@ -83,7 +83,7 @@ impl<S: Source, C: Catalogue, A: Allocator + Copy> LateWorld<S, C, A> {
         }
     }
 
-    /// The event happens; where it can't, nothing does. All memory is asked for first: where it is refused the
+    /// The event happens; if it can't, nothing does. All memory is asked for first: if it is refused the
     /// answer is `AllocError`, and nothing has changed.
     pub fn step(&mut self, event: &LateEvent) -> Result<(), AllocError>
         ensures step { OnOk result (self.new ≡ after_late_event self.old event.now) }

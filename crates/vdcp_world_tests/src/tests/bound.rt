@@ -77,7 +77,7 @@ fn has_least_rounds(
 }
 
 /// What happens first in a world of two clips in plain mode, how many good rounds bring its playlist to air
-/// from there, and one fewer: from each phase, with a take wished for, and where a PLAY or its answer was
+/// from there, and one fewer: from each phase, with a take wished for, and after a PLAY or its answer was
 /// lost.
 static PLACES: [(&str, &str, &str); 13] = [
     ("", "good 14\n", "good 13\n"),
