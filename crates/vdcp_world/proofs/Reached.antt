@@ -97,11 +97,11 @@ in_part (Err x) old now es i e below is happened = record {
 }
 
 -- all events of a list
-pub all_happened : (c now : Channel) (es : List Event) (i : ℕ) → length es ≤ i → i ≤ length es
-    → now ≡ after_events c (take i es) → now ≡ after_events c es
-all_happened c now es i low high is =
+pub all_happened : (P : Channel → Type 0) (c now : Channel) (es rest : List Event) (i : ℕ) → length es ≤ i
+    → i ≤ length es → now ≡ after_events c (take i es) → es ≡ rest → P (after_events c rest) → P now
+all_happened P c now es rest i low high is same h =
     let all : i ≡ length es = omega (arith, low, high) in
-    is ∙ ap (λ (n : ℕ). after_events c (take n es)) all ∙ ap (after_events c) (take-length es)
+    subst P (sym (is ∙ ap (λ (n : ℕ). after_events c (take n es)) all ∙ ap (after_events c) (take-length es ∙ same))) h
 
 -- ---- what a channel was made with stays
 

@@ -1,6 +1,6 @@
 use Rattle.std.proofs.Common.{take, sym, ap, subst, ◌∙◌, arith}
 use Rattle.vdcp_world.specs.BoundedEnd.{IsDone}
-use Rattle.vdcp_world.specs.Channel.{IsReached, after_event, after_events, make_of}
+use Rattle.vdcp_world.specs.Channel.{IsReached, after_event, make_of}
 use Rattle.vdcp_world.proofs.Reached.{one_more, in_part, all_happened, make_after_all, events_reached}
 use Rattle.vdcp_world.proofs.world.World.run.Goals as goal
 
@@ -35,35 +35,27 @@ returns-clause-headline g c =
 pub returns-clause-plain_end : goal.returns-clause-plain_end
 returns-clause-plain_end g c = λ n is can enough.
     let reached : IsReached c.args.self.now = rw (← c.self.view_is) c.self.invariant in
-    let happened = all_happened c.args.self.now c.loop-event.self c.args.events.now c.loop-event.event-index
-    c.loop-event-test.false
-    c.loop-event.auto.event-index-end c.loop-event.invariant in
-    subst IsDone (sym (happened ∙ ap (after_events c.args.self.now) is))
+    all_happened IsDone c.args.self.now c.loop-event.self c.args.events.now _ c.loop-event.event-index
+    c.loop-event-test.false c.loop-event.auto.event-index-end c.loop-event.invariant is
     ((c.good_rounds_bring_all_to_air.ensures c.args.self.now reached).plain can n enough)
 
 pub returns-clause-confirming_end : goal.returns-clause-confirming_end
 returns-clause-confirming_end g c = λ n is can enough.
     let reached : IsReached c.args.self.now = rw (← c.self.view_is) c.self.invariant in
-    let happened = all_happened c.args.self.now c.loop-event.self c.args.events.now c.loop-event.event-index
-    c.loop-event-test.false
-    c.loop-event.auto.event-index-end c.loop-event.invariant in
-    subst IsDone (sym (happened ∙ ap (after_events c.args.self.now) is))
+    all_happened IsDone c.args.self.now c.loop-event.self c.args.events.now _ c.loop-event.event-index
+    c.loop-event-test.false c.loop-event.auto.event-index-end c.loop-event.invariant is
     ((c.good_rounds_bring_all_to_air.ensures c.args.self.now reached).confirming can n enough)
 
 pub returns-clause-in_step_end : goal.returns-clause-in_step_end
 returns-clause-in_step_end g c = λ n is can enough.
     let reached : IsReached c.args.self.now = rw (← c.self.view_is) c.self.invariant in
-    let happened = all_happened c.args.self.now c.loop-event.self c.args.events.now c.loop-event.event-index
-    c.loop-event-test.false
-    c.loop-event.auto.event-index-end c.loop-event.invariant in
-    subst IsDone (sym (happened ∙ ap (after_events c.args.self.now) is))
+    all_happened IsDone c.args.self.now c.loop-event.self c.args.events.now _ c.loop-event.event-index
+    c.loop-event-test.false c.loop-event.auto.event-index-end c.loop-event.invariant is
     ((c.good_rounds_bring_the_rest_to_air.ensures c.args.self.now reached).in_step can n enough)
 
 pub returns-clause-catch_up_end : goal.returns-clause-catch_up_end
 returns-clause-catch_up_end g c = λ n is can enough.
     let reached : IsReached c.args.self.now = rw (← c.self.view_is) c.self.invariant in
-    let happened = all_happened c.args.self.now c.loop-event.self c.args.events.now c.loop-event.event-index
-    c.loop-event-test.false
-    c.loop-event.auto.event-index-end c.loop-event.invariant in
-    subst IsDone (sym (happened ∙ ap (after_events c.args.self.now) is))
+    all_happened IsDone c.args.self.now c.loop-event.self c.args.events.now _ c.loop-event.event-index
+    c.loop-event-test.false c.loop-event.auto.event-index-end c.loop-event.invariant is
     ((c.good_rounds_bring_the_rest_to_air.ensures c.args.self.now reached).catches_up can n enough)
