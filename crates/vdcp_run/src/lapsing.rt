@@ -59,6 +59,16 @@ impl<'a, R: Clock, W: Wire> Lapsing<'a, R, W> {
         }
     }
 
+    // A command went out.
+    fn note_sent(&mut self)
+        ensures sent { self.new.sent ≡ self.new.stopwatch.now }
+        ensures since { self.new.since ≡ Since.Nothing }
+        ensures wire { self.new.wire ≡ self.old.wire }
+    {
+        self.sent = self.stopwatch.read();
+        self.since = Since::Nothing;
+    }
+
     // Listens once, unless a silence is due.
     fn listen_in_time(&mut self, buffer: &mut [u8; PIECE]) -> Result<Came, WireFault>
         requires { W.failures self.old.wire ≡ 0 }
@@ -105,8 +115,7 @@ impl<R: Clock, W: Wire> Wire for Lapsing<'_, R, W> {
 
     fn send(&mut self, bytes: &[u8]) -> Result<(), WireFault> {
         let sent = self.wire.send(bytes);
-        self.sent = self.stopwatch.read();
-        self.since = Since::Nothing;
+        self.note_sent();
         sent
     }
 
