@@ -1,6 +1,6 @@
 -- What goes on from a journal, and why nothing does.
 use Rattle.std.specs.Borrow.{Bor}
-use Rattle.std.specs.Prelude.{ℕ, ◌≡◌, ◌≢◌, ◌⊎◌, ◌+◌, ◌≤◌, ◌<◌, Bool, IsFalse, IsTrue, List, [], ◌∷◌, ◌++◌, Option, None, Some, Result, Ok, Err, drop, length}
+use Rattle.std.specs.Prelude.{ℕ, ◌≡◌, ◌≢◌, ◌⊎◌, ◌+◌, ◌≤◌, ◌<◌, Bool, true, false, IsFalse, IsTrue, List, [], ◌∷◌, ◌++◌, Option, None, Some, Result, Ok, Err, drop, length}
 use Rattle.vdcp_auto.specs.Law.{IsLawful}
 use Rattle.vdcp_auto.specs.Plan.{Plan, View, plan_of}
 use Rattle.vdcp_auto.specs.State.{State}
@@ -20,6 +20,8 @@ use Rattle.vdcp_journal.specs.declared.faults.ResumeFault.{ResumeFault}
 use Rattle.vdcp_journal.specs.declared.faults.ResumeFault.TheVariants as refused
 use Rattle.vdcp_journal.specs.declared.row.Heading.{Heading}
 use Rattle.vdcp_journal.specs.declared.row.Row.{Row}
+use Rattle.vdcp_journal.specs.declared.row.Note.{Note}
+use Rattle.vdcp_journal.specs.declared.row.Note.TheVariants as notes
 use Rattle.vdcp_list.specs.Rests.{FromEvent, items_left}
 use Rattle.vdcp_list.specs.Rows.{FileBytes}
 use Rattle.vdcp_journal_file.specs.Recording.{IsUnopened, IsUnwritten}
@@ -179,6 +181,11 @@ abbrev pub IsMadeOrRefused : {S : Type 0} → (S → List Item) → Heading → 
 IsMadeOrRefused {S} items heading list run (Ok made) = (run.from ≤ length list) × (source : S)
     × IsMadeBy (items_left items) (plan_begun heading list run) (record { source = source; from = run.from }) run.rows made
 IsMadeOrRefused items heading list run (Err why) = IsRunRefused list heading run why
+
+-- a journal's last row says how the controller ended
+abbrev pub is_end : Option Note → Bool
+is_end (Some (notes.End outcome)) = true
+is_end _ = false
 
 -- why the file of this name isn't read
 abbrev pub IsUnread : Bor (List ℕ) → Failure → Type 0

@@ -8,7 +8,7 @@ ghost use Rattle.vdcp_journal.specs.Airings.{FoundSoFar};
 ghost use Rattle.vdcp_journal.specs.Reading.{whole_lines};
 ghost use Rattle.vdcp_journal.specs.Runs.{Run};
 ghost use Rattle.vdcp_journal.specs.declared.row.Heading.{Heading};
-ghost use Rattle.vdcp_journal_file.specs.Resuming.{Continues, Differs, IsMadeOrRefused, IsOther, IsRefused, IsRunOn, IsRunRefused, failure_of, read_refusal, row_fault, standing_fault};
+ghost use Rattle.vdcp_journal_file.specs.Resuming.{Continues, Differs, IsMadeOrRefused, IsOther, IsRefused, IsRunOn, IsRunRefused, failure_of, is_end, read_refusal, row_fault, standing_fault};
 
 use std::alloc::{AllocError, Global};
 use std::io;
@@ -301,6 +301,8 @@ fn difference(found: &Heading, wanted: &Heading) -> Option<JournalFault>
 }
 
 /// Whether a journal's last row says how the controller ended.
-pub(crate) fn is_end(last: Option<Note>) -> bool {
+pub(crate) fn is_end(last: Option<Note>) -> bool
+    ensures { result ≡ is_end last }
+{
     matches!(last, Some(Note::End(_)))
 }

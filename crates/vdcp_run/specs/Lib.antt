@@ -4,3 +4,4 @@ pub mod Lapse
 pub mod Session
 pub mod Run
 pub mod Advice
+pub mod Waiting

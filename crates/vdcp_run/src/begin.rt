@@ -73,6 +73,7 @@ fn begin_new<'a, 'r, 's, R: Files<File = File> + Clock + AllocGlobal, S: Source>
     settings: RunSettings<'a>,
 ) -> Result<Resumption<'a, 'r, R, &'s S>, Failure<'a>>
     requires unit { heading.now.unit ≤ 15 }
+    requires heading { heading.now ≡ heading_for settings (S.items source.now) }
     requires some { 1 ≤ settings.limit }
     requires few { settings.limit ≤ 1000 }
     requires listed { first_event settings.from ≤ length (S.items source.now) }

@@ -1,4 +1,7 @@
 //! How soon the state is asked again.
+ghost use Rattle.std.specs.Duration.{as_nanos};
+ghost use Rattle.std.specs.Prelude.{◌≡◌, ◌*◌};
+
 use std::rt::Clock;
 use std::time::{Duration, Instant};
 use vdcp_drive::Pace;
@@ -14,7 +17,9 @@ pub struct Polling<'a, R: Clock> {
 
 impl<'a, R: Clock> Polling<'a, R> {
     /// With this many milliseconds from one STATUS to the next at least.
-    pub fn new(clock: &'a R, least: u32) -> Self {
+    pub fn new(clock: &'a R, least: u32) -> Self
+        ensures { as_nanos result.least ≡ least * 1000000 }
+    {
         Polling {
             clock,
             least: Duration::from_millis(u64::from(least)),

@@ -1,5 +1,5 @@
 //! A run that goes on after a PLAY that may have been lost lets the clip before end.
-ghost use Rattle.std.specs.Prelude.{◌≤◌};
+ghost use Rattle.std.specs.Prelude.{◌≡◌, ◌≤◌};
 
 use crate::lapsing::Lapsing;
 use crate::polling::Polling;
@@ -46,12 +46,12 @@ pub fn await_clip<R: Net + Clock + AllocGlobal, S: Source>(
     match settings.hearing {
         Hearing::AtSilences => {
             let driver = AutoDriver::new(waiting, settings.unit, wire);
-            ask_by(driver, Unpaced, settings.listens);
+            ask_by(driver, Unpaced, settings);
         }
         Hearing::AtOnce(poll) => {
             let wire = Lapsing::new(wire, rt, settings.silence);
             let driver = PromptDriver::new(waiting, settings.unit, wire);
-            ask_by(driver, Polling::new(rt, poll), settings.listens);
+            ask_by(driver, Polling::new(rt, poll), settings);
         }
     }
 }
@@ -60,9 +60,12 @@ pub fn await_clip<R: Net + Clock + AllocGlobal, S: Source>(
 fn ask_by<S: Source + Copy, E: Ear + Drop, W: Wire + Drop, P: Pace + Drop>(
     mut driver: Driver<S, E, W>,
     mut pace: P,
-    listens: u32,
-) {
-    let _ = driver.run_with(u64::from(listens), &mut Unwatched, &mut OnlyAsks, &mut pace);
+    settings: RunSettings<'_>,
+)
+    requires { driver.unit ≡ settings.unit }
+{
+    let listens = u64::from(settings.listens);
+    let _ = driver.run_with(listens, &mut Unwatched, &mut OnlyAsks, &mut pace);
 }
 
 // Lets no command go out but one that asks for the state.
@@ -70,6 +73,10 @@ fn ask_by<S: Source + Copy, E: Ear + Drop, W: Wire + Drop, P: Pace + Drop>(
 struct OnlyAsks;
 
 impl Keep for OnlyAsks {
+    ghost use Rattle.vdcp_run.specs.Waiting.{OnlyAsks};
+
+    ghost adds = { λ kept _ _. OnlyAsks kept };
+
     fn keep_sent(&mut self, _unit: u8, command: &Command, _bytes: &[u8]) -> Result<(), KeepFault> {
         match command {
             Command::Status(_) => Ok(()),

@@ -1,6 +1,8 @@
 -- A line that is given up if nothing comes for too long.
 use Rattle.std.specs.Int.{div_ceil}
-use Rattle.std.specs.Prelude.{ℕ, ◌≡◌, ◌*◌, Bool, true, false, Option, None, Some, max, nat_le}
+use Rattle.std.specs.Prelude.{ℕ, suc, zero, ◌≡◌, ◌*◌, ◌+◌, ◌-◌, ◌^◌, Bool, true, false, Option, None, Some, max, min, nat_le}
+use Rattle.vdcp_wire.specs.declared.wire.Came.{Came}
+use Rattle.vdcp_wire.specs.declared.wire.Came.TheVariants as arrives
 use Rattle.vdcp_value.specs.Labels.{frames_per_second}
 use Rattle.vdcp_value.specs.declared.rate.Rate.{Rate}
 use Rattle.vdcp_wire.specs.Acts.{Act, sends, brings, drops, fails}
@@ -23,6 +25,13 @@ idle_frames (Some seconds) rate = Some (seconds * frames_per_second rate)
 abbrev pub are_too_many : Option ℕ → ℕ → Bool
 are_too_many None silences = false
 are_too_many (Some most) silences = nat_le most silences
+
+-- how many silences came one after another, with what came now
+abbrev pub silences_with : ℕ → Came → ℕ
+silences_with silences arrives.Silence = min (silences + 1) (2 ^ 64 - 1)
+silences_with silences arrives.Closed = 0
+silences_with silences (arrives.Bytes zero) = silences
+silences_with silences (arrives.Bytes (suc n)) = 0
 
 abbrev pub has_given_up : Patience → Bool
 has_given_up (patience.Waits silences) = false

@@ -1,6 +1,6 @@
 //! A line that is given up once it was idle too long.
 ghost use Rattle.std.specs.Prelude.{◌≡◌};
-ghost use Rattle.vdcp_serve.specs.Idle.{are_too_many, has_given_up};
+ghost use Rattle.vdcp_serve.specs.Idle.{are_too_many, has_given_up, silences_with};
 
 use vdcp_wire::{Came, PIECE, Wire, WireFault};
 
@@ -74,7 +74,9 @@ impl<W: Hears> Idling<W> {
 }
 
 // How many silences came one after another, with what came now.
-fn silences_with(silences: u64, came: Came) -> u64 {
+fn silences_with(silences: u64, came: Came) -> u64
+    ensures { result ≡ silences_with silences came }
+{
     match came {
         Came::Silence => silences.saturating_add(1),
         Came::Bytes(0) => silences,

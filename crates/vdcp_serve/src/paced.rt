@@ -30,7 +30,10 @@ pub enum Pace {
 
 impl Pace {
     /// How long a line waits for bytes, if a silence of this many milliseconds ends a burst.
-    pub fn wait(self, silence: u32) -> Duration {
+    pub fn wait(self, silence: u32) -> Duration
+        ensures silence { self ≡ Pace.Silences → as_nanos result ≡ silence * 1000000 }
+        ensures tick { self ≢ Pace.Silences → as_nanos result ≡ TICK * 1000000 }
+    {
         match self {
             Pace::Silences => Duration::from_millis(u64::from(silence)),
             Pace::Clock(_) => Duration::from_millis(TICK),
