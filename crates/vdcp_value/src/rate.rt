@@ -19,7 +19,7 @@ pub enum Rate {
 }
 
 impl Rate {
-    /// A label's frames are below this. So many frames pass in a second at most.
+    /// A label's frames are below this, and at most this many frames pass in a second.
     pub fn frames_per_second(self) -> u32
         ensures { result ≡ frames_per_second self }
     {
