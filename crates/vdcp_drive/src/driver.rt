@@ -223,6 +223,15 @@ impl<S: Source, E: Ear, W: Wire> Driver<S, E, W> {
     }
 }
 
+impl<S: Source + Drop, E: Ear + Drop, W: Wire> Driver<S, E, W> {
+    /// Its wire, for another driver.
+    pub fn into_wire(self) -> W
+        ensures { result ≡ self.wire }
+    {
+        self.wire
+    }
+}
+
 // Runs an automation for one listen: before it the next command goes out.
 fn run_round<S: Source, E: Ear, W: Wire, V: Watch<S>, K: Keep, P: Pace>(
     controller: &mut Controller<S>,

@@ -1,14 +1,16 @@
-//! The operator of a run: calls that are typed, calls from a page, and a start by the clock.
+//! The operator of a run: calls that are typed, calls from a page, a start by the clock, and the progress line.
 //!
 //! `Hand` is the `Operator` of a driver: before each listen it reads what was typed (`Typed`, by `Keys`, which never wait),
-//! answers requests for the page (`RunPage`), and waits until the next command may go out.
+//! answers requests for the page (`RunPage`), and waits until the next command may go out. `Progress` shows in a terminal how
+//! far a run is, by its wire (`ShownWire`) and its controller (`Glances`).
 //!
-//! Files, in reading order: `keys`, `typed`, `seen`, `shown`, `page`, `start`, `hand`.
+//! Files, in reading order: `keys`, `typed`, `seen`, `shown`, `page`, `start`, `hand`, `progress`.
 #![tactic(auto)]
 
 mod hand;
 mod keys;
 mod page;
+mod progress;
 mod seen;
 mod shown;
 mod start;
@@ -16,6 +18,7 @@ mod typed;
 
 pub use hand::Hand;
 pub use keys::Keys;
+pub use progress::{Glances, Progress, ShownWire};
 pub use seen::{EventSeen, RunSeen};
 pub use shown::RunPage;
 pub use start::{StartFault, start_of};

@@ -1,8 +1,8 @@
 -- A session over a wire, seen at the wire below.
-use Rattle.std.proofs.Common.{◌≡◌, ◌∙◌, ℕ, List, [], ◌∷◌, ◌++◌, ap, inl, inr, sym, subst}
+use Rattle.std.proofs.Common.{◌≡◌, ◌∙◌, ℕ, List, [], ◌∷◌, ◌++◌, ap, inl, inr, refl, sym, subst}
 use Rattle.std.specs.Prelude.{Bool, true, false, IfOk, OnErr, None, Some, Option, Result, Ok, Err}
 use Rattle.vdcp_auto.specs.Plan.{Plan}
-use Rattle.vdcp_auto.specs.State.{State}
+use Rattle.vdcp_auto.specs.State.{State, Stage}
 use Rattle.vdcp_drive.specs.Auto.{Auto}
 use Rattle.vdcp_drive.specs.Ears.{Fold}
 use Rattle.vdcp_drive.specs.Hearing as ears
@@ -20,7 +20,8 @@ use Rattle.vdcp_log.specs.declared.hearing.Hearing.{Hearing}
 use Rattle.vdcp_log.specs.declared.hearing.Hearing.TheVariants as hears
 use Rattle.vdcp_journal_file.specs.Recording.{Recording}
 use Rattle.vdcp_run.specs.Lapse.{Lapses, MayLapse}
-use Rattle.vdcp_run.specs.Session.{HasPlayed, HasSession, HasTried, IsAsked, IsGiven, LastRound, Parts, Playing, Plays, Rounds, Runs, RunsBy, Start, TriesOver, does_by, ended, missed, no_wire, over, played, rules_of, run_over, spent, told_by, tried, unbegun, unseen}
+use Rattle.vdcp_run.specs.Session.{HasAwaited, HasPlayed, HasSession, HasTried, IsAsked, IsGiven, LastRound, Parts, Playing, Plays, Rounds, Runs, RunsBy, Start, TriesOver, does_by, ended, failed, missed, no_wire, over, played, rules_of, run_over, spent, told_by, tried, unbegun, unseen, went_on}
+use Rattle.vdcp_run.specs.Waiting.{AsksState, AwaitsIn, waiting_in}
 use Rattle.vdcp_run.specs.declared.lapsing.Since.{Since}
 use Rattle.vdcp_run.specs.declared.run_end.LineEnd.TheVariants as line_end
 use Rattle.vdcp_run.specs.declared.run_end.RunEnd.{RunEnd}
@@ -200,6 +201,51 @@ tries_seen told told' does does' safe sees sees' w v same acting looking setting
     (unbegun answer wire left asked may line) = unbegun answer (w wire) left
     (asked_seen told told' w same settings start world.wire wire left answer asked) may line
 
+-- ---- a clip that is waited for
+
+asks_seen : {E W W' : Type 0} (does : Act → W → W → Type 0) (does' : Act → W' → W' → Type 0) (w : W → W')
+    → ((a : Act) (old new : W) → does a old new → does' a (w old) (w new))
+    → (fold : Fold E) (ear : E) (plan : Plan) (unit listens : ℕ) (state : State) (old new : W)
+    → AsksState does fold ear plan unit listens state old new
+    → AsksState does' fold ear plan unit listens state (w old) (w new)
+asks_seen does does' w acting fold ear plan unit listens state old new h = record {
+  left = h.left;
+  answer = h.answer;
+  ran = run_seen _ _ w (λ keep. keep) (λ watch. watch) (record {
+    does = acting;
+    adds = λ r old new h. h;
+    loses = λ c old new h. h;
+    sees = λ s old new h. h;
+  }) fold plan unit listens _ h.left _ _ h.answer h.ran;
+}
+
+awaits_in_seen : {W W' : Type 0} (does : Act → W → W → Type 0) (does' : Act → W' → W' → Type 0) (w : W → W')
+    → ((a : Act) (old new : W) → does a old new → does' a (w old) (w new))
+    → (hearing : Hearing) (stage : Option Stage) (settings : RunSettings) → settings.hearing ≡ hearing
+    → (plan : Plan) (state : State) (old new : W) → AwaitsIn stage does settings plan state old new
+    → AwaitsIn stage does' settings plan state (w old) (w new)
+awaits_in_seen does does' w acting hearing None settings is plan state old new h = ap w h
+awaits_in_seen does does' w acting hears.AtSilences (Some stage) settings is plan state old new h =
+    rw is (asks_seen does does' w acting ears.at_silences (ears.begun (holds [])) plan settings.unit settings.listens
+    (record state { stage = stage }) old new (rw is at h))
+awaits_in_seen does does' w acting (hears.AtOnce poll) (Some stage) settings is plan state old new h =
+    rw is (asks_seen does does' w acting ears.at_once (holds []) plan settings.unit settings.listens
+    (record state { stage = stage }) old new (rw is at h))
+
+pub awaited_seen : {W W' F : Type 0} (told : W → Option Told) (told' : W' → Option Told) (does : Act → W → W → Type 0)
+    (does' : Act → W' → W' → Type 0) (safe : F → Option (List ℕ)) (w : W → W') → ((x : W) → told' (w x) ≡ told x)
+    → ((a : Act) (old new : W) → does a old new → does' a (w old) (w new))
+    → (settings : RunSettings) (start : Start) (wire : W) (recorder : Option (Recording F)) (end : RunEnd)
+    → HasAwaited told does safe settings start wire recorder end
+    → HasAwaited told' does' safe settings start (w wire) recorder end
+awaited_seen told told' does does' safe w same acting settings start wire recorder end (went_on wire' awaits tries) =
+    went_on (w wire')
+    (awaits_in_seen does does' w acting settings.hearing (waiting_in start.state.stage) settings refl start.plan start.state
+    wire wire' awaits)
+    (tries_seen told told' does does' safe unseen unseen w (λ v. v) same acting (λ s old new h. h) settings start
+    (over wire' recorder) tt end tries)
+awaited_seen told told' does does' safe w same acting settings start wire recorder end (failed waits line) = failed waits line
+
 -- ---- a silence by the clock
 
 pub lapses_so : {W : Type 0} (does : Act → W → W → Type 0) (lapsed : Bool) (since : Since) (act : Act) (old new : W)
@@ -213,19 +259,19 @@ lapses_so does lapsed since fails old new h = h
 pub tries_at_silences : {W F : Type 0} (told : W → Option Told) (does : Act → W → W → Type 0) (safe : F → Option (List ℕ))
     (settings : RunSettings) (start : Start) (wire : W) (recorder : Option (Recording F)) (end : RunEnd)
     → settings.hearing ≡ hears.AtSilences
-    → HasTried told does safe unseen settings start (over wire recorder) tt end
+    → HasAwaited told does safe settings start wire recorder end
     → TriesOver told does safe settings start wire recorder end
 tries_at_silences told does safe settings start wire recorder end is tries =
-    subst (λ (h : Hearing). HasTried (told_by h told) (does_by h does) safe unseen settings start (over wire recorder) tt end)
+    subst (λ (h : Hearing). HasAwaited (told_by h told) (does_by h does) safe settings start wire recorder end)
     (sym is) tries
 
 pub tries_at_once : {W F : Type 0} (told : W → Option Told) (does : Act → W → W → Type 0) (safe : F → Option (List ℕ))
     (settings : RunSettings) (start : Start) (wire : W) (recorder : Option (Recording F)) (end : RunEnd) (poll : ℕ)
     → settings.hearing ≡ hears.AtOnce poll
-    → HasTried (λ w. None) (MayLapse does) safe unseen settings start (over wire recorder) tt end
+    → HasAwaited (λ w. None) (MayLapse does) safe settings start wire recorder end
     → TriesOver told does safe settings start wire recorder end
 tries_at_once told does safe settings start wire recorder end poll is tries =
-    subst (λ (h : Hearing). HasTried (told_by h told) (does_by h does) safe unseen settings start (over wire recorder) tt end)
+    subst (λ (h : Hearing). HasAwaited (told_by h told) (does_by h does) safe settings start wire recorder end)
     (sym is) tries
 
 -- ---- a connection, which is a wire or none

@@ -1,7 +1,8 @@
 -- The definitions, file by file.
 pub mod Ends
 pub mod Lapse
+pub mod Polls
+pub mod Waiting
 pub mod Session
 pub mod Run
 pub mod Advice
-pub mod Waiting

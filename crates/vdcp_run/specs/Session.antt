@@ -28,6 +28,7 @@ use Rattle.vdcp_journal_file.specs.Recorded.{KeepsRow, Loses, LosesRow, Notes, c
 use Rattle.vdcp_journal_file.specs.Recording.{Adds, Recording, outcome_rows}
 use Rattle.vdcp_run.specs.Ends.{IsOpening, line_end_of, outcome_in_list, unbegun_line}
 use Rattle.vdcp_run.specs.Lapse.{MayLapse}
+use Rattle.vdcp_run.specs.Waiting.{AwaitsClip, waiting_in}
 use Rattle.vdcp_run.specs.declared.run_end.LineEnd.TheVariants as line_end
 use Rattle.vdcp_run.specs.declared.run_end.RunEnd.{RunEnd}
 use Rattle.vdcp_run.specs.declared.settings.RunSettings.{RunSettings}
@@ -233,12 +234,21 @@ abbrev pub told_by : {W : Type 0} → Hearing → (W → Option Told) → W → 
 told_by hears.AtSilences told = told
 told_by (hears.AtOnce poll) told = λ wire. None
 
+-- over this wire the clip before was waited for, if that is needed, and then the list was played, if the answer let it be
+-- begun; or the wire failed before
+pub data HasAwaited {W F : Type 0} (told : W → Option Told) (does : Act → W → W → Type 0) (safe : F → Option (List ℕ))
+    (settings : RunSettings) (start : Start) (wire : W) (recorder : Option (Recording F)) (end : RunEnd) : Type 0 where
+  went_on : (wire' : W) → AwaitsClip does settings start.plan start.state wire wire'
+      → HasTried told does safe unseen settings start (over wire' recorder) tt end
+      → HasAwaited told does safe settings start wire recorder end
+  failed : IsSome (waiting_in start.state.stage) → end.line ≡ line_end.Failed
+      → HasAwaited told does safe settings start wire recorder end
+
 -- so over this wire
 abbrev pub TriesOver : {W F : Type 0} → (W → Option Told) → (Act → W → W → Type 0) → (F → Option (List ℕ)) → RunSettings
     → Start → W → Option (Recording F) → RunEnd → Type 0
 TriesOver told does safe settings start wire recorder end =
-    HasTried (told_by settings.hearing told) (does_by settings.hearing does) safe unseen settings start (over wire recorder) tt
-    end
+    HasAwaited (told_by settings.hearing told) (does_by settings.hearing does) safe settings start wire recorder end
 
 -- a session of a connection: nothing went out if its controller had ended before, or the connection was no wire
 pub data HasSession {F : Type 0} (safe : F → Option (List ℕ)) (settings : RunSettings) (start : Start)

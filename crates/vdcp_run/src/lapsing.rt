@@ -4,6 +4,7 @@ ghost use Rattle.vdcp_wire.specs.Acts.{brings, fails};
 ghost use Rattle.vdcp_wire.specs.Wires.{arrival_of, FitsBuffer};
 ghost use Rattle.vdcp_run.specs.Lapse.{has_lapsed, since_with, Lapses};
 
+use crate::settings::RunSettings;
 use crate::stopwatch::{Stopwatch, nanoseconds};
 use std::rt::Clock;
 use vdcp_wire::{Came, PIECE, Wire, WireFault};
@@ -32,16 +33,16 @@ pub struct Lapsing<'a, R: Clock, W: Wire> {
 }
 
 impl<'a, R: Clock, W: Wire> Lapsing<'a, R, W> {
-    /// A wire over this one, whose silences are of this many milliseconds.
-    pub fn new(wire: W, clock: &'a R, silence: u32) -> Self
+    /// A wire over this one, with the silences of a run.
+    pub fn new(wire: W, clock: &'a R, settings: RunSettings<'_>) -> Self
         ensures wire { result.wire ≡ wire }
-        ensures silence { result.silence ≡ silence * 1000000 }
+        ensures silence { result.silence ≡ settings.silence * 1000000 }
         ensures since { result.since ≡ Since.Nothing }
     {
         Lapsing {
             wire,
             stopwatch: Stopwatch::new(clock),
-            silence: nanoseconds(silence),
+            silence: nanoseconds(settings.silence),
             sent: 0,
             since: Since::Nothing,
         }

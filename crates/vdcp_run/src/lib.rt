@@ -4,7 +4,7 @@
 //! standard error, and the exit status is given.
 //!
 //! Files, in reading order: `settings`, `run`, `begin`, `session`, `asking`, `run_end`, `advice`, `asrun`, `place`, `in_list`,
-//! `progress`, `polling`, `lapsing`, `waiting`, `stopwatch`.
+//! `polling`, `lapsing`, `waiting`, `stopwatch`.
 #![tactic(auto)]
 
 mod advice;
@@ -15,7 +15,6 @@ mod in_list;
 mod lapsing;
 mod place;
 mod polling;
-mod progress;
 mod run;
 mod run_end;
 mod session;

@@ -1,43 +1,50 @@
 //! How soon the state is asked again.
-ghost use Rattle.std.specs.Duration.{as_nanos};
 ghost use Rattle.std.specs.Prelude.{◌≡◌, ◌*◌};
+ghost use Rattle.vdcp_run.specs.Polls.{Polls, due_after, poll_of};
 
+use crate::settings::RunSettings;
+use crate::stopwatch::{Stopwatch, nanoseconds};
 use std::rt::Clock;
-use std::time::{Duration, Instant};
 use vdcp_drive::Pace;
+use vdcp_log::Hearing;
 use vdcp_words::Command;
 
 /// Waits before a STATUS until the time since the last one is as long as it has to be.
 #[derive(Drop)]
 pub struct Polling<'a, R: Clock> {
-    clock: &'a R,
-    least: Duration,
-    last: Option<Instant>,
+    stopwatch: Stopwatch<'a, R>,
+    // From one STATUS to the next at least, and when the next one may go out, in nanoseconds.
+    least: u64,
+    due: u64,
 }
 
 impl<'a, R: Clock> Polling<'a, R> {
-    /// With this many milliseconds from one STATUS to the next at least.
-    pub fn new(clock: &'a R, least: u32) -> Self
-        ensures { as_nanos result.least ≡ least * 1000000 }
+    /// The pace of a run. One that hears at silences waits for nothing else.
+    pub fn new(clock: &'a R, settings: RunSettings<'_>) -> Self
+        ensures least { result.least ≡ poll_of settings.hearing * 1000000 }
+        ensures due { result.due ≡ 0 }
     {
+        let poll = match settings.hearing {
+            Hearing::AtSilences => 0,
+            Hearing::AtOnce(poll) => poll,
+        };
         Polling {
-            clock,
-            least: Duration::from_millis(u64::from(least)),
-            last: None,
+            stopwatch: Stopwatch::new(clock),
+            least: nanoseconds(poll),
+            due: 0,
         }
     }
 }
 
 impl<R: Clock> Pace for Polling<'_, R> {
-    // (if the clock can't be read there is no wait)
-    fn wait(&mut self, command: &Command) {
-        if !matches!(command, Command::Status(_)) {
-            return;
+    fn wait(&mut self, command: &Command)
+        ensures waits { Polls command.now self.old.due self.new.stopwatch.now }
+        ensures due { self.new.due ≡ due_after command.now self.old.least self.old.due self.new.stopwatch.now }
+        ensures least { self.new.least ≡ self.old.least }
+    {
+        if let Command::Status(_) = command {
+            self.stopwatch.sleep_until(self.due);
+            self.due = self.stopwatch.read().saturating_add(self.least);
         }
-        if let (Some(last), Ok(now)) = (self.last, Instant::now(self.clock)) {
-            self.clock
-                .sleep(self.least.saturating_sub(now.duration_since(last)));
-        }
-        self.last = Instant::now(self.clock).ok();
     }
 }

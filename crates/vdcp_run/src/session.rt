@@ -1,12 +1,12 @@
 //! One session: a list is played over a connection, and what came of it.
-ghost use Rattle.std.specs.Prelude.{◌≡◌, ◌⊎◌, ◌≤◌, IfErr, IfOk, IsSome, None, OnErr, Some, false, true};
+ghost use Rattle.std.specs.Duration.{as_nanos};
+ghost use Rattle.std.specs.Prelude.{◌≡◌, ◌⊎◌, ◌≤◌, ◌*◌, IfErr, IfOk, IsSome, None, OnErr, Some, false, true};
 ghost use Rattle.vdcp_run.specs.Run.{EndsRun, MayBeUnkept, journal_of};
-ghost use Rattle.vdcp_run.specs.Session.{HasPlayed, HasSession, HasTried, IsClosed, Plays, TriesOver, over, start_of, unseen};
+ghost use Rattle.vdcp_run.specs.Session.{HasAwaited, HasPlayed, HasSession, HasTried, IsClosed, Plays, TriesOver, over, start_of, unseen};
 
 use crate::asking::{may_begin, unbegun_line, vacancy_for};
 use crate::lapsing::Lapsing;
 use crate::polling::Polling;
-use crate::progress::{Glances, Progress, ShownWire};
 use crate::run_end::{LineEnd, RunEnd, ended, unbegun};
 use crate::settings::{RunSettings, Showing, Shown};
 use crate::waiting::await_clip;
@@ -17,14 +17,14 @@ use std::rt::{Clock, Files};
 use std::time::Duration;
 use vdcp_auto::{Controller, Outcome, Source};
 use vdcp_drive::{
-    AutoDriver, Driver, Ear, KeptFault, Pace, PromptDriver, Ran, Unkept, Unpaced, Unwatched, Watch,
+    AutoDriver, Driver, Ear, KeptFault, PromptDriver, Ran, Unkept, Unwatched, Watch,
 };
 use vdcp_journal_file::{Disk, Recorder, Resumption};
 use vdcp_list::Rest;
 use vdcp_log::{Hearing, Log, Logged, Side, Telling};
-use vdcp_operator::Hand;
+use vdcp_operator::{Glances, Hand, Progress, ShownWire};
 use vdcp_text::Failure;
-use vdcp_wire::{StreamWire, Wire};
+use vdcp_wire::{StreamWire, Wire, WireFault};
 
 /// How long a connection may take to come about, in seconds.
 const CONNECTING: u64 = 5;
@@ -66,14 +66,19 @@ pub fn play_at<
     let Ok(stream) = rt.connect_timeout(SocketAddr::V4(address), within) else {
         return Err(Failure::Connect);
     };
-    await_clip(rt, &stream, &controller, settings);
-    let silence = Duration::from_millis(u64::from(settings.silence));
-    let wire = StreamWire::new(stream, silence);
+    let wire = StreamWire::new(stream, silence_of(settings));
     let end = play_over(rt, controller, recorder, wire, settings, showing, hand);
     match end.line {
         LineEnd::Occupied => Err(Failure::NotEmpty),
         _ => Ok(end),
     }
+}
+
+/// How long the line has to be silent for an answer to be missing.
+pub fn silence_of(settings: RunSettings<'_>) -> Duration
+    ensures { as_nanos result ≡ settings.silence * 1000000 }
+{
+    Duration::from_millis(u64::from(settings.silence))
 }
 
 // Plays a list over the wire of a connection, on which time-outs come by the clock if answers are heard at once. One
@@ -106,7 +111,7 @@ fn play_over<
 {
     match wire {
         Ok(wire) => match settings.hearing {
-            Hearing::AtSilences => play_shown(
+            Hearing::AtSilences => play_awaited(
                 rt,
                 controller,
                 &mut recorder,
@@ -116,11 +121,42 @@ fn play_over<
                 hand,
             ),
             Hearing::AtOnce(_) => {
-                let wire = Lapsing::new(wire, rt, settings.silence);
-                play_shown(rt, controller, &mut recorder, wire, settings, showing, hand)
+                let wire = Lapsing::new(wire, rt, settings);
+                play_awaited(rt, controller, &mut recorder, wire, settings, showing, hand)
             }
         },
         Err(_) => ended(rt, &controller, LineEnd::Failed, settings),
+    }
+}
+
+// Plays a list over a wire, once the clip before has ended, if that is to be awaited.
+fn play_awaited<
+    'a,
+    R: Files + Clock + AllocGlobal,
+    S: Source + Copy,
+    W: Wire + Drop,
+    V: io::Write + Drop,
+    F: Disk + Drop,
+    I: io::Read + Drop,
+    O: io::Write,
+>(
+    rt: &R,
+    controller: Controller<Rest<S>>,
+    recorder: &mut Option<Recorder<'a, '_, R, F>>,
+    wire: W,
+    settings: RunSettings<'a>,
+    showing: Showing<V>,
+    hand: &mut Hand<'_, R, I, O>,
+) -> RunEnd<'a>
+    requires unit { settings.unit ≤ 15 }
+    requires some { 1 ≤ settings.limit }
+    requires works { W.failures wire ≡ 0 }
+    ensures session { HasAwaited W.told W.does F.safe settings.entry (start_of S.items controller) wire recorder.old result }
+    ensures end { EndsRun settings.entry (journal_of recorder.old) S.items controller result }
+{
+    match await_clip(rt, &controller, wire, settings) {
+        Ok(wire) => play_shown(rt, controller, recorder, wire, settings, showing, hand),
+        Err(WireFault) => ended(rt, &controller, LineEnd::Failed, settings),
     }
 }
 
@@ -262,12 +298,11 @@ fn play<
     match settings.hearing {
         Hearing::AtSilences => {
             let driver = AutoDriver::new(controller, settings.unit, wire);
-            play_by(rt, driver, Unpaced, watcher, recorder, settings, hand)
+            play_by(rt, driver, watcher, recorder, settings, hand)
         }
-        Hearing::AtOnce(poll) => {
+        Hearing::AtOnce(_) => {
             let driver = PromptDriver::new(controller, settings.unit, wire);
-            let pace = Polling::new(rt, poll);
-            play_by(rt, driver, pace, watcher, recorder, settings, hand)
+            play_by(rt, driver, watcher, recorder, settings, hand)
         }
     }
 }
@@ -279,7 +314,6 @@ fn play_by<
     S: Source + Copy,
     E: Ear + Drop,
     W: Wire + Drop,
-    P: Pace + Drop,
     V: Watch<Rest<S>>,
     F: Disk + Drop,
     I: io::Read + Drop,
@@ -287,7 +321,6 @@ fn play_by<
 >(
     rt: &R,
     mut driver: Driver<Rest<S>, E, W>,
-    mut pace: P,
     watcher: &mut V,
     recorder: &mut Option<Recorder<'a, '_, R, F>>,
     settings: RunSettings<'a>,
@@ -303,6 +336,7 @@ fn play_by<
         return play_operated(rt, &mut driver, watcher, recorder, settings, hand);
     }
     let listens = u64::from(settings.listens);
+    let mut pace = Polling::new(rt, settings);
     match recorder {
         None => {
             let ran = driver.run_with(listens, watcher, &mut Unkept, &mut pace);

@@ -2,6 +2,7 @@
 ghost use Rattle.std.specs.Prelude.{◌≡◌, ◌≤◌, ◌*◌};
 
 use std::rt::Clock;
+use std::time::Duration;
 
 /// Reads a clock in nanoseconds, which never go back. A clock that can't be read stands still.
 #[derive(Drop)]
@@ -29,6 +30,18 @@ impl<'a, R: Clock> Stopwatch<'a, R> {
             self.now = self.now.max(nanoseconds);
         }
         self.now
+    }
+
+    /// Sleeps until this time. It is that time then, also by a clock that stands still.
+    pub fn sleep_until(&mut self, time: u64)
+        ensures over { time ≤ self.new.now }
+        ensures later { self.old.now ≤ self.new.now }
+    {
+        let left = time.saturating_sub(self.read());
+        if left > 0 {
+            self.clock.sleep(Duration::from_nanos(left));
+        }
+        self.now = self.now.max(time);
     }
 }
 

@@ -1,71 +1,71 @@
 //! A run that goes on after a PLAY that may have been lost lets the clip before end.
-ghost use Rattle.std.specs.Prelude.{◌≡◌, ◌≤◌};
+ghost use Rattle.std.specs.Prelude.{◌≡◌, ◌≤◌, IfOk, IsSome, OnErr};
+ghost use Rattle.vdcp_auto.specs.Plan.{plan_of};
+ghost use Rattle.vdcp_run.specs.Waiting.{AsksState, AwaitsClip, waiting_in};
 
-use crate::lapsing::Lapsing;
 use crate::polling::Polling;
 use crate::settings::RunSettings;
-use std::net::{Net, OpenStream};
 use std::rt::Clock;
-use std::time::Duration;
 use vdcp_auto::{Controller, Heard, Phase, Snapshot, Source, Standing};
 use vdcp_drive::{
-    AutoDriver, Call, Driver, Ear, Keep, KeepFault, Pace, PromptDriver, Unpaced, Unwatched,
+    AutoDriver, Call, Driver, Ear, Keep, KeepFault, KeptFault, PromptDriver, Unwatched,
 };
-use vdcp_list::Rest;
 use vdcp_log::Hearing;
-use vdcp_wire::{StreamWire, Wire};
+use vdcp_wire::{Wire, WireFault};
 use vdcp_words::Command;
 
-/// If the controller asks whether its PLAY was lost, and would send it again at once, this asks the state over
-/// this stream until no clip plays before one that is cued. If the stream fails, or the other end closes it, that shows
-/// later.
-pub fn await_clip<R: Net + Clock + AllocGlobal, S: Source>(
+/// The wire, once no clip plays before one that is cued: if the controller asks whether its PLAY was lost, and would send
+/// it again at once, the state is asked over this wire until then. Err if the wire failed.
+pub fn await_clip<R: Clock, S: Source, W: Wire + Drop>(
     rt: &R,
-    stream: &R::Stream,
-    controller: &Controller<Rest<S>>,
+    controller: &Controller<S>,
+    wire: W,
     settings: RunSettings<'_>,
-)
-    requires { settings.unit ≤ 15 }
+) -> Result<W, WireFault>
+    requires unit { settings.unit ≤ 15 }
+    requires works { W.failures wire ≡ 0 }
+    ensures awaits { IfOk result (AwaitsClip W.does settings.entry (plan_of S.items controller.now) controller.now.state wire) }
+    ensures works { IfOk result (λ w. W.failures w ≡ 0) }
+    ensures fails { OnErr result (IsSome (waiting_in controller.now.state.stage)) }
 {
     let snapshot = controller.snapshot();
     let Standing::Ready(Phase::Probe(event)) = snapshot.standing else {
-        return;
+        return Ok(wire);
     };
     let waits = Snapshot {
         standing: Standing::Ready(Phase::Wait(event)),
         ..snapshot
     };
     let waiting = Controller::of_snapshot(controller.source(), &waits);
-    let Ok(stream) = stream.try_clone() else {
-        return;
-    };
-    let silence = Duration::from_millis(u64::from(settings.silence));
-    let Ok(wire) = StreamWire::new(stream, silence) else {
-        return;
-    };
     match settings.hearing {
         Hearing::AtSilences => {
             let driver = AutoDriver::new(waiting, settings.unit, wire);
-            ask_by(driver, Unpaced, settings);
+            ask_by(rt, driver, settings)
         }
-        Hearing::AtOnce(poll) => {
-            let wire = Lapsing::new(wire, rt, settings.silence);
+        Hearing::AtOnce(_) => {
             let driver = PromptDriver::new(waiting, settings.unit, wire);
-            ask_by(driver, Polling::new(rt, poll), settings);
+            ask_by(rt, driver, settings)
         }
     }
 }
 
-// Runs an automation that sends nothing but what asks for the state.
-fn ask_by<S: Source + Copy, E: Ear + Drop, W: Wire + Drop, P: Pace + Drop>(
+// The wire of an automation that was run, but sent nothing but what asks for the state.
+fn ask_by<R: Clock, S: Source + Copy, E: Ear + Drop, W: Wire + Drop>(
+    rt: &R,
     mut driver: Driver<S, E, W>,
-    mut pace: P,
     settings: RunSettings<'_>,
-)
-    requires { driver.unit ≡ settings.unit }
+) -> Result<W, WireFault>
+    requires works { W.failures driver.wire ≡ 0 }
+    ensures asks { IfOk result (AsksState W.does E.fold driver.ear (plan_of S.items driver.controller) driver.unit
+        settings.entry.listens driver.controller.state driver.wire) }
+    ensures works { IfOk result (λ w. W.failures w ≡ 0) }
 {
     let listens = u64::from(settings.listens);
-    let _ = driver.run_with(listens, &mut Unwatched, &mut OnlyAsks, &mut pace);
+    let mut pace = Polling::new(rt, settings);
+    match driver.run_with(listens, &mut Unwatched, &mut OnlyAsks, &mut pace) {
+        Ok(_) | Err(KeptFault::Unkept) => Ok(driver.into_wire()),
+        Err(KeptFault::Device) => Err(WireFault),
+    }
 }
 
 // Lets no command go out but one that asks for the state.

@@ -1,7 +1,6 @@
 //! The progress line, and what draws it during a run.
 ghost use Rattle.std.specs.Prelude.{◌≡◌};
 
-use crate::in_list::reported_in_list;
 use arrayvec::ArrayString;
 use std::cell::Cell;
 use std::fmt::{self, Write};
@@ -235,11 +234,13 @@ fn begun_before(drawing: Drawing, glance: &Glance, now: Instant) -> Option<Insta
 /// A wire over another one, before each of whose listens the line is drawn.
 #[derive(Drop)]
 pub struct ShownWire<'a, R: Clock, V: io::Write, W: Wire> {
-    wire: W,
+    /// The wire below.
+    pub wire: W,
     progress: &'a Progress<'a, R, V>,
 }
 
 impl<'a, R: Clock, V: io::Write, W: Wire> ShownWire<'a, R, V, W> {
+    /// A wire over this one.
     pub fn new(wire: W, progress: &'a Progress<'a, R, V>) -> Self
         ensures { result.wire ≡ wire }
     {
@@ -283,6 +284,7 @@ pub struct Glances<'a, R: Clock, V: io::Write> {
 }
 
 impl<'a, R: Clock, V: io::Write> Glances<'a, R, V> {
+    /// Of a controller that isn't seen yet.
     pub fn new(progress: &'a Progress<'a, R, V>) -> Self {
         Glances { progress }
     }
@@ -291,15 +293,17 @@ impl<'a, R: Clock, V: io::Write> Glances<'a, R, V> {
 impl<S: Source, R: Clock, V: io::Write + Drop> Watch<Rest<S>> for Glances<'_, R, V> {
     fn look(&mut self, controller: &Controller<Rest<S>>) {
         if let Some(command) = controller.awaited() {
-            self.progress.note_reported(reported_in_list(controller));
-            self.progress.work.set(Work::of(controller, command));
+            let reported = controller.source().from() + controller.settled();
+            self.progress.note_reported(reported);
+            let work = Work::of(controller, command, reported);
+            self.progress.work.set(work);
         }
     }
 }
 
 impl Work {
     // Of a controller that awaits the answer to this command.
-    fn of<S: Source>(controller: &Controller<Rest<S>>, command: Command) -> Work {
+    fn of<S: Source>(controller: &Controller<Rest<S>>, command: Command, reported: usize) -> Work {
         let rest = controller.source();
         let settled = controller.settled();
         let event = if settled < rest.len() {
@@ -316,7 +320,7 @@ impl Work {
             on_air,
             event,
             command,
-            reported: reported_in_list(controller),
+            reported,
             events: rest.whole().len(),
         }
     }
