@@ -20,7 +20,7 @@ use Rattle.vdcp_log.specs.declared.hearing.Hearing.{Hearing}
 use Rattle.vdcp_log.specs.declared.hearing.Hearing.TheVariants as hears
 use Rattle.vdcp_journal_file.specs.Recording.{Recording}
 use Rattle.vdcp_run.specs.Lapse.{Lapses, MayLapse}
-use Rattle.vdcp_run.specs.Session.{HasAwaited, HasPlayed, HasSession, HasTried, IsAsked, IsGiven, LastRound, Parts, Playing, Plays, Rounds, Runs, RunsBy, Start, TriesOver, does_by, ended, failed, missed, no_wire, over, played, rules_of, run_over, spent, told_by, tried, unbegun, unseen, went_on}
+use Rattle.vdcp_run.specs.Session.{HasAwaited, HasPlayed, HasSession, HasTried, IsAsked, IsGiven, LastRound, Parts, Playing, Plays, Rounds, Runs, RunsBy, Start, TriesOver, broke, does_by, ended, missed, no_wire, over, played, rules_of, run_over, spent, told_by, tried, unbegun, unseen, went_on}
 use Rattle.vdcp_run.specs.Waiting.{AsksState, AwaitsIn, waiting_in}
 use Rattle.vdcp_run.specs.declared.lapsing.Since.{Since}
 use Rattle.vdcp_run.specs.declared.run_end.LineEnd.TheVariants as line_end
@@ -244,7 +244,7 @@ awaited_seen told told' does does' safe w same acting settings start wire record
     wire wire' awaits)
     (tries_seen told told' does does' safe unseen unseen w (λ v. v) same acting (λ s old new h. h) settings start
     (over wire' recorder) tt end tries)
-awaited_seen told told' does does' safe w same acting settings start wire recorder end (failed waits line) = failed waits line
+awaited_seen told told' does does' safe w same acting settings start wire recorder end (broke waits line) = broke waits line
 
 -- ---- a silence by the clock
 

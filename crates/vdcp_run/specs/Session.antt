@@ -241,7 +241,7 @@ pub data HasAwaited {W F : Type 0} (told : W → Option Told) (does : Act → W 
   went_on : (wire' : W) → AwaitsClip does settings start.plan start.state wire wire'
       → HasTried told does safe unseen settings start (over wire' recorder) tt end
       → HasAwaited told does safe settings start wire recorder end
-  failed : IsSome (waiting_in start.state.stage) → end.line ≡ line_end.Failed
+  broke : IsSome (waiting_in start.state.stage) → end.line ≡ line_end.Failed
       → HasAwaited told does safe settings start wire recorder end
 
 -- so over this wire

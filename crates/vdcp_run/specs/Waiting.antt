@@ -8,6 +8,7 @@ use Rattle.vdcp_drive.specs.Ears.{Fold}
 use Rattle.vdcp_drive.specs.Hearing as ears
 use Rattle.vdcp_drive.specs.Leaves.{HasRun}
 use Rattle.vdcp_drive.specs.Reading.{holds}
+use Rattle.vdcp_drive.specs.Steps.{Rules, World}
 use Rattle.vdcp_drive.specs.declared.keep.Kept.{Kept}
 use Rattle.vdcp_drive.specs.declared.keep.Kept.TheVariants as kept
 use Rattle.vdcp_drive.specs.declared.keep.KeptFault.{KeptFault}
@@ -25,15 +26,25 @@ OnlyAsks (kept.Sent other) = ⊥
 OnlyAsks (kept.Heard heard) = Unit {0}
 OnlyAsks kept.Silence = Unit {0}
 
+-- a wire over which nothing is kept and nobody watches
+abbrev pub alone : {W : Type 0} → W → World W (Unit {0}) (Unit {0})
+alone wire = record { wire = wire; keep = tt; watch = tt }
+
+abbrev pub asking : {W : Type 0} → (Act → W → W → Type 0) → Rules W (Unit {0}) (Unit {0})
+asking does = record {
+  does = does;
+  adds = λ kept _ _. OnlyAsks kept;
+  loses = λ command _ _. Unit {0};
+  sees = λ state _ _. Unit {0};
+}
+
 -- an automation ran over this wire from this state on, and nothing went out but what asks for the state
 pub record AsksState {W E : Type 0} (does : Act → W → W → Type 0) (fold : Fold E) (ear : E) (plan : Plan)
     (unit listens : ℕ) (state : State) (wire wire' : W) : Type 0 where
   pub left : Auto E
   pub answer : Result Ran KeptFault
-  pub ran : HasRun (record
-      { does = does; adds = λ kept _ _. OnlyAsks kept; loses = λ command _ _. Unit {0}; sees = λ state _ _. Unit {0} })
-      fold plan unit listens (record { ear = ear; state = state }) left
-      (record { wire = wire; keep = tt; watch = tt }) (record { wire = wire'; keep = tt; watch = tt }) answer
+  pub ran : HasRun (asking does) fold plan unit listens (record { ear = ear; state = state }) left (alone wire)
+      (alone wire') answer
 
 -- so by the ear that a run has
 abbrev pub AsksBy : {W : Type 0} → Hearing → (Act → W → W → Type 0) → Plan → (unit listens : ℕ) → State → W → W → Type 0

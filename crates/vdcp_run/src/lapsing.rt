@@ -36,7 +36,7 @@ impl<'a, R: Clock, W: Wire> Lapsing<'a, R, W> {
     /// A wire over this one, with the silences of a run.
     pub fn new(wire: W, clock: &'a R, settings: RunSettings<'_>) -> Self
         ensures wire { result.wire ≡ wire }
-        ensures silence { result.silence ≡ settings.silence * 1000000 }
+        ensures silence { result.silence ≡ settings.entry.silence * 1000000 }
         ensures since { result.since ≡ Since.Nothing }
     {
         Lapsing {

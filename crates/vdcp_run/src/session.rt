@@ -16,9 +16,7 @@ use std::net::{Net, SocketAddr, SocketAddrV4};
 use std::rt::{Clock, Files};
 use std::time::Duration;
 use vdcp_auto::{Controller, Outcome, Source};
-use vdcp_drive::{
-    AutoDriver, Driver, Ear, KeptFault, PromptDriver, Ran, Unkept, Unwatched, Watch,
-};
+use vdcp_drive::{AutoDriver, Driver, Ear, KeptFault, PromptDriver, Ran, Unkept, Unwatched, Watch};
 use vdcp_journal_file::{Disk, Recorder, Resumption};
 use vdcp_list::Rest;
 use vdcp_log::{Hearing, Log, Logged, Side, Telling};
@@ -76,7 +74,7 @@ pub fn play_at<
 
 /// How long the line has to be silent for an answer to be missing.
 pub fn silence_of(settings: RunSettings<'_>) -> Duration
-    ensures { as_nanos result ≡ settings.silence * 1000000 }
+    ensures { as_nanos result ≡ settings.entry.silence * 1000000 }
 {
     Duration::from_millis(u64::from(settings.silence))
 }
