@@ -1,6 +1,7 @@
 -- What a port is asked before anything is played through it, and what is made of its answers: is something cued, or
 -- does something play?
-use Rattle.std.specs.Prelude.{ℕ, ◌≡◌, ◌≤◌, ◌<◌, ◌+◌, ◌*◌, nat_eq, nat_lt, true, false, IsTrue, List, [], ◌∷◌, ◌++◌, length, map, Option, None, Some, if◌then◌else◌}
+use Rattle.std.specs.List.{concat, flat_map}
+use Rattle.std.specs.Prelude.{ℕ, ◌≡◌, ◌≤◌, ◌+◌, ◌*◌, nat_eq, nat_lt, true, false, List, [], ◌∷◌, ◌++◌, length, map, Option, None, Some, Result, Ok, Err, IfOk, IsErr, OnOk, if◌then◌else◌}
 use Rattle.vdcp_words.specs.declared.command.Command.{Command}
 use Rattle.vdcp_words.specs.declared.command.Command.TheVariants as command
 use Rattle.vdcp_words.specs.declared.reply.Reply.{Reply}
@@ -8,8 +9,8 @@ use Rattle.vdcp_words.specs.declared.reply.Reply.TheVariants as reply
 use Rattle.vdcp_auto.specs.Heard.{heard_in}
 use Rattle.vdcp_auto.specs.declared.exchange.Heard.{Heard}
 use Rattle.vdcp_auto.specs.declared.exchange.Heard.TheVariants as heard
-use Rattle.vdcp_drive.specs.Bursts.{ended_bursts, open_burst}
-use Rattle.vdcp_drive.specs.Traces.{bytes_of, starts_behind}
+use Rattle.vdcp_drive.specs.Steps.{Chain, command_bytes}
+use Rattle.vdcp_drive.specs.Traces.{came_in}
 use Rattle.vdcp_drive.specs.declared.vacancy.Asking.{Asking}
 use Rattle.vdcp_drive.specs.declared.vacancy.Asking.TheVariants.{Asks, Over}
 use Rattle.vdcp_drive.specs.declared.vacancy.Burst.{Burst}
@@ -18,7 +19,9 @@ use Rattle.vdcp_drive.specs.declared.vacancy.Question.{Question}
 use Rattle.vdcp_drive.specs.declared.vacancy.Question.TheVariants as question
 use Rattle.vdcp_drive.specs.declared.vacancy.Vacancy.{Vacancy}
 use Rattle.vdcp_drive.specs.declared.vacancy.Vacancy.TheVariants as vacancy
-use Rattle.vdcp_wire.specs.Wires.{Arrival, Told, has_closed}
+use Rattle.vdcp_wire.specs.Acts.{Act, sends, brings, drops, fails}
+use Rattle.vdcp_wire.specs.Wires.{bytes, silence, close}
+use Rattle.vdcp_wire.specs.declared.wire.WireFault.{WireFault}
 
 -- the command that asks it; none of them cues or plays
 abbrev pub question_command : ℕ → Question → Command
@@ -50,47 +53,61 @@ unless_led limit q unanswered None =
 abbrev pub asking_after : ℕ → Question → ℕ → Option Heard → Asking
 asking_after limit q unanswered h = unless_led limit q unanswered (led_on q h)
 
--- after exchanges in which this was heard, one after another
-abbrev pub asking_from : ℕ → List (Option Heard) → Asking → Asking
-asking_from limit [] asking = asking
-asking_from limit (h ∷ later) (Over v) = Over v
-asking_from limit (h ∷ later) (Asks q unanswered) = asking_from limit later (asking_after limit q unanswered h)
+abbrev pub first_asking : Asking
+first_asking = Asks question.Open 0
 
--- the questions of these exchanges
-abbrev pub asked_from : ℕ → List (Option Heard) → Asking → List Question
-asked_from limit [] asking = []
-asked_from limit (h ∷ later) (Over v) = []
-asked_from limit (h ∷ later) (Asks q unanswered) = q ∷ asked_from limit later (asking_after limit q unanswered h)
+-- an exchange that a silence ended: what was asked, and the pieces of what came for it
+pub record Exchanged : Type 0 where
+  pub question : Question
+  pub pieces : List (List ℕ)
 
--- and the one that is asked then
+-- of all its bytes the first message is heard, or nothing
+abbrev pub heard_of : ℕ → Exchanged → Option Heard
+heard_of unit e = heard_in unit (concat e.pieces)
+
+-- by what was heard it led from its question to the next
+abbrev pub Leads : ℕ → ℕ → Exchanged → Asking → Asking → Type 0
+Leads unit limit e old new =
+    (unanswered : ℕ) × (old ≡ Asks e.question unanswered) × (new ≡ asking_after limit e.question unanswered (heard_of unit e))
+
+-- the question that is asked, if one is
 abbrev pub asked_now : Asking → List Question
 asked_now (Asks q unanswered) = q ∷ []
 asked_now (Over v) = []
 
-abbrev pub first_asking : Asking
-first_asking = Asks question.Open 0
+-- What the wire does.
 
--- what was heard in each exchange that ended: of each burst that a silence ended its first message, or nothing
-abbrev pub heard_of : ℕ → List Arrival → List (Option Heard)
-heard_of unit came = map (heard_in unit) (ended_bursts came)
+abbrev pub question_bytes : ℕ → ℕ → Question → List ℕ
+question_bytes unit port q = command_bytes unit (question_command port q)
 
-abbrev pub asking_by : ℕ → ℕ → List Arrival → Asking
-asking_by unit limit came = asking_from limit (heard_of unit came) first_asking
+-- a burst comes, in these pieces
+abbrev pub comes : List (List ℕ) → List Act
+comes pieces = map (λ piece. brings (bytes piece)) pieces
 
--- the questions that were asked by then, and their commands
-abbrev pub questions_by : ℕ → ℕ → List Arrival → List Question
-questions_by unit limit came =
-    asked_from limit (heard_of unit came) first_asking ++ asked_now (asking_by unit limit came)
+-- what waits is dropped, the question goes out, and these pieces come for it
+abbrev pub asks : List ℕ → List (List ℕ) → List Act
+asks question pieces = drops ∷ sends question ∷ comes pieces
 
-abbrev pub commands_asked : ℕ → ℕ → ℕ → List Arrival → List Command
-commands_asked unit port limit came = map (question_command port) (questions_by unit limit came)
+abbrev pub exchange : ℕ → ℕ → Exchanged → List Act
+exchange unit port e = asks (question_bytes unit port e.question) e.pieces ++ brings silence ∷ []
 
--- what the questions came to: if one is still asked, the other end has closed or no listen is left
-abbrev pub CameTo : Asking → List Arrival → ℕ → Vacancy → Type 0
-CameTo (Over v) came left answer = answer ≡ v
-CameTo (Asks q unanswered) came left vacancy.Closed = IsTrue (has_closed came)
-CameTo (Asks q unanswered) came left vacancy.Spent = left ≡ 0
-CameTo (Asks q unanswered) came left _ = ⊥
+-- how a question stops the others that no silence ended: by these last acts, with this answer
+pub data Stops (question : List ℕ) (left : ℕ) (answer : Result Vacancy WireFault) (last : List Act) : Type 0 where
+  closed : (pieces : List (List ℕ)) → answer ≡ Ok vacancy.Closed → last ≡ asks question pieces ++ brings close ∷ []
+      → Stops question left answer last
+  spent : (pieces : List (List ℕ)) → answer ≡ Ok vacancy.Spent → left ≡ 0 → last ≡ asks question pieces
+      → Stops question left answer last
+  -- the wire failed: in the drop, in the send, of which a beginning went out, or in a listen
+  in_drop : IsErr answer → last ≡ fails ∷ [] → Stops question left answer last
+  in_send : (front rest : List ℕ) → IsErr answer → question ≡ front ++ rest → last ≡ drops ∷ sends front ∷ []
+      → Stops question left answer last
+  in_listen : (pieces : List (List ℕ)) → IsErr answer → last ≡ asks question pieces ++ fails ∷ []
+      → Stops question left answer last
+
+-- how the questions ended that had come to this
+abbrev pub Ends : ℕ → ℕ → ℕ → Result Vacancy WireFault → List Act → Asking → Type 0
+Ends unit port left answer last (Over v) = (answer ≡ Ok v) × (last ≡ [])
+Ends unit port left answer last (Asks q unanswered) = Stops (question_bytes unit port q) left answer last
 
 -- OPEN was granted, then SELECT answered ACK, and at last STATUS this state
 pub record HasSaid (came : List (Option Heard)) (state : ℕ) : Type 0 where
@@ -107,45 +124,39 @@ IsSaid came vacancy.Vacant = HasSaid came 1
 IsSaid came (vacancy.Occupied state) = HasSaid came state
 IsSaid came _ = Unit {0}
 
--- over a fresh wire a port was asked, with this many listens before and left over
-pub record HasAsked (unit port limit listens left : ℕ) (told : Told) (answer : Vacancy) : Type 0 where
-  pub sent_is : told.sent ≡ bytes_of unit (commands_asked unit port limit told.came)
-  pub drops_are : told.drops ≡ starts_behind unit 0 (commands_asked unit port limit told.came)
-  pub answer_is : CameTo (asking_by unit limit told.came) told.came left answer
-  pub said : IsSaid (heard_of unit told.came) answer
-  pub few : length (questions_by unit limit told.came) ≤ 3 * limit
-  pub listened : length told.came + left ≡ listens
+-- over any wire a port was asked, with this many listens before and left over
+pub record HasAsked {W : Type 0} (does : Act → W → W → Type 0) (unit port limit listens left : ℕ) (wire wire' : W)
+    (answer : Result Vacancy WireFault) : Type 0 where
+  pub exchanges : List Exchanged
+  pub asking : Asking
+  pub led : Chain (Leads unit limit) exchanges first_asking asking
+  pub last : List Act
+  pub happened : Chain does (flat_map (exchange unit port) exchanges ++ last) wire wire'
+  pub ending : Ends unit port left answer last asking
+  pub few : length exchanges + length (asked_now asking) ≤ 3 * limit
+  pub said : IfOk answer (IsSaid (map (heard_of unit) exchanges))
+  pub listened : OnOk answer (length (came_in (flat_map (exchange unit port) exchanges ++ last)) + left ≡ listens)
 
--- the wire failed: a beginning of what was to be sent is sent
-abbrev pub IsPartlyAsked : ℕ → ℕ → ℕ → Told → Type 0
-IsPartlyAsked unit port limit told =
-    (rest : List ℕ) × (bytes_of unit (commands_asked unit port limit told.came) ≡ told.sent ++ rest)
+-- One burst.
 
--- no burst has begun
-pub record IsBetween (came : List Arrival) : Type 0 where
-  pub no_close : has_closed came ≡ false
-  pub none_begun : open_burst came ≡ []
+-- what ended it
+abbrev pub end_of : Result Burst WireFault → List Act
+end_of (Ok (burst.Ended h)) = brings silence ∷ []
+end_of (Ok burst.Closed) = brings close ∷ []
+end_of (Ok burst.Spent) = []
+end_of (Err fault) = fails ∷ []
 
--- what a burst adds to what came
-abbrev pub AddsBurst : ℕ → List Arrival → List Arrival → ℕ → Burst → Type 0
-AddsBurst unit came came' left (burst.Ended h) = IsBetween came' × (heard_of unit came' ≡ heard_of unit came ++ h ∷ [])
-AddsBurst unit came came' left burst.Closed = IsTrue (has_closed came') × (heard_of unit came' ≡ heard_of unit came)
-AddsBurst unit came came' left burst.Spent = (left ≡ 0) × (heard_of unit came' ≡ heard_of unit came)
+-- what holds then, if this is heard of all its bytes
+abbrev pub HasEnded : ℕ → Option Heard → Result Burst WireFault → Type 0
+HasEnded left heard (Ok (burst.Ended h)) = h ≡ heard
+HasEnded left heard (Ok burst.Closed) = Unit {0}
+HasEnded left heard (Ok burst.Spent) = left ≡ 0
+HasEnded left heard (Err fault) = Unit {0}
 
--- and what listening to it leaves of the listens
-abbrev pub Lowers : Burst → ℕ → ℕ → Type 0
-Lowers (burst.Ended h) listens left = left < listens
-Lowers burst.Closed listens left = left ≤ listens
-Lowers burst.Spent listens left = left ≤ listens
-
--- a burst was listened to
-pub record HearsBurst (unit listens left : ℕ) (told told' : Told) (b : Burst) : Type 0 where
-  pub sent_stays : told'.sent ≡ told.sent
-  pub drops_stay : told'.drops ≡ told.drops
-  pub adds : AddsBurst unit told.came told'.came left b
-  pub listened : length told'.came + left ≡ length told.came + listens
-
--- the wire failed in it
-pub record BreaksBurst (unit : ℕ) (told told' : Told) : Type 0 where
-  pub sent_stays : told'.sent ≡ told.sent
-  pub heard_stays : heard_of unit told'.came ≡ heard_of unit told.came
+-- it was listened to
+pub record HearsBurst {W : Type 0} (does : Act → W → W → Type 0) (unit listens left : ℕ) (wire wire' : W)
+    (answer : Result Burst WireFault) : Type 0 where
+  pub pieces : List (List ℕ)
+  pub happened : Chain does (comes pieces ++ end_of answer) wire wire'
+  pub ended : HasEnded left (heard_in unit (concat pieces)) answer
+  pub listened : length pieces + length (end_of answer) + left ≡ listens

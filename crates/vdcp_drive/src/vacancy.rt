@@ -1,10 +1,8 @@
 //! The questions to a port: is anything cued or playing there?
-ghost use Rattle.std.specs.Prelude.{◌≡◌, ◌≤◌, ◌<◌, IfOk, OnOk, OnErr, Some};
+ghost use Rattle.std.specs.Prelude.{◌≡◌, ◌≤◌, ◌<◌, OnOk, OnErr};
 ghost use Rattle.vdcp_frame.specs.Message.{AreOctets};
-ghost use Rattle.vdcp_drive.specs.Steps.{command_bytes};
-ghost use Rattle.vdcp_drive.specs.Vacancy.{question_command, vacancy_of, led_on, asking_after, HasAsked, IsPartlyAsked};
-ghost use Rattle.vdcp_drive.specs.Vacancy.{IsBetween, HearsBurst, BreaksBurst, Lowers};
-ghost use Rattle.vdcp_wire.specs.Wires.{IfTold, SendsFront, Told, adds_sent, nothing_told};
+ghost use Rattle.vdcp_drive.specs.Vacancy.{question_command, question_bytes, vacancy_of, led_on, asking_after, HasAsked, HearsBurst};
+ghost use Rattle.vdcp_wire.specs.Acts.{OfFront, sends};
 
 use crate::at_silences::AtSilences;
 use crate::ear::Ear;
@@ -107,8 +105,7 @@ impl Question {
 /// which the first message counts. An exchange that isn't answered, or by another message, is made again, up to
 /// `limit` of them, one directly after the other. `left` is how many listens may be made, and is lowered by each.
 ///
-/// It never sends PLAY or a cue, and makes at most three times `limit` exchanges. It is meant for a wire that is
-/// used no other way before.
+/// It never sends PLAY or a cue, and makes at most three times `limit` exchanges.
 pub fn ask_port<W: Wire>(
     unit: u8,
     port: u8,
@@ -119,10 +116,7 @@ pub fn ask_port<W: Wire>(
     requires unit { unit ≤ 15 }
     requires some { 1 ≤ limit }
     requires works { W.failures wire.old ≡ 0 }
-    ensures asks { W.told wire.old ≡ Some nothing_told → IfOk result (λ answer. IfTold (W.told wire.new) (λ u.
-        HasAsked unit port limit left.old left.new u answer)) }
-    ensures breaks { W.told wire.old ≡ Some nothing_told →
-        OnErr result (IfTold (W.told wire.new) (IsPartlyAsked unit port limit)) }
+    ensures asks { HasAsked W.does unit port limit left.old left.new wire.old wire.new result }
     ensures works { OnOk result (W.failures wire.new ≡ 0) }
     ensures failed { OnErr result (W.failures wire.new ≡ 1) }
 {
@@ -160,11 +154,7 @@ enum Burst {
 // Listens until a burst has ended.
 fn hear_burst<W: Wire>(unit: u8, left: &mut u32, wire: &mut W) -> Result<Burst, WireFault>
     requires { W.failures wire.old ≡ 0 }
-    ensures hears { (t : Told) → W.told wire.old ≡ Some t → IsBetween t.came → IfOk result (λ burst.
-        IfTold (W.told wire.new) (λ u. HearsBurst unit left.old left.new t u burst)) }
-    ensures breaks { (t : Told) → W.told wire.old ≡ Some t → IsBetween t.came →
-        OnErr result (IfTold (W.told wire.new) (BreaksBurst unit t)) }
-    ensures lowers { IfOk result (λ burst. Lowers burst left.old left.new) }
+    ensures hears { HearsBurst W.does unit left.old left.new wire.old wire.new result }
     ensures works { OnOk result (W.failures wire.new ≡ 0) }
     ensures failed { OnErr result (W.failures wire.new ≡ 1) }
 {
@@ -191,10 +181,9 @@ fn send_question<W: Wire>(
 ) -> Result<(), WireFault>
     requires unit { unit ≤ 15 }
     requires works { W.failures wire.old ≡ 0 }
-    ensures sent { OnOk result (W.told wire.new ≡ adds_sent (command_bytes unit (question_command port question))
-        (W.told wire.old)) }
-    ensures front { OnErr result (SendsFront (command_bytes unit (question_command port question)) (W.told wire.old)
-        (W.told wire.new)) }
+    ensures sends { OnOk result (W.does (sends (question_bytes unit port question)) wire.old wire.new) }
+    ensures sends_some { OnErr result (OfFront (question_bytes unit port question) (λ front.
+        W.does (sends front) wire.old wire.new)) }
     ensures works { OnOk result (W.failures wire.new ≡ 0) }
     ensures failed { OnErr result (W.failures wire.new ≡ 1) }
 {

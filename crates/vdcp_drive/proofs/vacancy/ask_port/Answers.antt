@@ -1,73 +1,67 @@
-use Rattle.std.proofs.Common.{arith, sym, ◌∙◌}
-use Rattle.vdcp_drive.proofs.Asking.{asks_first, asked_so, partly_dropped, partly_sent, partly_heard, asks_on, asks_out}
-use Rattle.vdcp_drive.proofs.Asking.{asks_closed, asks_spent, stays_under}
-use Rattle.vdcp_drive.proofs.Taking.{on_err_of}
+use Rattle.std.proofs.Common.{append-nil, refl, sym, ◌∙◌}
+use Rattle.std.proofs.lemmas.Result.{err_from_is_err_and}
+use Rattle.std.specs.Prelude.{Err}
+use Rattle.vdcp_drive.specs.Vacancy.{closed, spent, in_drop, in_send, in_listen}
+use Rattle.vdcp_drive.proofs.Asking.{asks_first, asks_more, asks_heard, asks_out, asks_stop, held_at}
 use Rattle.vdcp_drive.proofs.vacancy.ask_port.Goals as goal
 
 pub asking-init : goal.asking-init
 asking-init g c = record {
   works = c.requires.works;
-  less = omega (arith, c.requires.some);
-  asks = λ is. (_, is, asks_first c.args.unit c.args.port c.args.limit c.args.left.now);
+  asks = asks_first g.W.Wire.does c.args.unit c.args.port c.args.limit c.args.left.now c.args.wire.now;
 }
 
-pub returns-in_err-drop_waiting-clause-breaks : goal.returns-in_err-drop_waiting-clause-breaks
-returns-in_err-drop_waiting-clause-breaks g c is =
-    let h = c.asking.invariant.asks is in
-    on_err_of c.from_residual.result (partly_dropped c.args.unit c.args.port c.args.limit _ _ _ _ h.0 _ _ h.1 h.2
-    c.in_err-drop_waiting.ensures.kept)
+pub returns-in_err-drop_waiting-clause-asks : goal.returns-in_err-drop_waiting-clause-asks
+returns-in_err-drop_waiting-clause-asks g c =
+    let failed = err_from_is_err_and c.from_residual.result c.from_residual.ensures.1 in
+    rw failed.1 (asks_stop g.W.Wire.does c.args.unit c.args.port c.args.limit _ _ _ _ _ (Err failed.0) _ _ _ _
+    c.requires.some c.asking.invariant.asks (_, c.in_err-drop_waiting.ensures.fails, refl) (in_drop refl refl) tt (λ hs. tt))
 
-pub returns-in_err-send_question-clause-breaks : goal.returns-in_err-send_question-clause-breaks
-returns-in_err-send_question-clause-breaks g c is =
-    let h = c.asking.invariant.asks is in
-    on_err_of c.from_residual-in_err-send_question.result
-    (partly_sent c.args.unit c.args.port c.args.limit _ _ _ _ h.0 _ _ _ h.1 h.2 c.in_ok-drop_waiting.ensures.dropped
-    c.in_err-send_question.ensures.front)
+pub returns-in_err-send_question-clause-asks : goal.returns-in_err-send_question-clause-asks
+returns-in_err-send_question-clause-asks g c =
+    let failed = err_from_is_err_and c.from_residual-in_err-send_question.result
+    c.from_residual-in_err-send_question.ensures.1 in
+    let out = c.in_err-send_question.ensures.sends_some in
+    rw failed.1 (asks_stop g.W.Wire.does c.args.unit c.args.port c.args.limit _ _ _ _ _ (Err failed.0) _ _ _ _
+    c.requires.some c.asking.invariant.asks (_, c.in_ok-drop_waiting.ensures.drops, (_, out.is_so, refl))
+    (in_send out.front out.rest refl out.parts refl) tt (λ hs. tt))
 
-pub returns-in_err-heard-clause-breaks : goal.returns-in_err-heard-clause-breaks
-returns-in_err-heard-clause-breaks g c is =
-    let h = c.asking.invariant.asks is in
-    let a = asked_so c.args.unit c.args.port c.args.limit _ _ _ _ h.0 _ _ _ h.1 h.2 c.in_ok-drop_waiting.ensures.dropped
-    c.in_ok-send_question.ensures.sent in
-    on_err_of c.from_residual-in_err-heard.result
-    (partly_heard c.args.unit c.args.port c.args.limit _ _ _ _ a.0 _ a.2
-    (c.in_err-heard.ensures.breaks a.0 a.1 a.2.between))
+pub returns-in_err-heard-clause-asks : goal.returns-in_err-heard-clause-asks
+returns-in_err-heard-clause-asks g c =
+    let failed = err_from_is_err_and c.from_residual-in_err-heard.result c.from_residual-in_err-heard.ensures.1 in
+    rw failed.1 (asks_heard g.W.Wire.does c.args.unit c.args.port c.args.limit _ _ _ _ _ _ (Err failed.0) _ _ _ _ _
+    c.requires.some c.asking.invariant.asks c.in_ok-drop_waiting.ensures.drops c.in_ok-send_question.ensures.sends
+    c.in_err-heard.ensures.hears (in_listen c.in_err-heard.ensures.hears.pieces refl refl) tt (λ hs. tt))
 
 pub returns-in-Closed-clause-asks : goal.returns-in-Closed-clause-asks
-returns-in-Closed-clause-asks g c is =
-    let h = c.asking.invariant.asks is in
-    let a = asked_so c.args.unit c.args.port c.args.limit _ _ _ _ h.0 _ _ _ h.1 h.2 c.in_ok-drop_waiting.ensures.dropped
-    c.in_ok-send_question.ensures.sent in
-    let e = rw c.in-Closed.is at (c.in_ok-heard.ensures.hears a.0 a.1 a.2.between) in
-    asks_closed c.args.unit c.args.port c.args.limit _ _ _ _ _ a.0 _ c.asking.invariant.less a.2 e
+returns-in-Closed-clause-asks g c =
+    let b = rw c.in-Closed.is at c.in_ok-heard.ensures.hears in
+    asks_heard g.W.Wire.does c.args.unit c.args.port c.args.limit _ _ _ _ _ _ _ _ _ _ _ _ c.requires.some
+    c.asking.invariant.asks c.in_ok-drop_waiting.ensures.drops c.in_ok-send_question.ensures.sends b
+    (closed b.pieces refl refl) refl (λ hs. tt)
 
 pub returns-in-Spent-clause-asks : goal.returns-in-Spent-clause-asks
-returns-in-Spent-clause-asks g c is =
-    let h = c.asking.invariant.asks is in
-    let a = asked_so c.args.unit c.args.port c.args.limit _ _ _ _ h.0 _ _ _ h.1 h.2 c.in_ok-drop_waiting.ensures.dropped
-    c.in_ok-send_question.ensures.sent in
-    let e = rw c.in-Spent.is at (c.in_ok-heard.ensures.hears a.0 a.1 a.2.between) in
-    asks_spent c.args.unit c.args.port c.args.limit _ _ _ _ _ a.0 _ c.asking.invariant.less a.2 e
+returns-in-Spent-clause-asks g c =
+    let b = rw c.in-Spent.is at c.in_ok-heard.ensures.hears in
+    asks_heard g.W.Wire.does c.args.unit c.args.port c.args.limit _ _ _ _ _ _ _ _ _ _ _ _ c.requires.some
+    c.asking.invariant.asks c.in_ok-drop_waiting.ensures.drops c.in_ok-send_question.ensures.sends b
+    (spent b.pieces refl b.ended (append-nil _)) refl (λ hs. tt)
+
+pub after-requires : goal.after-requires
+after-requires g c = (held_at g.W.Wire.does c.args.unit c.args.port c.args.limit _ _ _ _ _ c.requires.some
+    c.asking.invariant.asks).0
 
 pub asking-preserved : goal.asking-preserved
-asking-preserved g c =
-    let next = sym c.after.ensures ∙ c.in-Asks.is in record {
-      works = c.in_ok-heard.ensures.works;
-      less = stays_under c.args.limit _ _ _ _ _ next c.asking.invariant.less;
-      asks = λ is.
-          let h = c.asking.invariant.asks is in
-          let a = asked_so c.args.unit c.args.port c.args.limit _ _ _ _ h.0 _ _ _ h.1 h.2
-          c.in_ok-drop_waiting.ensures.dropped
-          c.in_ok-send_question.ensures.sent in
-          let e = rw c.in-Ended.is at (c.in_ok-heard.ensures.hears a.0 a.1 a.2.between) in
-          asks_on c.args.unit c.args.port c.args.limit _ _ _ _ _ _ _ _ a.0 _ c.asking.invariant.less a.2 e next;
-    }
+asking-preserved g c = record {
+  works = c.in_ok-heard.ensures.works;
+  asks = asks_more g.W.Wire.does c.args.unit c.args.port c.args.limit _ _ _ _ _ _ _ _ _ _ _ _ c.asking.invariant.asks
+      c.in_ok-drop_waiting.ensures.drops c.in_ok-send_question.ensures.sends
+      (rw c.in-Ended.is at c.in_ok-heard.ensures.hears) (sym c.in-Asks.is ∙ c.after.ensures);
+}
 
 pub returns-in-Over-clause-asks : goal.returns-in-Over-clause-asks
-returns-in-Over-clause-asks g c is =
-    let h = c.asking.invariant.asks is in
-    let a = asked_so c.args.unit c.args.port c.args.limit _ _ _ _ h.0 _ _ _ h.1 h.2 c.in_ok-drop_waiting.ensures.dropped
-    c.in_ok-send_question.ensures.sent in
-    let e = rw c.in-Ended.is at (c.in_ok-heard.ensures.hears a.0 a.1 a.2.between) in
-    asks_out c.args.unit c.args.port c.args.limit _ _ _ _ _ _ c.in-Over.answer a.0 _ c.asking.invariant.less a.2 e
-    (sym c.after.ensures ∙ c.in-Over.is)
+returns-in-Over-clause-asks g c =
+    asks_out g.W.Wire.does c.args.unit c.args.port c.args.limit _ _ c.in-Over.answer _ _ c.requires.some
+    (asks_more g.W.Wire.does c.args.unit c.args.port c.args.limit _ _ _ _ _ _ _ _ _ _ _ _ c.asking.invariant.asks
+    c.in_ok-drop_waiting.ensures.drops c.in_ok-send_question.ensures.sends
+    (rw c.in-Ended.is at c.in_ok-heard.ensures.hears) (sym c.in-Over.is ∙ c.after.ensures))
