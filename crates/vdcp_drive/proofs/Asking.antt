@@ -19,7 +19,7 @@ use Rattle.vdcp_drive.specs.Reading.{holds}
 use Rattle.vdcp_drive.specs.Below.{Below}
 use Rattle.vdcp_drive.specs.Steps.{Chain}
 use Rattle.vdcp_drive.specs.Traces.{came_in}
-use Rattle.vdcp_drive.specs.Vacancy.{Exchanged, HasAsked, HasEnded, HasSaid, HearsBurst, IsSaid, Leads, Stops, asked_now, asking_after, asks, closed, comes, end_of, exchange, first_asking, heard_of, in_drop, in_listen, in_send, led_by, question_bytes, spent, unless_led}
+use Rattle.vdcp_drive.specs.Vacancy.{EndsBurst, Exchanged, HasAsked, HasSaid, HearsBurst, IsSaid, Leads, Stops, asked_now, asking_after, asks, comes, exchange, first_asking, heard_of, led_by, question_bytes, unless_led}
 use Rattle.vdcp_drive.specs.declared.vacancy.Asking.{Asking}
 use Rattle.vdcp_drive.specs.declared.vacancy.Asking.TheVariants.{Asks, Over}
 use Rattle.vdcp_drive.specs.declared.vacancy.Burst as listened
@@ -38,48 +38,46 @@ use Rattle.vdcp_drive.proofs.Tracing.{came_both}
 
 -- ---- one burst
 
--- these pieces of it came so far
-pub record HearsAt {W : Type 0} (does : Act → W → W → Type 0) (unit listens left : ℕ) (wire wire' : W) (ear : Burst) :
-    Type 0 where
-  pub pieces : List (List ℕ)
-  pub happened : Chain does (comes pieces) wire wire'
-  pub fits : AreOctets (concat pieces)
-  pub ear_is : ear ≡ burst_after unit (concat pieces) (begun (holds []))
-  pub listened : length pieces + left ≡ listens
+module _ {W : Type 0} (does : Act → W → W → Type 0) (unit listens : ℕ) (wire : W) where
+  -- these pieces of it came so far
+  pub record HearsAt (left : ℕ) (wire' : W) (ear : Burst) : Type 0 where
+    pub pieces : List (List ℕ)
+    pub happened : Chain does (comes pieces) wire wire'
+    pub fits : AreOctets (concat pieces)
+    pub ear_is : ear ≡ burst_after unit (concat pieces) (begun (holds []))
+    pub listened : length pieces + left ≡ listens
 
-pub hears_none : {W : Type 0} (does : Act → W → W → Type 0) (unit left : ℕ) (wire : W) (ear : Burst)
-    → ear ≡ begun (holds []) → HearsAt does unit left left wire wire ear
-hears_none does unit left wire ear new =
-    record { pieces = []; happened = refl; fits = All-nil (λ b. b < 256); ear_is = new; listened = omega arith }
+  pub hears_none : (ear : Burst) → ear ≡ begun (holds []) → HearsAt listens wire ear
+  hears_none ear new =
+      record { pieces = []; happened = refl; fits = All-nil (λ b. b < 256); ear_is = new; listened = omega arith }
 
-pub hears_more : {W : Type 0} (does : Act → W → W → Type 0) (unit listens left left' : ℕ) (w w₁ w₂ : W)
-    (ear ear' : Burst) (piece : List ℕ) → HearsAt does unit listens left w w₁ ear → left' + 1 ≡ left → AreOctets piece
-    → ear' ≡ burst_after unit piece ear → does (brings (bytes piece)) w₁ w₂ → HearsAt does unit listens left' w w₂ ear'
-hears_more does unit listens left left' w w₁ w₂ ear ear' piece h less fits takes brought =
-    let was : List ℕ = concat h.pieces in
-    let all : was ++ piece ≡ concat (h.pieces ++ piece ∷ []) =
-    ap (λ (l : List ℕ). was ++ l) (sym (append-nil piece)) ∙ sym (concat-append h.pieces (piece ∷ [])) in record {
-      pieces = h.pieces ++ piece ∷ [];
-      happened = rw map-append (chain_both does (comes h.pieces) (comes (piece ∷ [])) w w₁ w₂ h.happened
-          (w₂, brought, refl));
-      fits = subst AreOctets all (All-append (λ b. b < 256) was piece h.fits fits);
-      ear_is = takes ∙ bursts_on unit ear was piece h.ear_is
-          ∙ ap (λ (b : List ℕ). burst_after unit b (begun (holds []))) all;
-      listened = omega (arith, h.listened, less, length-append h.pieces (piece ∷ []));
-    }
+  pub hears_more : (left left' : ℕ) (w w' : W) (ear ear' : Burst) (piece : List ℕ) → HearsAt left w ear
+      → left' + 1 ≡ left → AreOctets piece → ear' ≡ burst_after unit piece ear → does (brings (bytes piece)) w w'
+      → HearsAt left' w' ear'
+  hears_more left left' w w' ear ear' piece h less fits takes brought =
+      let was : List ℕ = concat h.pieces in
+      let all : was ++ piece ≡ concat (h.pieces ++ piece ∷ []) =
+      ap (λ (l : List ℕ). was ++ l) (sym (append-nil piece)) ∙ sym (concat-append h.pieces (piece ∷ [])) in record {
+        pieces = h.pieces ++ piece ∷ [];
+        happened = rw map-append (chain_both does (comes h.pieces) (comes (piece ∷ [])) wire w w' h.happened
+            (w', brought, refl));
+        fits = subst AreOctets all (All-append (λ b. b < 256) was piece h.fits fits);
+        ear_is = takes ∙ bursts_on unit ear was piece h.ear_is
+            ∙ ap (λ (b : List ℕ). burst_after unit b (begun (holds []))) all;
+        listened = omega (arith, h.listened, less, length-append h.pieces (piece ∷ []));
+      }
 
--- it has ended
-pub hears_end : {W : Type 0} (does : Act → W → W → Type 0) (law : Below) (unit listens left left' : ℕ) (w w₁ w₂ : W)
-    (ear : Burst) (answer : Result listened.Burst WireFault) → HearsAt does unit listens left w w₁ ear
-    → left' + length (end_of answer) ≡ left → Chain does (end_of answer) w₁ w₂
-    → HasEnded left' (burst_says ear) answer → HearsBurst does unit listens left' w w₂ answer
-hears_end does law unit listens left left' w w₁ w₂ ear answer h less ends so = record {
-  pieces = h.pieces;
-  happened = chain_both does (comes h.pieces) (end_of answer) w w₁ w₂ h.happened ends;
-  ended = subst (λ (x : Option Heard). HasEnded left' x answer)
-      (ap burst_says h.ear_is ∙ says_burst law unit (concat h.pieces) h.fits) so;
-  listened = omega (arith, h.listened, less);
-}
+  pub hears_end : (law : Below) (left left' : ℕ) (w w' : W) (ear : Burst) (answer : Result listened.Burst WireFault)
+      (last : List Act) → HearsAt left w ear → left' + length last ≡ left → Chain does last w w'
+      → EndsBurst left' (burst_says ear) last answer → HearsBurst does unit listens left' wire w' answer
+  hears_end law left left' w w' ear answer last h less happened ending = record {
+    pieces = h.pieces;
+    last = last;
+    happened = chain_both does (comes h.pieces) last wire w w' h.happened happened;
+    ending = subst (λ (x : Option Heard). EndsBurst left' x last answer)
+        (ap burst_says h.ear_is ∙ says_burst law unit (concat h.pieces) h.fits) ending;
+    listened = omega (arith, h.listened, less);
+  }
 
 -- ---- what was heard, and the next question
 
@@ -179,25 +177,6 @@ holds_along unit limit (e ∷ es) hs asking asking' held (next, (n, is, led), re
 
 -- ---- the questions
 
--- after these exchanges they had come to this
-pub record AsksAt {W : Type 0} (does : Act → W → W → Type 0) (unit port limit listens left : ℕ) (asking : Asking)
-    (wire wire' : W) : Type 0 where
-  pub exchanges : List Exchanged
-  pub led : Chain (Leads unit limit) exchanges first_asking asking
-  pub happened : Chain does (flat_map (exchange unit port) exchanges) wire wire'
-  pub listened : length (came_in (flat_map (exchange unit port) exchanges)) + left ≡ listens
-
-pub asks_first : {W : Type 0} (does : Act → W → W → Type 0) (unit port limit listens : ℕ) (wire : W)
-    → AsksAt does unit port limit listens listens first_asking wire wire
-asks_first does unit port limit listens wire = record { exchanges = []; led = refl; happened = refl; listened = omega arith }
-
--- what holds then
-pub held_at : {W : Type 0} (does : Act → W → W → Type 0) (unit port limit listens left : ℕ) (asking : Asking)
-    (wire wire' : W) → 1 ≤ limit → (a : AsksAt does unit port limit listens left asking wire wire')
-    → HoldsOn limit (map (heard_of unit) a.exchanges) asking
-held_at does unit port limit listens left asking wire wire' some a =
-    holds_along unit limit a.exchanges [] first_asking asking (omega (arith, some), omega arith, tt) a.led
-
 came_count : (pieces : List (List ℕ)) (last : List Act)
     → length (came_in (comes pieces ++ last)) ≡ length pieces + length (came_in last)
 came_count [] last = omega arith
@@ -206,76 +185,90 @@ came_count (p ∷ ps) last = omega (arith, came_count ps last)
 count_both : (xs ys : List Act) → length (came_in (xs ++ ys)) ≡ length (came_in xs) + length (came_in ys)
 count_both xs ys = ap length (came_both xs ys) ∙ length-append (came_in xs) (came_in ys)
 
--- one exchange more
-pub asks_more : {W : Type 0} (does : Act → W → W → Type 0) (unit port limit listens left left' : ℕ) (q : Question) (n : ℕ)
-    (h : Option Heard) (next : Asking) (w w₁ w₂ w₃ w₄ : W) → AsksAt does unit port limit listens left (Asks q n) w w₁
-    → does drops w₁ w₂ → does (sends (question_bytes unit port q)) w₂ w₃
-    → HearsBurst does unit left left' w₃ w₄ (Ok (burst.Ended h)) → next ≡ asking_after limit q n h
-    → AsksAt does unit port limit listens left' next w w₄
-asks_more does unit port limit listens left left' q n h next w w₁ w₂ w₃ w₄ a dropped sent b is =
-    let e : Exchanged = record { question = q; pieces = b.pieces } in
-    let before : List Act = flat_map (exchange unit port) a.exchanges in
-    let more : flat_map (exchange unit port) (a.exchanges ++ e ∷ []) ≡ before ++ exchange unit port e =
-    flat_map-append (exchange unit port) a.exchanges (e ∷ [])
-    ∙ ap (λ (l : List Act). before ++ l) (append-nil (exchange unit port e)) in record {
-      exchanges = a.exchanges ++ e ∷ [];
-      led = chain_both (Leads unit limit) a.exchanges (e ∷ []) first_asking (Asks q n) next a.led
-          (next, (n, refl, is ∙ ap (asking_after limit q n) (b.ended)), refl);
-      happened = rw more (chain_both does before (exchange unit port e) w w₁ w₄ a.happened
-          (w₂, dropped, (w₃, sent, b.happened)));
-      listened = rw more (omega (
-        arith,
-        a.listened,
-        b.listened,
-        count_both before (exchange unit port e),
-        came_count b.pieces (brings silence ∷ []),
-      ));
-    }
+module _ {W : Type 0} (does : Act → W → W → Type 0) (unit port limit listens : ℕ) (wire : W) where
+  -- after these exchanges they have come to this
+  pub record AsksAt (left : ℕ) (asking : Asking) (wire' : W) : Type 0 where
+    pub exchanges : List Exchanged
+    pub led : Chain (Leads unit limit) exchanges first_asking asking
+    pub happened : Chain does (flat_map (exchange unit port) exchanges) wire wire'
+    pub listened : length (came_in (flat_map (exchange unit port) exchanges)) + left ≡ listens
 
-pub asks_out : {W : Type 0} (does : Act → W → W → Type 0) (unit port limit listens left : ℕ) (v : Vacancy) (w w' : W)
-    → 1 ≤ limit → AsksAt does unit port limit listens left (Over v) w w'
-    → HasAsked does unit port limit listens left w w' (Ok v)
-asks_out does unit port limit listens left v w w' some a =
-    let held = held_at does unit port limit listens left (Over v) w w' some a in record {
-      exchanges = a.exchanges;
-      asking = Over v;
-      led = a.led;
-      last = [];
-      happened = rw append-nil a.happened;
-      ending = (refl, refl);
-      few = omega (arith, held.0, length-map a.exchanges (heard_of unit));
-      said = held.1;
-      listened = rw append-nil a.listened;
-    }
+  pub asks_first : AsksAt listens first_asking wire
+  asks_first = record { exchanges = []; led = refl; happened = refl; listened = omega arith }
 
--- they stop, by these last acts
-pub asks_stop : {W : Type 0} (does : Act → W → W → Type 0) (unit port limit listens left left' : ℕ) (q : Question) (n : ℕ)
-    (answer : Result Vacancy WireFault) (last : List Act) (w w₁ w₂ : W) → 1 ≤ limit
-    → AsksAt does unit port limit listens left (Asks q n) w w₁ → Chain does last w₁ w₂
-    → Stops (question_bytes unit port q) left' answer last → OnOk answer (length (came_in last) + left' ≡ left)
-    → ((hs : List (Option Heard)) → IfOk answer (IsSaid hs)) → HasAsked does unit port limit listens left' w w₂ answer
-asks_stop does unit port limit listens left left' q n answer last w w₁ w₂ some a happened stops count said =
-    let held = held_at does unit port limit listens left (Asks q n) w w₁ some a in
-    let before : List Act = flat_map (exchange unit port) a.exchanges in record {
-      exchanges = a.exchanges;
-      asking = Asks q n;
-      led = a.led;
-      last = last;
-      happened = chain_both does before last w w₁ w₂ a.happened happened;
-      ending = stops;
-      few = omega (arith, within limit q n _ held.0 held.1, length-map a.exchanges (heard_of unit));
-      said = said (map (heard_of unit) a.exchanges);
-      listened = on_ok_weaker answer (λ c. omega (arith, c, a.listened, count_both before last)) count;
-    }
+  pub held_at : 1 ≤ limit → (left : ℕ) (asking : Asking) (w : W) → (a : AsksAt left asking w)
+      → HoldsOn limit (map (heard_of unit) a.exchanges) asking
+  held_at some left asking w a =
+      holds_along unit limit a.exchanges [] first_asking asking (omega (arith, some), omega arith, tt) a.led
 
--- in a burst
-pub asks_heard : {W : Type 0} (does : Act → W → W → Type 0) (unit port limit listens left left' : ℕ) (q : Question) (n : ℕ)
-    (r : Result listened.Burst WireFault) (answer : Result Vacancy WireFault) (w w₁ w₂ w₃ w₄ : W) → 1 ≤ limit
-    → AsksAt does unit port limit listens left (Asks q n) w w₁ → does drops w₁ w₂
-    → does (sends (question_bytes unit port q)) w₂ w₃ → (b : HearsBurst does unit left left' w₃ w₄ r)
-    → Stops (question_bytes unit port q) left' answer (asks (question_bytes unit port q) b.pieces ++ end_of r)
-    → OnOk answer (length (came_in (end_of r)) ≡ length (end_of r)) → ((hs : List (Option Heard)) → IfOk answer (IsSaid hs))
-    → HasAsked does unit port limit listens left' w w₄ answer
-asks_heard does unit port limit listens left left' q n r answer w w₁ w₂ w₃ w₄ some a dropped sent b stops ends said =
-    asks_stop does unit port limit listens left left' q n answer _ w w₁ w₄ some a (w₂, dropped, (w₃, sent, b.happened))
-    stops (on_ok_weaker answer (λ same. omega (arith, same, came_count b.pieces (end_of r), b.listened)) ends) said
+  -- one exchange more
+  pub asks_more : (left left' : ℕ) (q : Question) (n : ℕ) (h : Option Heard) (next : Asking) (w₁ w₂ w₃ w₄ : W)
+      → AsksAt left (Asks q n) w₁ → does drops w₁ w₂ → does (sends (question_bytes unit port q)) w₂ w₃
+      → HearsBurst does unit left left' w₃ w₄ (Ok (burst.Ended h)) → next ≡ asking_after limit q n h
+      → AsksAt left' next w₄
+  asks_more left left' q n h next w₁ w₂ w₃ w₄ a dropped sent b is =
+      let e : Exchanged = record { question = q; pieces = b.pieces } in
+      let before : List Act = flat_map (exchange unit port) a.exchanges in
+      let more : flat_map (exchange unit port) (a.exchanges ++ e ∷ []) ≡ before ++ exchange unit port e =
+      flat_map-append (exchange unit port) a.exchanges (e ∷ [])
+      ∙ ap (λ (l : List Act). before ++ l) (append-nil (exchange unit port e)) in record {
+        exchanges = a.exchanges ++ e ∷ [];
+        led = chain_both (Leads unit limit) a.exchanges (e ∷ []) first_asking (Asks q n) next a.led
+            (next, (n, refl, is ∙ ap (asking_after limit q n) b.ending.1), refl);
+        happened = rw more (chain_both does before (exchange unit port e) wire w₁ w₄ a.happened
+            (w₂, dropped, (w₃, sent, rw b.ending.0 at b.happened)));
+        listened = rw more (omega (
+          arith,
+          a.listened,
+          rw b.ending.0 at b.listened,
+          count_both before (exchange unit port e),
+          came_count b.pieces (brings silence ∷ []),
+        ));
+      }
+
+  pub asks_out : 1 ≤ limit → (left : ℕ) (v : Vacancy) (w : W) → AsksAt left (Over v) w
+      → HasAsked does unit port limit listens left wire w (Ok v)
+  asks_out some left v w a =
+      let held = held_at some left (Over v) w a in record {
+        exchanges = a.exchanges;
+        asking = Over v;
+        led = a.led;
+        last = [];
+        happened = rw append-nil a.happened;
+        ending = (refl, refl);
+        few = omega (arith, held.0, length-map a.exchanges (heard_of unit));
+        said = held.1;
+        listened = rw append-nil a.listened;
+      }
+
+  -- they stop, by these last acts
+  pub asks_stop : 1 ≤ limit → (left left' : ℕ) (q : Question) (n : ℕ) (answer : Result Vacancy WireFault) (last : List Act) (w w' : W)
+      → AsksAt left (Asks q n) w → Chain does last w w' → Stops (question_bytes unit port q) left' answer last
+      → OnOk answer (length (came_in last) + left' ≡ left) → ((hs : List (Option Heard)) → IfOk answer (IsSaid hs))
+      → HasAsked does unit port limit listens left' wire w' answer
+  asks_stop some left left' q n answer last w w' a happened stops count said =
+      let held = held_at some left (Asks q n) w a in
+      let before : List Act = flat_map (exchange unit port) a.exchanges in record {
+        exchanges = a.exchanges;
+        asking = Asks q n;
+        led = a.led;
+        last = last;
+        happened = chain_both does before last wire w w' a.happened happened;
+        ending = stops;
+        few = omega (arith, within limit q n _ held.0 held.1, length-map a.exchanges (heard_of unit));
+        said = said (map (heard_of unit) a.exchanges);
+        listened = on_ok_weaker answer (λ c. omega (arith, c, a.listened, count_both before last)) count;
+      }
+
+  -- in a burst
+  pub asks_heard : 1 ≤ limit → (left left' : ℕ) (q : Question) (n : ℕ) (r : Result listened.Burst WireFault)
+      (answer : Result Vacancy WireFault) (last : List Act) (w₁ w₂ w₃ w₄ : W) → AsksAt left (Asks q n) w₁
+      → does drops w₁ w₂ → does (sends (question_bytes unit port q)) w₂ w₃
+      → (b : HearsBurst does unit left left' w₃ w₄ r) → b.last ≡ last
+      → Stops (question_bytes unit port q) left' answer (asks (question_bytes unit port q) b.pieces ++ last)
+      → OnOk answer (length (came_in last) ≡ length last) → ((hs : List (Option Heard)) → IfOk answer (IsSaid hs))
+      → HasAsked does unit port limit listens left' wire w₄ answer
+  asks_heard some left left' q n r answer last w₁ w₂ w₃ w₄ a dropped sent b is stops count said =
+      asks_stop some left left' q n answer (asks (question_bytes unit port q) b.pieces ++ last) w₁ w₄ a
+      (w₂, dropped, (w₃, sent, rw is at b.happened)) stops
+      (on_ok_weaker answer (λ c. omega (arith, c, came_count b.pieces last, rw is at b.listened)) count) said

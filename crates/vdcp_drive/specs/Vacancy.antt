@@ -65,7 +65,7 @@ pub record Exchanged : Type 0 where
 abbrev pub heard_of : ℕ → Exchanged → Option Heard
 heard_of unit e = heard_in unit (concat e.pieces)
 
--- by what was heard it led from its question to the next
+-- by this it leads from its question to what comes next
 abbrev pub Leads : ℕ → ℕ → Exchanged → Asking → Asking → Type 0
 Leads unit limit e old new =
     (unanswered : ℕ) × (old ≡ Asks e.question unanswered) × (new ≡ asking_after limit e.question unanswered (heard_of unit e))
@@ -91,7 +91,7 @@ asks question pieces = drops ∷ sends question ∷ comes pieces
 abbrev pub exchange : ℕ → ℕ → Exchanged → List Act
 exchange unit port e = asks (question_bytes unit port e.question) e.pieces ++ brings silence ∷ []
 
--- how a question stops the others that no silence ended: by these last acts, with this answer
+-- how the questions stop at one whose burst no silence ended: with this answer, by these last acts
 pub data Stops (question : List ℕ) (left : ℕ) (answer : Result Vacancy WireFault) (last : List Act) : Type 0 where
   closed : (pieces : List (List ℕ)) → answer ≡ Ok vacancy.Closed → last ≡ asks question pieces ++ brings close ∷ []
       → Stops question left answer last
@@ -104,7 +104,7 @@ pub data Stops (question : List ℕ) (left : ℕ) (answer : Result Vacancy WireF
   in_listen : (pieces : List (List ℕ)) → IsErr answer → last ≡ asks question pieces ++ fails ∷ []
       → Stops question left answer last
 
--- how the questions ended that had come to this
+-- how the questions end that have come to this
 abbrev pub Ends : ℕ → ℕ → ℕ → Result Vacancy WireFault → List Act → Asking → Type 0
 Ends unit port left answer last (Over v) = (answer ≡ Ok v) × (last ≡ [])
 Ends unit port left answer last (Asks q unanswered) = Stops (question_bytes unit port q) left answer last
@@ -137,26 +137,18 @@ pub record HasAsked {W : Type 0} (does : Act → W → W → Type 0) (unit port 
   pub said : IfOk answer (IsSaid (map (heard_of unit) exchanges))
   pub listened : OnOk answer (length (came_in (flat_map (exchange unit port) exchanges ++ last)) + left ≡ listens)
 
--- One burst.
-
--- what ended it
-abbrev pub end_of : Result Burst WireFault → List Act
-end_of (Ok (burst.Ended h)) = brings silence ∷ []
-end_of (Ok burst.Closed) = brings close ∷ []
-end_of (Ok burst.Spent) = []
-end_of (Err fault) = fails ∷ []
-
--- what holds then, if this is heard of all its bytes
-abbrev pub HasEnded : ℕ → Option Heard → Result Burst WireFault → Type 0
-HasEnded left heard (Ok (burst.Ended h)) = h ≡ heard
-HasEnded left heard (Ok burst.Closed) = Unit {0}
-HasEnded left heard (Ok burst.Spent) = left ≡ 0
-HasEnded left heard (Err fault) = Unit {0}
+-- how a burst ends of whose bytes this is heard: by these last acts
+abbrev pub EndsBurst : ℕ → Option Heard → List Act → Result Burst WireFault → Type 0
+EndsBurst left heard last (Ok (burst.Ended h)) = (last ≡ brings silence ∷ []) × (h ≡ heard)
+EndsBurst left heard last (Ok burst.Closed) = last ≡ brings close ∷ []
+EndsBurst left heard last (Ok burst.Spent) = (last ≡ []) × (left ≡ 0)
+EndsBurst left heard last (Err fault) = last ≡ fails ∷ []
 
 -- it was listened to
 pub record HearsBurst {W : Type 0} (does : Act → W → W → Type 0) (unit listens left : ℕ) (wire wire' : W)
     (answer : Result Burst WireFault) : Type 0 where
   pub pieces : List (List ℕ)
-  pub happened : Chain does (comes pieces ++ end_of answer) wire wire'
-  pub ended : HasEnded left (heard_in unit (concat pieces)) answer
-  pub listened : length pieces + length (end_of answer) + left ≡ listens
+  pub last : List Act
+  pub happened : Chain does (comes pieces ++ last) wire wire'
+  pub ending : EndsBurst left (heard_in unit (concat pieces)) last answer
+  pub listened : length pieces + length last + left ≡ listens
