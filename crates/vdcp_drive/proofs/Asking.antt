@@ -1,7 +1,7 @@
 -- A port that is asked, after one more listen and after one more exchange.
 use Rattle.std.proofs.Common.{ℕ, ◌≡◌, ◌≤◌, ◌<◌, ◌+◌, ◌*◌, List, [], ◌∷◌, ◌++◌, Bool, true, false, map, length, refl, sym, ap, subst, ◌∙◌, append_assoc, append-nil, length-append, arith}
 use Rattle.std.specs.List.{concat, flat_map}
-use Rattle.std.specs.Prelude.{Option, Some, None, Result, Ok, Err, IfOk, OnOk, nat_eq, nat_lt, if◌then◌else◌}
+use Rattle.std.specs.Prelude.{Option, Some, None, Result, Ok, IfOk, OnOk, nat_eq, nat_lt, if◌then◌else◌}
 use Rattle.std.proofs.lemmas.Bool.{eqb-true, ltb-true}
 use Rattle.std.proofs.lemmas.Grind.{flat_map-append}
 use Rattle.std.proofs.lemmas.List.{length-map, map-append}
@@ -9,7 +9,6 @@ use Rattle.std.proofs.lemmas.List.Elements.{All-append, All-nil}
 use Rattle.std.proofs.lemmas.List.Folds.{concat-append}
 use Rattle.std.proofs.lemmas.Result.{on_ok_weaker}
 use Rattle.vdcp_frame.specs.Message.{AreOctets}
-use Rattle.vdcp_auto.specs.Heard.{heard_in}
 use Rattle.vdcp_auto.specs.declared.exchange.Heard.{Heard}
 use Rattle.vdcp_auto.specs.declared.exchange.Heard.TheVariants as heard
 use Rattle.vdcp_words.specs.declared.reply.Reply.{Reply}
@@ -19,7 +18,7 @@ use Rattle.vdcp_drive.specs.Reading.{holds}
 use Rattle.vdcp_drive.specs.Below.{Below}
 use Rattle.vdcp_drive.specs.Steps.{Chain}
 use Rattle.vdcp_drive.specs.Traces.{came_in}
-use Rattle.vdcp_drive.specs.Vacancy.{EndsBurst, Exchanged, HasAsked, HasSaid, HearsBurst, IsSaid, Leads, Stops, asked_now, asking_after, asks, comes, exchange, first_asking, heard_of, led_by, question_bytes, unless_led}
+use Rattle.vdcp_drive.specs.Vacancy.{EndsBurst, Exchanged, HasAsked, HasSaid, HearsBurst, IsSaid, Leads, Stops, asking_after, asks, comes, exchange, first_asking, heard_of, led_by, question_bytes, unless_led}
 use Rattle.vdcp_drive.specs.declared.vacancy.Asking.{Asking}
 use Rattle.vdcp_drive.specs.declared.vacancy.Asking.TheVariants.{Asks, Over}
 use Rattle.vdcp_drive.specs.declared.vacancy.Burst as listened
@@ -28,7 +27,7 @@ use Rattle.vdcp_drive.specs.declared.vacancy.Question.{Question}
 use Rattle.vdcp_drive.specs.declared.vacancy.Question.TheVariants as question
 use Rattle.vdcp_drive.specs.declared.vacancy.Vacancy.{Vacancy}
 use Rattle.vdcp_drive.specs.declared.vacancy.Vacancy.TheVariants as vacancy
-use Rattle.vdcp_wire.specs.Acts.{Act, sends, brings, drops, fails, OfFront}
+use Rattle.vdcp_wire.specs.Acts.{Act, sends, brings, drops}
 use Rattle.vdcp_wire.specs.Wires.{bytes, silence}
 use Rattle.vdcp_wire.specs.declared.wire.WireFault.{WireFault}
 use Rattle.vdcp_drive.proofs.Chains.{chain_both}
@@ -38,42 +37,44 @@ use Rattle.vdcp_drive.proofs.Tracing.{came_both}
 
 -- ---- one burst
 
-module _ {W : Type 0} (does : Act → W → W → Type 0) (unit listens : ℕ) (wire : W) where
-  -- these pieces of it came so far
-  pub record HearsAt (left : ℕ) (wire' : W) (ear : Burst) : Type 0 where
-    pub pieces : List (List ℕ)
-    pub happened : Chain does (comes pieces) wire wire'
-    pub fits : AreOctets (concat pieces)
-    pub ear_is : ear ≡ burst_after unit (concat pieces) (begun (holds []))
-    pub listened : length pieces + left ≡ listens
+-- these pieces of it came so far
+pub record HearsAt {W : Type 0} (does : Act → W → W → Type 0) (unit listens left : ℕ) (wire wire' : W) (ear : Burst) :
+    Type 0 where
+  pub pieces : List (List ℕ)
+  pub happened : Chain does (comes pieces) wire wire'
+  pub fits : AreOctets (concat pieces)
+  pub ear_is : ear ≡ burst_after unit (concat pieces) (begun (holds []))
+  pub listened : length pieces + left ≡ listens
 
-  pub hears_none : (ear : Burst) → ear ≡ begun (holds []) → HearsAt listens wire ear
-  hears_none ear new =
+module _ {W : Type 0} {does : Act → W → W → Type 0} {unit listens : ℕ} {wire : W} where
+  pub hears_none : {ear : Burst} → ear ≡ begun (holds []) → HearsAt does unit listens listens wire wire ear
+  hears_none new =
       record { pieces = []; happened = refl; fits = All-nil (λ b. b < 256); ear_is = new; listened = omega arith }
 
-  pub hears_more : (left left' : ℕ) (w w' : W) (ear ear' : Burst) (piece : List ℕ) → HearsAt left w ear
-      → left' + 1 ≡ left → AreOctets piece → ear' ≡ burst_after unit piece ear → does (brings (bytes piece)) w w'
-      → HearsAt left' w' ear'
-  hears_more left left' w w' ear ear' piece h less fits takes brought =
+  pub hears_more : {left left' : ℕ} {w w' : W} {ear ear' : Burst} {piece : List ℕ}
+      → HearsAt does unit listens left wire w ear → left' + 1 ≡ left → AreOctets piece
+      → ear' ≡ burst_after unit piece ear → does (brings (bytes piece)) w w'
+      → HearsAt does unit listens left' wire w' ear'
+  hears_more {ear = ear} {piece = piece} h less fits takes brought =
       let was : List ℕ = concat h.pieces in
       let all : was ++ piece ≡ concat (h.pieces ++ piece ∷ []) =
       ap (λ (l : List ℕ). was ++ l) (sym (append-nil piece)) ∙ sym (concat-append h.pieces (piece ∷ [])) in record {
         pieces = h.pieces ++ piece ∷ [];
-        happened = rw map-append (chain_both does (comes h.pieces) (comes (piece ∷ [])) wire w w' h.happened
-            (w', brought, refl));
+        happened = rw map-append (chain_both does (comes h.pieces) (comes (piece ∷ [])) wire _ _ h.happened
+            (_, brought, refl));
         fits = subst AreOctets all (All-append (λ b. b < 256) was piece h.fits fits);
         ear_is = takes ∙ bursts_on unit ear was piece h.ear_is
             ∙ ap (λ (b : List ℕ). burst_after unit b (begun (holds []))) all;
         listened = omega (arith, h.listened, less, length-append h.pieces (piece ∷ []));
       }
 
-  pub hears_end : (law : Below) (left left' : ℕ) (w w' : W) (ear : Burst) (answer : Result listened.Burst WireFault)
-      (last : List Act) → HearsAt left w ear → left' + length last ≡ left → Chain does last w w'
+  pub hears_end : {left left' : ℕ} {w w' : W} {ear : Burst} {answer : Result listened.Burst WireFault} (last : List Act)
+      → Below → HearsAt does unit listens left wire w ear → left' + length last ≡ left → Chain does last w w'
       → EndsBurst left' (burst_says ear) last answer → HearsBurst does unit listens left' wire w' answer
-  hears_end law left left' w w' ear answer last h less happened ending = record {
+  hears_end {left' = left'} {answer = answer} last law h less happened ending = record {
     pieces = h.pieces;
     last = last;
-    happened = chain_both does (comes h.pieces) last wire w w' h.happened happened;
+    happened = chain_both does (comes h.pieces) last wire _ _ h.happened happened;
     ending = subst (λ (x : Option Heard). EndsBurst left' x last answer)
         (ap burst_says h.ear_is ∙ says_burst law unit (concat h.pieces) h.fits) ending;
     listened = omega (arith, h.listened, less);
@@ -185,38 +186,39 @@ came_count (p ∷ ps) last = omega (arith, came_count ps last)
 count_both : (xs ys : List Act) → length (came_in (xs ++ ys)) ≡ length (came_in xs) + length (came_in ys)
 count_both xs ys = ap length (came_both xs ys) ∙ length-append (came_in xs) (came_in ys)
 
-module _ {W : Type 0} (does : Act → W → W → Type 0) (unit port limit listens : ℕ) (wire : W) where
-  -- after these exchanges they have come to this
-  pub record AsksAt (left : ℕ) (asking : Asking) (wire' : W) : Type 0 where
-    pub exchanges : List Exchanged
-    pub led : Chain (Leads unit limit) exchanges first_asking asking
-    pub happened : Chain does (flat_map (exchange unit port) exchanges) wire wire'
-    pub listened : length (came_in (flat_map (exchange unit port) exchanges)) + left ≡ listens
+-- after these exchanges they have come to this
+pub record AsksAt {W : Type 0} (does : Act → W → W → Type 0) (unit port limit listens left : ℕ) (wire wire' : W)
+    (asking : Asking) : Type 0 where
+  pub exchanges : List Exchanged
+  pub led : Chain (Leads unit limit) exchanges first_asking asking
+  pub happened : Chain does (flat_map (exchange unit port) exchanges) wire wire'
+  pub listened : length (came_in (flat_map (exchange unit port) exchanges)) + left ≡ listens
 
-  pub asks_first : AsksAt listens first_asking wire
+module _ {W : Type 0} {does : Act → W → W → Type 0} {unit port limit listens : ℕ} {wire : W} where
+  pub asks_first : AsksAt does unit port limit listens listens wire wire first_asking
   asks_first = record { exchanges = []; led = refl; happened = refl; listened = omega arith }
 
-  pub held_at : 1 ≤ limit → (left : ℕ) (asking : Asking) (w : W) → (a : AsksAt left asking w)
+  pub held_at : {left : ℕ} {w : W} {asking : Asking} → 1 ≤ limit
+      → (a : AsksAt does unit port limit listens left wire w asking)
       → HoldsOn limit (map (heard_of unit) a.exchanges) asking
-  held_at some left asking w a =
-      holds_along unit limit a.exchanges [] first_asking asking (omega (arith, some), omega arith, tt) a.led
+  held_at some a = holds_along unit limit a.exchanges [] first_asking _ (omega (arith, some), omega arith, tt) a.led
 
   -- one exchange more
-  pub asks_more : (left left' : ℕ) (q : Question) (n : ℕ) (h : Option Heard) (next : Asking) (w₁ w₂ w₃ w₄ : W)
-      → AsksAt left (Asks q n) w₁ → does drops w₁ w₂ → does (sends (question_bytes unit port q)) w₂ w₃
-      → HearsBurst does unit left left' w₃ w₄ (Ok (burst.Ended h)) → next ≡ asking_after limit q n h
-      → AsksAt left' next w₄
-  asks_more left left' q n h next w₁ w₂ w₃ w₄ a dropped sent b is =
+  pub asks_more : {left left' : ℕ} {q : Question} {n : ℕ} {h : Option Heard} {next : Asking} {w₁ w₂ w₃ w₄ : W}
+      → AsksAt does unit port limit listens left wire w₁ (Asks q n) → does drops w₁ w₂
+      → does (sends (question_bytes unit port q)) w₂ w₃ → HearsBurst does unit left left' w₃ w₄ (Ok (burst.Ended h))
+      → next ≡ asking_after limit q n h → AsksAt does unit port limit listens left' wire w₄ next
+  asks_more {q = q} {n = n} a dropped sent b is =
       let e : Exchanged = record { question = q; pieces = b.pieces } in
       let before : List Act = flat_map (exchange unit port) a.exchanges in
       let more : flat_map (exchange unit port) (a.exchanges ++ e ∷ []) ≡ before ++ exchange unit port e =
       flat_map-append (exchange unit port) a.exchanges (e ∷ [])
       ∙ ap (λ (l : List Act). before ++ l) (append-nil (exchange unit port e)) in record {
         exchanges = a.exchanges ++ e ∷ [];
-        led = chain_both (Leads unit limit) a.exchanges (e ∷ []) first_asking (Asks q n) next a.led
-            (next, (n, refl, is ∙ ap (asking_after limit q n) b.ending.1), refl);
-        happened = rw more (chain_both does before (exchange unit port e) wire w₁ w₄ a.happened
-            (w₂, dropped, (w₃, sent, rw b.ending.0 at b.happened)));
+        led = chain_both (Leads unit limit) a.exchanges (e ∷ []) first_asking (Asks q n) _ a.led
+            (_, (n, refl, is ∙ ap (asking_after limit q n) b.ending.1), refl);
+        happened = rw more (chain_both does before (exchange unit port e) wire _ _ a.happened
+            (_, dropped, (_, sent, rw b.ending.0 at b.happened)));
         listened = rw more (omega (
           arith,
           a.listened,
@@ -226,12 +228,12 @@ module _ {W : Type 0} (does : Act → W → W → Type 0) (unit port limit liste
         ));
       }
 
-  pub asks_out : 1 ≤ limit → (left : ℕ) (v : Vacancy) (w : W) → AsksAt left (Over v) w
+  pub asks_out : {left : ℕ} {w : W} {v : Vacancy} → 1 ≤ limit → AsksAt does unit port limit listens left wire w (Over v)
       → HasAsked does unit port limit listens left wire w (Ok v)
-  asks_out some left v w a =
-      let held = held_at some left (Over v) w a in record {
+  asks_out some a =
+      let held = held_at some a in record {
         exchanges = a.exchanges;
-        asking = Over v;
+        asking = Over _;
         led = a.led;
         last = [];
         happened = rw append-nil a.happened;
@@ -242,18 +244,18 @@ module _ {W : Type 0} (does : Act → W → W → Type 0) (unit port limit liste
       }
 
   -- they stop, by these last acts
-  pub asks_stop : 1 ≤ limit → (left left' : ℕ) (q : Question) (n : ℕ) (answer : Result Vacancy WireFault) (last : List Act) (w w' : W)
-      → AsksAt left (Asks q n) w → Chain does last w w' → Stops (question_bytes unit port q) left' answer last
-      → OnOk answer (length (came_in last) + left' ≡ left) → ((hs : List (Option Heard)) → IfOk answer (IsSaid hs))
-      → HasAsked does unit port limit listens left' wire w' answer
-  asks_stop some left left' q n answer last w w' a happened stops count said =
-      let held = held_at some left (Asks q n) w a in
+  pub asks_stop : {left left' : ℕ} {q : Question} {n : ℕ} {answer : Result Vacancy WireFault} {last : List Act} {w w' : W}
+      → 1 ≤ limit → AsksAt does unit port limit listens left wire w (Asks q n) → Chain does last w w'
+      → Stops (question_bytes unit port q) left' answer last → OnOk answer (length (came_in last) + left' ≡ left)
+      → ((hs : List (Option Heard)) → IfOk answer (IsSaid hs)) → HasAsked does unit port limit listens left' wire w' answer
+  asks_stop {q = q} {n = n} {answer = answer} {last = last} some a happened stops count said =
+      let held = held_at some a in
       let before : List Act = flat_map (exchange unit port) a.exchanges in record {
         exchanges = a.exchanges;
         asking = Asks q n;
         led = a.led;
         last = last;
-        happened = chain_both does before last wire w w' a.happened happened;
+        happened = chain_both does before last wire _ _ a.happened happened;
         ending = stops;
         few = omega (arith, within limit q n _ held.0 held.1, length-map a.exchanges (heard_of unit));
         said = said (map (heard_of unit) a.exchanges);
@@ -261,14 +263,13 @@ module _ {W : Type 0} (does : Act → W → W → Type 0) (unit port limit liste
       }
 
   -- in a burst
-  pub asks_heard : 1 ≤ limit → (left left' : ℕ) (q : Question) (n : ℕ) (r : Result listened.Burst WireFault)
-      (answer : Result Vacancy WireFault) (last : List Act) (w₁ w₂ w₃ w₄ : W) → AsksAt left (Asks q n) w₁
-      → does drops w₁ w₂ → does (sends (question_bytes unit port q)) w₂ w₃
-      → (b : HearsBurst does unit left left' w₃ w₄ r) → b.last ≡ last
+  pub asks_heard : {left left' : ℕ} {q : Question} {n : ℕ} {r : Result listened.Burst WireFault}
+      {answer : Result Vacancy WireFault} {last : List Act} {w₁ w₂ w₃ w₄ : W} → 1 ≤ limit
+      → AsksAt does unit port limit listens left wire w₁ (Asks q n) → does drops w₁ w₂
+      → does (sends (question_bytes unit port q)) w₂ w₃ → (b : HearsBurst does unit left left' w₃ w₄ r) → b.last ≡ last
       → Stops (question_bytes unit port q) left' answer (asks (question_bytes unit port q) b.pieces ++ last)
       → OnOk answer (length (came_in last) ≡ length last) → ((hs : List (Option Heard)) → IfOk answer (IsSaid hs))
       → HasAsked does unit port limit listens left' wire w₄ answer
-  asks_heard some left left' q n r answer last w₁ w₂ w₃ w₄ a dropped sent b is stops count said =
-      asks_stop some left left' q n answer (asks (question_bytes unit port q) b.pieces ++ last) w₁ w₄ a
-      (w₂, dropped, (w₃, sent, rw is at b.happened)) stops
+  asks_heard {answer = answer} {last = last} some a dropped sent b is stops count said =
+      asks_stop some a (_, dropped, (_, sent, rw is at b.happened)) stops
       (on_ok_weaker answer (λ c. omega (arith, c, came_count b.pieces last, rw is at b.listened)) count) said

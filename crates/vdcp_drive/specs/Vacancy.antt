@@ -1,7 +1,7 @@
 -- What a port is asked before anything is played through it, and what is made of its answers: is something cued, or
 -- does something play?
 use Rattle.std.specs.List.{concat, flat_map}
-use Rattle.std.specs.Prelude.{ℕ, ◌≡◌, ◌≤◌, ◌+◌, ◌*◌, nat_eq, nat_lt, true, false, List, [], ◌∷◌, ◌++◌, length, map, Option, None, Some, Result, Ok, Err, IfOk, IsErr, OnOk, if◌then◌else◌}
+use Rattle.std.specs.Prelude.{ℕ, ◌≡◌, ◌≤◌, ◌+◌, ◌*◌, nat_eq, nat_lt, true, List, [], ◌∷◌, ◌++◌, length, map, Option, None, Some, Result, Ok, Err, IfOk, IsErr, OnOk, if◌then◌else◌}
 use Rattle.vdcp_words.specs.declared.command.Command.{Command}
 use Rattle.vdcp_words.specs.declared.command.Command.TheVariants as command
 use Rattle.vdcp_words.specs.declared.reply.Reply.{Reply}

@@ -7,7 +7,7 @@ use Rattle.vdcp_drive.proofs.vacancy.ask_port.Given as goal
 abbrev pub invariant-asking : goal.invariant-asking
 invariant-asking g l = record {
   works : g.W.Wire.failures l.wire ≡ 0;
-  asks : AsksAt g.W.Wire.does l.fn.unit l.fn.port l.fn.limit l.fn.left l.fn.wire l.left (Asks l.question l.unanswered) l.wire;
+  asks : AsksAt g.W.Wire.does l.fn.unit l.fn.port l.fn.limit l.fn.left l.left l.fn.wire l.wire (Asks l.question l.unanswered);
 }
 
 abbrev pub decreases-asking : goal.decreases-asking
