@@ -95,20 +95,22 @@ granted = Some (heard.Reply (reply.Opened true))
 abbrev acked : Option Heard
 acked = Some (heard.Reply reply.Ack)
 
-abbrev Passed : Question → List (Option Heard) → Type 0
+abbrev Heards : Type 0
+Heards = List (Option Heard)
+
+abbrev Passed : Question → Heards → Type 0
 Passed question.Open hs = Unit {0}
-Passed question.Select hs = (a : List (Option Heard)) × (b : List (Option Heard)) × (hs ≡ a ++ granted ∷ b)
-Passed question.Status hs = (a : List (Option Heard)) × (b : List (Option Heard)) × (c : List (Option Heard)) ×
+Passed question.Select hs = (a : Heards) × (b : Heards) × (hs ≡ a ++ granted ∷ b)
+Passed question.Status hs = (a : Heards) × (b : Heards) × (c : Heards) ×
     (hs ≡ a ++ granted ∷ (b ++ acked ∷ c))
 
-passed_more : (q : Question) (hs : List (Option Heard)) (h : Option Heard) → Passed q hs → Passed q (hs ++ h ∷ [])
+passed_more : (q : Question) (hs : Heards) (h : Option Heard) → Passed q hs → Passed q (hs ++ h ∷ [])
 passed_more question.Open hs h p = tt
-passed_more question.Select hs h (a, b, e) = (a, b ++ h ∷ [], simp append_assoc at (ap (λ (l : List (Option Heard)). l ++ h ∷ []) e))
-passed_more question.Status hs h (a, b, c, e) =
-    (a, b, c ++ h ∷ [], simp append_assoc at (ap (λ (l : List (Option Heard)). l ++ h ∷ []) e))
+passed_more question.Select hs h (a, b, e) = (a, b ++ h ∷ [], rw e (simp append_assoc refl))
+passed_more question.Status hs h (a, b, c, e) = (a, b, c ++ h ∷ [], rw e (simp append_assoc refl))
 
--- what holds once this was heard, an exchange after another
-abbrev HoldsOn : ℕ → List (Option Heard) → Asking → Type 0
+-- what holds after exchanges in which this was heard
+abbrev HoldsOn : ℕ → Heards → Asking → Type 0
 HoldsOn limit hs (Asks q n) = (n < limit) × (length hs ≤ room limit q + n) × Passed q hs
 HoldsOn limit hs (Over v) = (length hs ≤ 3 * limit) × IsSaid hs v
 
@@ -116,7 +118,7 @@ within : (limit : ℕ) (q : Question) (n count : ℕ) → n < limit → count �
 within limit question.Open n count less few = omega (arith, less, few)
 within limit q n count less few = omega (arith, less, few)
 
-missed_by : (b : Bool) (limit : ℕ) (q : Question) (n : ℕ) (hs : List (Option Heard)) (h : Option Heard)
+missed_by : (b : Bool) (limit : ℕ) (q : Question) (n : ℕ) (hs : Heards) (h : Option Heard)
     → nat_lt (n + 1) limit ≡ b → HoldsOn limit hs (Asks q n)
     → HoldsOn limit (hs ++ h ∷ []) (if b then Asks q (n + 1) else Over vacancy.Unanswered)
 missed_by true limit q n hs h is (less, few, passed) =
@@ -124,16 +126,16 @@ missed_by true limit q n hs h is (less, few, passed) =
 missed_by false limit q n hs h is (less, few, passed) =
     (rw length-append (within limit q n (length hs) less few), tt)
 
-said_so : (b : Bool) (state : ℕ) (hs : List (Option Heard)) → nat_eq state 1 ≡ b → HasSaid hs state
+said_so : (b : Bool) (state : ℕ) (hs : Heards) → nat_eq state 1 ≡ b → HasSaid hs state
     → IsSaid hs (if b then vacancy.Vacant else vacancy.Occupied state)
 said_so true state hs is said = subst (HasSaid hs) (eqb-true state 1 is) said
 said_so false state hs is said = said
 
-missed : (limit : ℕ) (q : Question) (n : ℕ) (hs : List (Option Heard)) (h : Option Heard) → HoldsOn limit hs (Asks q n)
+missed : (limit : ℕ) (q : Question) (n : ℕ) (hs : Heards) (h : Option Heard) → HoldsOn limit hs (Asks q n)
     → HoldsOn limit (hs ++ h ∷ []) (unless_led limit q n None)
 missed limit q n hs h = missed_by (nat_lt (n + 1) limit) limit q n hs h refl
 
-replied : (limit : ℕ) (q : Question) (n : ℕ) (hs : List (Option Heard)) (r : Reply) → HoldsOn limit hs (Asks q n)
+replied : (limit : ℕ) (q : Question) (n : ℕ) (hs : Heards) (r : Reply) → HoldsOn limit hs (Asks q n)
     → HoldsOn limit (hs ++ Some (heard.Reply r) ∷ []) (unless_led limit q n (led_by q r))
 replied limit question.Open n hs (reply.Opened true) (less, few, passed) =
     (omega (arith, less), omega (arith, less, few, length-append hs (granted ∷ [])), (hs, [], refl))
@@ -142,7 +144,7 @@ replied limit question.Open n hs (reply.Opened false) (less, few, passed) =
 replied limit question.Select n hs reply.Ack (less, few, (a, b, e)) = (
   omega (arith, less),
   omega (arith, less, few, length-append hs (acked ∷ [])),
-  (a, b, [], simp append_assoc at (ap (λ (l : List (Option Heard)). l ++ acked ∷ []) e)),
+  (a, b, [], rw e (simp append_assoc refl)),
 )
 replied limit question.Status n hs (reply.State groups (Some state)) (less, few, (a, b, c, e)) =
     let h : Option Heard = Some (heard.Reply (reply.State groups (Some state))) in
@@ -151,7 +153,7 @@ replied limit question.Status n hs (reply.State groups (Some state)) (less, few,
       opened = b;
       selected = c;
       groups = groups;
-      parts = simp append_assoc at (ap (λ (l : List (Option Heard)). l ++ h ∷ []) e);
+      parts = rw e (simp append_assoc refl);
     } in (
       rw length-append (within limit question.Status n (length hs) less few),
       said_so (nat_eq state 1) state (hs ++ h ∷ []) refl said,
@@ -160,13 +162,13 @@ replied limit question.Open n hs r held = missed limit question.Open n hs _ held
 replied limit question.Select n hs r held = missed limit question.Select n hs _ held
 replied limit question.Status n hs r held = missed limit question.Status n hs _ held
 
-holds_by : (limit : ℕ) (q : Question) (n : ℕ) (hs : List (Option Heard)) (h : Option Heard)
+holds_by : (limit : ℕ) (q : Question) (n : ℕ) (hs : Heards) (h : Option Heard)
     → HoldsOn limit hs (Asks q n) → HoldsOn limit (hs ++ h ∷ []) (asking_after limit q n h)
 holds_by limit q n hs None = missed limit q n hs None
 holds_by limit q n hs (Some heard.Other) = missed limit q n hs (Some heard.Other)
 holds_by limit q n hs (Some (heard.Reply r)) = replied limit q n hs r
 
-holds_along : (unit limit : ℕ) (es : List Exchanged) (hs : List (Option Heard)) (asking asking' : Asking)
+holds_along : (unit limit : ℕ) (es : List Exchanged) (hs : Heards) (asking asking' : Asking)
     → HoldsOn limit hs asking → Chain (Leads unit limit) es asking asking'
     → HoldsOn limit (hs ++ map (heard_of unit) es) asking'
 holds_along unit limit [] hs asking asking' held same = rw (same, append-nil) held
@@ -247,7 +249,7 @@ module _ {W : Type 0} {does : Act → W → W → Type 0} {unit port limit liste
   pub asks_stop : {left left' : ℕ} {q : Question} {n : ℕ} {answer : Result Vacancy WireFault} {last : List Act} {w w' : W}
       → 1 ≤ limit → AsksAt does unit port limit listens left wire w (Asks q n) → Chain does last w w'
       → Stops (question_bytes unit port q) left' answer last → OnOk answer (length (came_in last) + left' ≡ left)
-      → ((hs : List (Option Heard)) → IfOk answer (IsSaid hs)) → HasAsked does unit port limit listens left' wire w' answer
+      → ((hs : Heards) → IfOk answer (IsSaid hs)) → HasAsked does unit port limit listens left' wire w' answer
   asks_stop {q = q} {n = n} {answer = answer} {last = last} some a happened stops count said =
       let held = held_at some a in
       let before : List Act = flat_map (exchange unit port) a.exchanges in record {
@@ -268,7 +270,7 @@ module _ {W : Type 0} {does : Act → W → W → Type 0} {unit port limit liste
       → AsksAt does unit port limit listens left wire w₁ (Asks q n) → does drops w₁ w₂
       → does (sends (question_bytes unit port q)) w₂ w₃ → (b : HearsBurst does unit left left' w₃ w₄ r) → b.last ≡ last
       → Stops (question_bytes unit port q) left' answer (asks (question_bytes unit port q) b.pieces ++ last)
-      → OnOk answer (length (came_in last) ≡ length last) → ((hs : List (Option Heard)) → IfOk answer (IsSaid hs))
+      → OnOk answer (length (came_in last) ≡ length last) → ((hs : Heards) → IfOk answer (IsSaid hs))
       → HasAsked does unit port limit listens left' wire w₄ answer
   asks_heard {answer = answer} {last = last} some a dropped sent b is stops count said =
       asks_stop some a (_, dropped, (_, sent, rw is at b.happened)) stops
