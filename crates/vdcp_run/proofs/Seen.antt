@@ -20,7 +20,7 @@ use Rattle.vdcp_log.specs.declared.hearing.Hearing.{Hearing}
 use Rattle.vdcp_log.specs.declared.hearing.Hearing.TheVariants as hears
 use Rattle.vdcp_journal_file.specs.Recording.{Recording}
 use Rattle.vdcp_run.specs.Lapse.{Lapses, MayLapse}
-use Rattle.vdcp_run.specs.Session.{HasAwaited, HasPlayed, HasSession, HasTried, IsAsked, IsGiven, LastRound, Parts, Playing, Plays, Rounds, Runs, RunsBy, Start, TriesOver, broke, does_by, ended, missed, no_wire, over, played, rules_of, run_over, spent, told_by, tried, unbegun, unseen, went_on}
+use Rattle.vdcp_run.specs.Session.{HasAwaited, HasPlayed, HasSession, HasTried, IsAsked, IsGiven, LastRound, Parts, Playing, Plays, Rounds, Runs, RunsBy, Start, TriesOver, broke, does_by, ended, missed, no_wire, over, played, rules_of, run_over, spent, tried, unbegun, unseen, went_on}
 use Rattle.vdcp_run.specs.Waiting.{AsksState, AwaitsIn, waiting_in}
 use Rattle.vdcp_run.specs.declared.lapsing.Since.{Since}
 use Rattle.vdcp_run.specs.declared.run_end.LineEnd.TheVariants as line_end
@@ -28,7 +28,6 @@ use Rattle.vdcp_run.specs.declared.run_end.RunEnd.{RunEnd}
 use Rattle.vdcp_run.specs.declared.settings.RunSettings.{RunSettings}
 use Rattle.vdcp_wire.specs.Acts.{Act, sends, brings, drops, fails}
 use Rattle.vdcp_wire.specs.Streams.{StreamDoes, Streamed}
-use Rattle.vdcp_wire.specs.Wires.{IfTold, Told}
 use Rattle.vdcp_wire.specs.declared.stream.Connection.TheVariants as connection
 use Rattle.vdcp_wire.specs.declared.wire.WireFault.{WireFault}
 use Rattle.vdcp_words.specs.declared.command.Command.{Command}
@@ -172,34 +171,49 @@ played_seen operated (hears.AtOnce poll) does does' safe sees sees' w v acting l
     plays = plays_seen operated does does' safe sees sees' w v acting looking ears.at_once (holds []) unit listens start world
     watch end plays
 
-asked_seen : {W W' : Type 0} (told : W → Option Told) (told' : W' → Option Told) (w : W → W')
-    → ((x : W) → told' (w x) ≡ told x) → (settings : RunSettings) (start : Start) (wire wire' : W) (left : ℕ)
-    (answer : Result Vacancy WireFault) → IsAsked told settings start wire wire' left answer
-    → IsAsked told' settings start (w wire) (w wire') left answer
-asked_seen {W} {W'} told told' w same settings start wire wire' left answer asked = record {
+chain_seen : {W W' : Type 0} (does : Act → W → W → Type 0) (does' : Act → W' → W' → Type 0) (w : W → W')
+    → ((a : Act) (old new : W) → does a old new → does' a (w old) (w new))
+    → (acts : List Act) (old new : W) → Chain does acts old new → Chain does' acts (w old) (w new)
+chain_seen does does' w acting [] old new h = ap w h
+chain_seen does does' w acting (act ∷ later) old new (next, one, rest) =
+    (w next, acting act old next one, chain_seen does does' w acting later next new rest)
+
+asked_seen : {W W' : Type 0} (does : Act → W → W → Type 0) (does' : Act → W' → W' → Type 0) (w : W → W')
+    → ((a : Act) (old new : W) → does a old new → does' a (w old) (w new)) → (settings : RunSettings) (start : Start)
+    (wire wire' : W) (left : ℕ) (answer : Result Vacancy WireFault) → IsAsked does settings start wire wire' left answer
+    → IsAsked does' settings start (w wire) (w wire') left answer
+asked_seen {W} {W'} does does' w acting settings start wire wire' left answer asked = record {
   unasked = λ no. let a = asked.unasked no in (a.0, ap w a.1, a.2);
   opened = λ no. let a = asked.opened no in (a.0, ap w a.1, a.2);
-  asks = λ yes opens fresh. subst (λ (t : Option Told). IfOk answer (λ a. IfTold t (λ u.
-      HasAsked settings.unit settings.port settings.limit settings.listens left u a))) (sym (same wire'))
-      (asked.asks yes opens (sym (same wire) ∙ fresh));
+  asks = λ yes opens. let h = asked.asks yes opens in record {
+    exchanges = h.exchanges;
+    asking = h.asking;
+    led = h.led;
+    last = h.last;
+    happened = chain_seen does does' w acting _ wire wire' h.happened;
+    ending = h.ending;
+    few = h.few;
+    said = h.said;
+    listened = h.listened;
+  };
 }
 
-pub tries_seen : {W W' V V' F : Type 0} (told : W → Option Told) (told' : W' → Option Told) (does : Act → W → W → Type 0)
-    (does' : Act → W' → W' → Type 0) (safe : F → Option (List ℕ)) (sees : State → V → V → Type 0)
-    (sees' : State → V' → V' → Type 0) (w : W → W') (v : V → V') → ((x : W) → told' (w x) ≡ told x)
+pub tries_seen : {W W' V V' F : Type 0} (does : Act → W → W → Type 0) (does' : Act → W' → W' → Type 0)
+    (safe : F → Option (List ℕ)) (sees : State → V → V → Type 0)
+    (sees' : State → V' → V' → Type 0) (w : W → W') (v : V → V')
     → ((a : Act) (old new : W) → does a old new → does' a (w old) (w new))
     → ((s : State) (old new : V) → sees s old new → sees' s (v old) (v new))
     → (settings : RunSettings) (start : Start) (world : World W (Option (Recording F)) V) (watch : V) (end : RunEnd)
-    → HasTried told does safe sees settings start world watch end
-    → HasTried told' does' safe sees' settings start (seen w (λ keep. keep) v world) (v watch) end
-tries_seen told told' does does' safe sees sees' w v same acting looking settings start world watch end
+    → HasTried does safe sees settings start world watch end
+    → HasTried does' safe sees' settings start (seen w (λ keep. keep) v world) (v watch) end
+tries_seen does does' safe sees sees' w v acting looking settings start world watch end
     (played answer wire left asked may plays) = played answer (w wire) left
-    (asked_seen told told' w same settings start world.wire wire left answer asked) may
+    (asked_seen does does' w acting settings start world.wire wire left answer asked) may
     (played_seen settings.operated settings.hearing does does' safe sees sees' w v acting looking settings.unit left start
     (record world { wire = wire }) watch end plays)
-tries_seen told told' does does' safe sees sees' w v same acting looking settings start world watch end
+tries_seen does does' safe sees sees' w v acting looking settings start world watch end
     (unbegun answer wire left asked may line) = unbegun answer (w wire) left
-    (asked_seen told told' w same settings start world.wire wire left answer asked) may line
+    (asked_seen does does' w acting settings start world.wire wire left answer asked) may line
 
 -- ---- a clip that is waited for
 
@@ -232,19 +246,19 @@ awaits_in_seen does does' w acting (hears.AtOnce poll) (Some stage) settings is 
     rw is (asks_seen does does' w acting ears.at_once (holds []) plan settings.unit settings.listens
     (record state { stage = stage }) old new (rw is at h))
 
-pub awaited_seen : {W W' F : Type 0} (told : W → Option Told) (told' : W' → Option Told) (does : Act → W → W → Type 0)
-    (does' : Act → W' → W' → Type 0) (safe : F → Option (List ℕ)) (w : W → W') → ((x : W) → told' (w x) ≡ told x)
+pub awaited_seen : {W W' F : Type 0} (does : Act → W → W → Type 0) (does' : Act → W' → W' → Type 0)
+    (safe : F → Option (List ℕ)) (w : W → W')
     → ((a : Act) (old new : W) → does a old new → does' a (w old) (w new))
     → (settings : RunSettings) (start : Start) (wire : W) (recorder : Option (Recording F)) (end : RunEnd)
-    → HasAwaited told does safe settings start wire recorder end
-    → HasAwaited told' does' safe settings start (w wire) recorder end
-awaited_seen told told' does does' safe w same acting settings start wire recorder end (went_on wire' awaits tries) =
+    → HasAwaited does safe settings start wire recorder end
+    → HasAwaited does' safe settings start (w wire) recorder end
+awaited_seen does does' safe w acting settings start wire recorder end (went_on wire' awaits tries) =
     went_on (w wire')
     (awaits_in_seen does does' w acting settings.hearing (waiting_in start.state.stage) settings refl start.plan start.state
     wire wire' awaits)
-    (tries_seen told told' does does' safe unseen unseen w (λ v. v) same acting (λ s old new h. h) settings start
+    (tries_seen does does' safe unseen unseen w (λ v. v) acting (λ s old new h. h) settings start
     (over wire' recorder) tt end tries)
-awaited_seen told told' does does' safe w same acting settings start wire recorder end (broke waits line) = broke waits line
+awaited_seen does does' safe w acting settings start wire recorder end (broke waits line) = broke waits line
 
 -- ---- a silence by the clock
 
@@ -256,22 +270,22 @@ lapses_so does false since (brings what) old new h = inl h
 lapses_so does lapsed since drops old new h = h
 lapses_so does lapsed since fails old new h = h
 
-pub tries_at_silences : {W F : Type 0} (told : W → Option Told) (does : Act → W → W → Type 0) (safe : F → Option (List ℕ))
+pub tries_at_silences : {W F : Type 0} (does : Act → W → W → Type 0) (safe : F → Option (List ℕ))
     (settings : RunSettings) (start : Start) (wire : W) (recorder : Option (Recording F)) (end : RunEnd)
     → settings.hearing ≡ hears.AtSilences
-    → HasAwaited told does safe settings start wire recorder end
-    → TriesOver told does safe settings start wire recorder end
-tries_at_silences told does safe settings start wire recorder end is tries =
-    subst (λ (h : Hearing). HasAwaited (told_by h told) (does_by h does) safe settings start wire recorder end)
+    → HasAwaited does safe settings start wire recorder end
+    → TriesOver does safe settings start wire recorder end
+tries_at_silences does safe settings start wire recorder end is tries =
+    subst (λ (h : Hearing). HasAwaited (does_by h does) safe settings start wire recorder end)
     (sym is) tries
 
-pub tries_at_once : {W F : Type 0} (told : W → Option Told) (does : Act → W → W → Type 0) (safe : F → Option (List ℕ))
+pub tries_at_once : {W F : Type 0} (does : Act → W → W → Type 0) (safe : F → Option (List ℕ))
     (settings : RunSettings) (start : Start) (wire : W) (recorder : Option (Recording F)) (end : RunEnd) (poll : ℕ)
     → settings.hearing ≡ hears.AtOnce poll
-    → HasAwaited (λ w. None) (MayLapse does) safe settings start wire recorder end
-    → TriesOver told does safe settings start wire recorder end
-tries_at_once told does safe settings start wire recorder end poll is tries =
-    subst (λ (h : Hearing). HasAwaited (told_by h told) (does_by h does) safe settings start wire recorder end)
+    → HasAwaited (MayLapse does) safe settings start wire recorder end
+    → TriesOver does safe settings start wire recorder end
+tries_at_once does safe settings start wire recorder end poll is tries =
+    subst (λ (h : Hearing). HasAwaited (does_by h does) safe settings start wire recorder end)
     (sym is) tries
 
 -- ---- a connection, which is a wire or none
@@ -279,7 +293,7 @@ tries_at_once told does safe settings start wire recorder end poll is tries =
 pub session_so : {F E : Type 0} (safe : F → Option (List ℕ)) (settings : RunSettings) (start : Start)
     (recorder : Option (Recording F)) (end : RunEnd) (wire : Result Streamed E)
     → IfOk wire (λ w. w.connection ≡ connection.Open)
-    → IfOk wire (λ w. TriesOver (λ u. None) StreamDoes safe settings start w recorder end)
+    → IfOk wire (λ w. TriesOver StreamDoes safe settings start w recorder end)
     → OnErr wire (end.line ≡ line_end.Failed) → HasSession safe settings start recorder end
 session_so safe settings start recorder end (Ok wire) is_open tries failed = tried wire is_open tries
 session_so safe settings start recorder end (Err e) is_open tries failed = no_wire failed

@@ -36,7 +36,6 @@ use Rattle.vdcp_text.specs.declared.failure.Failure.{Failure}
 use Rattle.vdcp_value.specs.declared.part.Item.{Item}
 use Rattle.vdcp_wire.specs.Acts.{Act}
 use Rattle.vdcp_wire.specs.Streams.{StreamDoes, Streamed}
-use Rattle.vdcp_wire.specs.Wires.{IfTold, Told, nothing_told}
 use Rattle.vdcp_wire.specs.declared.stream.Connection.TheVariants as connection
 use Rattle.vdcp_wire.specs.declared.wire.WireFault.{WireFault}
 use Rattle.vdcp_words.specs.declared.command.Command.{Command}
@@ -194,14 +193,13 @@ HasPlayed operated (hears.AtOnce poll) does safe sees unit listens start world w
 -- ---- the questions to the port before it
 
 -- over this wire it was asked, if it was to be, and gave this answer, which left the wire so, and this many listens
-pub record IsAsked {W : Type 0} (told : W → Option Told) (settings : RunSettings) (start : Start) (wire wire' : W)
+pub record IsAsked {W : Type 0} (does : Act → W → W → Type 0) (settings : RunSettings) (start : Start) (wire wire' : W)
     (left : ℕ) (answer : Result Vacancy WireFault) : Type 0 where
   pub unasked : settings.ask ≡ false → (answer ≡ Ok vacancy.Vacant) × (wire' ≡ wire) × (left ≡ settings.listens)
   pub opened : ¬ IsOpening (given start.plan start.state)
       → (answer ≡ Ok vacancy.Vacant) × (wire' ≡ wire) × (left ≡ settings.listens)
-  pub asks : settings.ask ≡ true → IsOpening (given start.plan start.state) → told wire ≡ Some nothing_told
-      → IfOk answer (λ a. IfTold (told wire') (λ u.
-      HasAsked settings.unit settings.port settings.limit settings.listens left u a))
+  pub asks : settings.ask ≡ true → IsOpening (given start.plan start.state)
+      → HasAsked does settings.unit settings.port settings.limit settings.listens left wire wire' answer
 
 -- the list may be begun: nothing is cued there and nothing plays. One that was denied is denied again
 abbrev pub MayBegin : Result Vacancy WireFault → Type 0
@@ -210,18 +208,18 @@ MayBegin (Ok vacancy.Denied) = Unit {0}
 MayBegin _ = ⊥
 
 -- the list was played over a wire, if the answer let it be begun
-pub data HasTried {W V F : Type 0} (told : W → Option Told) (does : Act → W → W → Type 0) (safe : F → Option (List ℕ))
+pub data HasTried {W V F : Type 0} (does : Act → W → W → Type 0) (safe : F → Option (List ℕ))
     (sees : State → V → V → Type 0) (settings : RunSettings) (start : Start) (world : World W (Option (Recording F)) V)
     (watch : V) (end : RunEnd) : Type 0 where
   played : (answer : Result Vacancy WireFault) (wire : W) (left : ℕ)
-      → IsAsked told settings start world.wire wire left answer → MayBegin answer
+      → IsAsked does settings start world.wire wire left answer → MayBegin answer
       → HasPlayed settings.operated settings.hearing does safe sees settings.unit left start (record world { wire = wire })
       watch end
-      → HasTried told does safe sees settings start world watch end
+      → HasTried does safe sees settings start world watch end
   unbegun : (answer : Result Vacancy WireFault) (wire : W) (left : ℕ)
-      → IsAsked told settings start world.wire wire left answer → ¬ MayBegin answer
+      → IsAsked does settings start world.wire wire left answer → ¬ MayBegin answer
       → (end.outcome ≡ None → end.line ≡ unbegun_line answer)
-      → HasTried told does safe sees settings start world watch end
+      → HasTried does safe sees settings start world watch end
 
 -- ---- over a connection
 
@@ -230,25 +228,21 @@ abbrev pub does_by : {W : Type 0} → Hearing → (Act → W → W → Type 0) �
 does_by hears.AtSilences does = does
 does_by (hears.AtOnce poll) does = MayLapse does
 
-abbrev pub told_by : {W : Type 0} → Hearing → (W → Option Told) → W → Option Told
-told_by hears.AtSilences told = told
-told_by (hears.AtOnce poll) told = λ wire. None
-
 -- over this wire the clip before was waited for, if that is needed, and then the list was played, if the answer let it be
 -- begun; or the wire failed before
-pub data HasAwaited {W F : Type 0} (told : W → Option Told) (does : Act → W → W → Type 0) (safe : F → Option (List ℕ))
+pub data HasAwaited {W F : Type 0} (does : Act → W → W → Type 0) (safe : F → Option (List ℕ))
     (settings : RunSettings) (start : Start) (wire : W) (recorder : Option (Recording F)) (end : RunEnd) : Type 0 where
   went_on : (wire' : W) → AwaitsClip does settings start.plan start.state wire wire'
-      → HasTried told does safe unseen settings start (over wire' recorder) tt end
-      → HasAwaited told does safe settings start wire recorder end
+      → HasTried does safe unseen settings start (over wire' recorder) tt end
+      → HasAwaited does safe settings start wire recorder end
   broke : IsSome (waiting_in start.state.stage) → end.line ≡ line_end.Failed
-      → HasAwaited told does safe settings start wire recorder end
+      → HasAwaited does safe settings start wire recorder end
 
 -- so over this wire
-abbrev pub TriesOver : {W F : Type 0} → (W → Option Told) → (Act → W → W → Type 0) → (F → Option (List ℕ)) → RunSettings
-    → Start → W → Option (Recording F) → RunEnd → Type 0
-TriesOver told does safe settings start wire recorder end =
-    HasAwaited (told_by settings.hearing told) (does_by settings.hearing does) safe settings start wire recorder end
+abbrev pub TriesOver : {W F : Type 0} → (Act → W → W → Type 0) → (F → Option (List ℕ)) → RunSettings → Start → W
+    → Option (Recording F) → RunEnd → Type 0
+TriesOver does safe settings start wire recorder end =
+    HasAwaited (does_by settings.hearing does) safe settings start wire recorder end
 
 -- a session of a connection: nothing went out if its controller had ended before, or the connection was no wire
 pub data HasSession {F : Type 0} (safe : F → Option (List ℕ)) (settings : RunSettings) (start : Start)
@@ -257,5 +251,5 @@ pub data HasSession {F : Type 0} (safe : F → Option (List ℕ)) (settings : Ru
       → HasSession safe settings start recorder end
   no_wire : end.line ≡ line_end.Failed → HasSession safe settings start recorder end
   tried : (wire : Streamed) → wire.connection ≡ connection.Open
-      → TriesOver (λ w. None) StreamDoes safe settings start wire recorder end
+      → TriesOver StreamDoes safe settings start wire recorder end
       → HasSession safe settings start recorder end

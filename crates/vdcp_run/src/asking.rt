@@ -1,11 +1,10 @@
 //! What the port is asked before a list is begun.
-ghost use Rattle.std.specs.Prelude.{◌≡◌, ◌≢◌, ◌≤◌, ◌↔◌, true, false, IfOk, IsTrue, Ok, OnOk};
+ghost use Rattle.std.specs.Prelude.{◌≡◌, ◌≢◌, ◌≤◌, ◌↔◌, true, false, IsTrue, Ok, OnOk};
 ghost use Rattle.vdcp_auto.specs.Plan.{plan_of};
 ghost use Rattle.vdcp_auto.specs.Turn as turns;
 ghost use Rattle.vdcp_drive.specs.Vacancy.{HasAsked};
 ghost use Rattle.vdcp_run.specs.Ends.{IsOpening, unbegun_line};
 ghost use Rattle.vdcp_run.specs.Session.{MayBegin};
-ghost use Rattle.vdcp_wire.specs.Wires.{IfTold, nothing_told};
 
 use crate::run_end::LineEnd;
 use crate::settings::RunSettings;
@@ -32,9 +31,8 @@ pub fn vacancy_for<S: Source, W: Wire>(
         (result ≡ Ok Vacancy.Vacant) × (wire.new ≡ wire.old) × (left.new ≡ left.old) }
     ensures asks { settings.entry.ask ≡ true →
         IsOpening (turns.given (plan_of S.items controller.now) controller.now.state) →
-        W.told wire.old ≡ Some nothing_told →
-        IfOk result (λ answer. IfTold (W.told wire.new) (λ u.
-        HasAsked settings.entry.unit settings.entry.port settings.entry.limit left.old left.new u answer)) }
+        HasAsked W.does settings.entry.unit settings.entry.port settings.entry.limit left.old left.new wire.old wire.new
+        result }
 {
     if !settings.ask || !opens_next(controller) {
         return Ok(Vacancy::Vacant);

@@ -103,7 +103,7 @@ fn play_over<
     requires some { 1 ≤ settings.limit }
     requires works { IfOk wire (λ w. W.failures w ≡ 0) }
     ensures failed { OnErr wire (result.line ≡ LineEnd.Failed) }
-    ensures session { IfOk wire (λ w. TriesOver W.told W.does F.safe settings.entry
+    ensures session { IfOk wire (λ w. TriesOver W.does F.safe settings.entry
         (start_of S.items controller) w recorder.entry result) }
     ensures end { EndsRun settings.entry (journal_of recorder.entry) S.items controller result }
 {
@@ -149,7 +149,7 @@ fn play_awaited<
     requires unit { settings.unit ≤ 15 }
     requires some { 1 ≤ settings.limit }
     requires works { W.failures wire ≡ 0 }
-    ensures session { HasAwaited W.told W.does F.safe settings.entry (start_of S.items controller) wire recorder.old result }
+    ensures session { HasAwaited W.does F.safe settings.entry (start_of S.items controller) wire recorder.old result }
     ensures end { EndsRun settings.entry (journal_of recorder.old) S.items controller result }
 {
     match await_clip(rt, &controller, wire, settings) {
@@ -180,7 +180,7 @@ fn play_shown<
     requires unit { settings.unit ≤ 15 }
     requires some { 1 ≤ settings.limit }
     requires works { W.failures wire ≡ 0 }
-    ensures session { HasTried W.told W.does F.safe unseen settings.entry (start_of S.items controller)
+    ensures session { HasTried W.does F.safe unseen settings.entry (start_of S.items controller)
         (over wire recorder.old) tt result }
     ensures end { EndsRun settings.entry (journal_of recorder.old) S.items controller result }
 {
@@ -251,7 +251,7 @@ fn play_asked<
     requires unit { settings.unit ≤ 15 }
     requires some { 1 ≤ settings.limit }
     requires works { W.failures wire ≡ 0 }
-    ensures session { HasTried W.told W.does F.safe V.sees settings.entry (start_of S.items controller)
+    ensures session { HasTried W.does F.safe V.sees settings.entry (start_of S.items controller)
         (record { wire = wire; keep = recorder.old; watch = watcher.old }) watcher.new result }
     ensures end { EndsRun settings.entry (journal_of recorder.old) S.items controller result }
 {
