@@ -1,5 +1,6 @@
 //! A journal's file: it is made, opened and locked.
-ghost use Rattle.std.specs.Prelude.{◌≡◌, ◌⊎◌, IfErr};
+ghost use Rattle.std.specs.Fs.{new_options, with_append, with_create_new, with_read};
+ghost use Rattle.std.specs.Prelude.{◌≡◌, ◌⊎◌, Err, IfErr, IsOk, true};
 ghost use Rattle.vdcp_journal_file.specs.Recording.{IsUnopened};
 ghost use Rattle.vdcp_text.specs.declared.failure.Failure.TheVariants as failures;
 
@@ -13,11 +14,7 @@ use vdcp_text::Failure;
 pub(crate) fn make<'a, R: Files<File = File>>(rt: &R, name: &'a str) -> Result<File, Failure<'a>>
     ensures { IfErr result (λ failure. (failure ≡ failures.Exists name.entry) ⊎ IsUnopened name.entry failure) }
 {
-    let file = match OpenOptions::new()
-        .append(true)
-        .create_new(true)
-        .open(rt, name)
-    {
+    let file = match new_file().open(rt, name) {
         Ok(file) => file,
         Err(error) if error.kind() == ErrorKind::AlreadyExists => return Err(Failure::Exists(name)),
         Err(error) => return Err(not_opened(&error, name)),
@@ -33,18 +30,46 @@ pub(crate) fn make<'a, R: Files<File = File>>(rt: &R, name: &'a str) -> Result<F
 pub(crate) fn open<'a, R: Files<File = File>>(rt: &R, name: &'a str) -> Result<File, Failure<'a>>
     ensures { IfErr result (IsUnopened name.entry) }
 {
-    match OpenOptions::new().read(true).append(true).open(rt, name) {
+    match older_file().open(rt, name) {
         Ok(file) => locked(file, name),
         Err(error) => Err(not_opened(&error, name)),
     }
+}
+
+// Says how a file is opened that is made, and appended to.
+fn new_file() -> OpenOptions
+    ensures { result ≡ with_create_new (with_append new_options true) true }
+{
+    let mut options = OpenOptions::new();
+    options.append(true).create_new(true);
+    options
+}
+
+// Says how one is opened that exists, is read and appended to.
+fn older_file() -> OpenOptions
+    ensures { result ≡ with_append (with_read new_options true) true }
+{
+    let mut options = OpenOptions::new();
+    options.read(true).append(true);
+    options
 }
 
 // Only one run has the lock, and it ends with the run, also if that is killed.
 fn locked<'a>(file: File, name: &'a str) -> Result<File, Failure<'a>>
     ensures { IfErr result (IsUnopened name.entry) }
 {
-    match file.try_lock() {
-        Ok(()) => Ok(file),
+    tell_lock(file.try_lock(), name)?;
+    Ok(file)
+}
+
+// Tells why the file of this name isn't locked, if it isn't.
+fn tell_lock<'a>(locked: Result<(), TryLockError>, name: &'a str) -> Result<(), Failure<'a>>
+    ensures locked { IsOk result → IsOk locked }
+    ensures in_use { locked ≡ Err TryLockError.WouldBlock → result ≡ Err (failures.InUse name.entry) }
+    ensures unlocked { IfErr result (IsUnopened name.entry) }
+{
+    match locked {
+        Ok(()) => Ok(()),
         Err(TryLockError::WouldBlock) => Err(Failure::InUse(name)),
         Err(TryLockError::Error(error)) => Err(not_opened(&error, name)),
     }

@@ -1,7 +1,8 @@
 //! The recorder of a run, which writes the rows.
+ghost use Rattle.std.specs.Duration.{as_nanos};
 ghost use Rattle.std.specs.Io.KnownBytes.{Appends};
 ghost use Rattle.std.specs.Option.{option_copied, option_to_list};
-ghost use Rattle.std.specs.Prelude.{◌≡◌, ◌≢◌, ◌≤◌, ◌∷◌, [], ◌++◌, Err, IfErr, IfOk, IfSome, IsFalse, IsTrue, OnErr, OnOk, false, true};
+ghost use Rattle.std.specs.Prelude.{◌≡◌, ◌≢◌, ◌≤◌, ◌/◌, ◌∷◌, [], ◌++◌, Err, IfErr, IfOk, IfSome, IsFalse, IsTrue, OnErr, OnOk, false, min, true};
 ghost use Rattle.vdcp_list.specs.Asrun.{AppendsBeginning};
 ghost use Rattle.vdcp_journal.specs.Rows.{AreBytesOf, fields_text, heading_fields, rows_text};
 ghost use Rattle.vdcp_journal.specs.declared.moment.Moment.{Moment};
@@ -20,6 +21,7 @@ use arrayvec::ArrayVec;
 use std::alloc::Global;
 use std::marker::Model;
 use std::rt::Clock;
+use std::time::Duration;
 use vdcp_auto::{Heard, Outcome, Source};
 use vdcp_drive::{Call, Driver, Ear, Keep, KeepFault, KeptFault, Pace, Ran, Watch, Wire, laws};
 use vdcp_journal::{Heading, Moment, Note, Row, write_heading, write_row};
@@ -327,10 +329,17 @@ fn note_of_call(call: Call) -> Note
 /// The time of now. A clock that fails shows 1970.
 pub(crate) fn now<R: Clock>(rt: &R) -> Moment {
     let millis = match rt.since_1970() {
-        Ok(time) => u64::try_from(time.as_millis()).unwrap_or(u64::MAX),
+        Ok(time) => millis_of(time),
         Err(_) => 0,
     };
     Moment::of_unix_millis(millis)
+}
+
+// How many whole milliseconds a time has.
+fn millis_of(time: Duration) -> u64
+    ensures { result ≡ min (as_nanos time / 1_000_000) u64.MAX }
+{
+    u64::try_from(time.as_millis()).unwrap_or(u64::MAX)
 }
 
 // Writes the first row.
