@@ -227,15 +227,21 @@ pub data IsNoBeginning (items : List Item) (heading : Heading) (run : Run) (word
 abbrev pub IsOver : Option Outcome → Type 0
 IsOver outcome = (outcome ≡ Some Done) ⊎ (outcome ≡ Some Stopped)
 
--- after the last run of a journal of what is wanted, the controller with this plan and state goes on, which plays the
--- items from an event on: a new one; or, if that run is over and the operator says nothing, the one of that run
-pub data IsOpenedAgain (items : List Item) (wanted : Heading) (word : Option ℕ) (from : ℕ) (plan : Plan) (state : State)
-    : Type 0 where
-  begins : (lines : FileBytes) (run : Run) (ended : Plan) (end : State)
-      → IsReplayed items wanted lines run ended end → from ≤ length items → BeginsAfter wanted run word from
-      → plan ≡ plan_in wanted (drop from items) → state ≡ start → IsOpenedAgain items wanted word from plan state
-  is_over : word ≡ None → (lines : FileBytes) (run : Run) → IsReplayed items wanted lines run plan state
-      → from ≡ run.from → IsOver (outcome_of state.stage) → IsOpenedAgain items wanted word from plan state
+-- after the last run of a journal of what is wanted, which has these whole lines, the controller with this plan and state
+-- goes on, which plays the items from an event on: a new one; or, if that run is over and the operator says nothing, the
+-- one of that run
+pub data IsOpenedAfter (items : List Item) (wanted : Heading) (lines : FileBytes) (word : Option ℕ) (from : ℕ) (plan : Plan)
+    (state : State) : Type 0 where
+  begins : (run : Run) (ended : Plan) (end : State) → IsReplayed items wanted lines run ended end → from ≤ length items
+      → BeginsAfter wanted run word from → plan ≡ plan_in wanted (drop from items) → state ≡ start
+      → IsOpenedAfter items wanted lines word from plan state
+  is_over : word ≡ None → (run : Run) → IsReplayed items wanted lines run plan state → from ≡ run.from
+      → IsOver (outcome_of state.stage) → IsOpenedAfter items wanted lines word from plan state
+
+-- it goes on so after some journal
+abbrev pub IsOpenedAgain : List Item → Heading → Option ℕ → ℕ → Plan → State → Type 0
+IsOpenedAgain items wanted word from plan state =
+    (lines : FileBytes) × IsOpenedAfter items wanted lines word from plan state
 
 -- why no controller begins after the last run of the journal of this name: nothing goes on from it, its next event may
 -- have aired, or there is no event of the number that the operator says

@@ -5,14 +5,19 @@ ghost use Rattle.vdcp_auto.specs.Turn.{new_controller, outcome_of};
 ghost use Rattle.vdcp_journal.specs.Runs.{Run};
 ghost use Rattle.vdcp_journal.specs.declared.row.Heading.{Heading};
 ghost use Rattle.vdcp_list.specs.Rests.{items_left};
+ghost use Rattle.vdcp_list.specs.Rows.{FileBytes};
+ghost use Rattle.vdcp_journal_file.specs.Disks.{HasJust};
 ghost use Rattle.vdcp_journal_file.specs.Recording.{NotesFrom};
-ghost use Rattle.vdcp_journal_file.specs.Resuming.{BeginsAfter, IsNoBeginning, IsOpenedAgain, IsOver, IsRunOn, IsUnopenedAgain};
+ghost use Rattle.vdcp_journal_file.specs.Resuming.{BeginsAfter, IsNoBeginning, IsOpenedAfter, IsOpenedAgain, IsOver, IsRunOn, IsUnopenedAgain};
 ghost use Rattle.vdcp_text.specs.declared.failure.Failure.TheVariants as failures;
 
+use crate::disk::ReadableDisk;
+use crate::file::open;
+use crate::mending::mend_heading;
 use crate::pending::Pending;
 use crate::reading::{LastRun, Replayed};
 use crate::recorder::Recorder;
-use crate::resume::{Resumption, cut, go_on, opened, replay_file};
+use crate::resume::{Resumption, cut, go_on, replay_file};
 use std::fs::File;
 use std::rt::{Clock, Files};
 use vdcp_auto::{Controller, Mode, Outcome, Source};
@@ -43,8 +48,33 @@ pub fn begin_again<'a, 'r, 's, R: Files<File = File> + Clock + AllocGlobal, S: S
     ensures from { IfOk result (λ r. IfSome r.recorder (λ recorder. NotesFrom (Some r.controller.source.from) recorder.pending)) }
     ensures unopened { IfErr result (IsUnopenedAgain (S.items source.now) name.entry wanted.now word) }
 {
-    let mut file = opened(rt, name, wanted)?;
-    let Replayed { run, .. } = replay_file(rt.alloc(), name, wanted, source, &mut file)?;
+    let file = open(rt, name)?;
+    begin_in(rt, name, wanted, source, word, file)
+}
+
+// The same in this file, which has just the lines then that were read.
+fn begin_in<'a, 'r, 's, R: Clock + AllocGlobal, S: Source, F: ReadableDisk + Drop>(
+    rt: &'r R,
+    name: &'a str,
+    wanted: &Heading,
+    source: &'s S,
+    word: Option<usize>,
+    mut file: F,
+) -> Result<Resumption<'a, 'r, R, &'s S, F>, Failure<'a>>
+    requires unit { wanted.now.unit ≤ 15 }
+    requires some { 1 ≤ wanted.now.limit }
+    requires few { wanted.now.limit ≤ 1000 }
+    ensures opened { IfOk result (λ r. (lines : FileBytes) × IsOpenedAfter (S.items source.now) wanted.now lines word
+        r.controller.source.from (plan_of (items_left (λ s. S.items s.now)) r.controller) r.controller.state
+        × IfSome r.recorder (λ recorder. HasJust F.safe F.written lines recorder.file)) }
+    ensures goes_on { IfOk result (λ r. IsSome r.recorder ↔ (outcome_of r.controller.state.stage ≡ None)) }
+    ensures unit { IfOk result (λ r. IfSome r.recorder (λ recorder. recorder.unit ≡ wanted.now.unit)) }
+    ensures name { IfOk result (λ r. IfSome r.recorder (λ recorder. recorder.name ≡ name.entry)) }
+    ensures from { IfOk result (λ r. IfSome r.recorder (λ recorder. NotesFrom (Some r.controller.source.from) recorder.pending)) }
+    ensures unopened { IfErr result (IsUnopenedAgain (S.items source.now) name.entry wanted.now word) }
+{
+    mend_heading(rt, name, wanted, &mut file)?;
+    let Replayed { run, .. } = replay_file(rt.alloc(), name, wanted, source, &file)?;
     if is_told_again(word, &run.controller) {
         cut(rt.alloc(), name, &mut file)?;
         return go_on(rt, name, wanted.unit, file, run);

@@ -1,12 +1,12 @@
-//! What a journal's file has to do: bytes are appended, and made safe.
+//! What a journal's file has to do: bytes are appended, made safe and read again, and what is torn is cut off.
 ghost use Rattle.std.specs.Io.KnownBytes.{Appends, WriteAppends};
 ghost use Rattle.std.specs.Io.{WritesAtMost};
-ghost use Rattle.std.specs.Prelude.{◌≡◌, OnErr, OnOk};
+ghost use Rattle.std.specs.Prelude.{◌≡◌, None, OnErr, OnOk, Some, if◌then◌else◌, nat_lt, option_map, take};
 ghost use Rattle.vdcp_list.specs.Asrun.{AppendsBeginning};
-ghost use Rattle.vdcp_journal_file.specs.Disks.{Spills};
+ghost use Rattle.vdcp_journal_file.specs.Disks.{HasJust, Spills};
 
-use std::fs::OpenFile;
-use std::io::{self, ErrorKind, Write};
+use std::fs::{File, OpenFile};
+use std::io::{self, ErrorKind, Read, Seek, SeekFrom, Write};
 
 /// A file that grows. What is written to it is safe, also when the power fails, once it was synced; before that a beginning
 /// of it may be.
@@ -47,6 +47,46 @@ impl<F: Write + OpenFile> Disk for F {
     }
 }
 
+/// A disk that is read again, and cut off.
+pub(crate) trait ReadableDisk: Disk {
+    ghost use Rattle.std.specs.Io.KnownBytes.{Keeps};
+    ghost use Rattle.std.specs.Prelude.{◌≡◌, IfOk, OnOk, option_map, take};
+
+    type Reader: Read + Drop;
+
+    /// A reader of all that is written.
+    fn reader(&self) -> io::Result<Self::Reader>
+        ensures { IfOk result (λ reader. Self.Reader.remaining reader ≡ Self.written self.now) };
+
+    /// Cuts it off after its first bytes, as many as this, if it has more.
+    fn cut_after(&mut self, size: u64) -> io::Result<()>
+        ensures { OnOk result (Keeps (option_map (take size) (Self.written self.old)) (Self.written self.new)) };
+}
+
+impl ReadableDisk for File {
+    type Reader = File;
+
+    fn reader(&self) -> io::Result<File> {
+        let mut reader = self.try_clone()?;
+        reader.seek(SeekFrom::Start(0))?;
+        Ok(reader)
+    }
+
+    fn cut_after(&mut self, size: u64) -> io::Result<()> {
+        match size_left(size, self.metadata()?.len()) {
+            Some(left) => self.set_len(left),
+            None => Ok(()),
+        }
+    }
+}
+
+// How many bytes are left of a file of `all` bytes, if more follows its whole rows.
+fn size_left(whole: u64, all: u64) -> Option<u64>
+    ensures { result ≡ (if nat_lt whole all then Some whole else None) }
+{
+    if whole < all { Some(whole) } else { None }
+}
+
 /// Appends bytes and makes them safe, with all before. If it fails, a beginning of them may be there.
 pub fn append_safely<D: Disk>(disk: &mut D, bytes: &[u8]) -> io::Result<()>
     ensures all { OnOk result (Appends (D.written disk.old) (D.safe disk.new) bytes.now) }
@@ -67,4 +107,12 @@ pub fn append_safely<D: Disk>(disk: &mut D, bytes: &[u8]) -> io::Result<()>
         }
     }
     Err(io::Error::from(ErrorKind::TimedOut))
+}
+
+/// Cuts a disk off after its first bytes, as many as this, if it has more, and makes them safe.
+pub(crate) fn cut_safely<D: ReadableDisk>(disk: &mut D, size: u64) -> io::Result<()>
+    ensures { OnOk result (HasJust D.safe D.written (option_map (take size) (D.written disk.old)) disk.new) }
+{
+    disk.cut_after(size)?;
+    disk.sync()
 }

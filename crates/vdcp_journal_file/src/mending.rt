@@ -3,13 +3,12 @@ ghost use Rattle.std.specs.Prelude.{◌≤◌, ◌⊎◌, IfErr};
 ghost use Rattle.vdcp_journal_file.specs.Recording.{IsUnwritten};
 ghost use Rattle.vdcp_journal_file.specs.Resuming.{IsUnread, IsUnresumed};
 
-use crate::disk::append_safely;
+use crate::disk::{ReadableDisk, append_safely};
 use crate::pending::RecordFault;
-use crate::reading::{LastRun, Replayed, is_end};
+use crate::reading::{LastRun, Replayed, is_end, replay};
 use crate::recorder::{heading_text, now};
-use crate::resume::{cut_to, replay_file, replay_front, whole_size};
+use crate::resume::{reader_of, replay_file, whole_size};
 use std::alloc::Global;
-use std::fs::File;
 use std::io::{self, ErrorKind, Read};
 use std::rt::Clock;
 use vdcp_auto::{Heard, Outcome, Phase, Source, Standing};
@@ -19,11 +18,11 @@ use vdcp_words::state::{CUE_DONE, PLAYING};
 use vdcp_words::{Command, Reply};
 
 /// Writes the first row if it was torn; nothing was sent then.
-pub(crate) fn mend_heading<'a, R: Clock + AllocGlobal>(
+pub(crate) fn mend_heading<'a, R: Clock + AllocGlobal, F: ReadableDisk>(
     rt: &R,
     name: &'a str,
     wanted: &Heading,
-    file: &mut File,
+    file: &mut F,
 ) -> Result<(), Failure<'a>>
     ensures { IfErr result (λ failure. IsUnread name.entry failure ⊎ IsUnwritten name.entry failure) }
 {
@@ -32,7 +31,8 @@ pub(crate) fn mend_heading<'a, R: Clock + AllocGlobal>(
         Err(fault) => return Err(fault.failure(name)),
     };
     let mut text = Vec::new(rt.alloc());
-    if let Err(error) = file.take(row.len() as u64).read_to_end(&mut text) {
+    let mut front = reader_of(name, file)?.take(row.len() as u64);
+    if let Err(error) = front.read_to_end(&mut text) {
         return Err(not_read(name, &error));
     }
     if is_torn(text.as_slice(), row.as_slice()) {
@@ -70,12 +70,12 @@ fn is_torn(text: &[u8], row: &[u8]) -> bool {
 
 /// Writes what a run that was killed couldn't write any more: the row of a command that may have gone out without one,
 /// with what was to be heard before it; and that the run was lost, if it was.
-pub(crate) fn mend_end<'a, R: Clock + AllocGlobal, S: Source>(
+pub(crate) fn mend_end<'a, R: Clock + AllocGlobal, S: Source, F: ReadableDisk>(
     rt: &R,
     name: &'a str,
     wanted: &Heading,
     source: &S,
-    file: &mut File,
+    file: &mut F,
 ) -> Result<(), Failure<'a>>
     requires unit { wanted.now.unit ≤ 15 }
     requires some { 1 ≤ wanted.now.limit }
@@ -112,12 +112,12 @@ pub(crate) fn mend_end<'a, R: Clock + AllocGlobal, S: Source>(
 
 // The last run of a journal's file, but for a last row that asks for the state, which may have gone out with or without
 // one; and how many bytes stand before such a row, if there is one.
-fn replay_kept<'a, 's, S: Source>(
+fn replay_kept<'a, 's, S: Source, F: ReadableDisk>(
     alloc: Global,
     name: &'a str,
     wanted: &Heading,
     source: &'s S,
-    file: &mut File,
+    file: &F,
 ) -> Result<(LastRun<'s, S>, Option<usize>), Failure<'a>>
     requires some { 1 ≤ wanted.now.limit }
     requires few { wanted.now.limit ≤ 1000 }
@@ -127,8 +127,9 @@ fn replay_kept<'a, 's, S: Source>(
     if !matches!(run.open, Some(Command::Status(_))) {
         return Ok((run, None));
     }
-    let front = replay_front(alloc, name, wanted, source, file, before_last as u64)?;
-    Ok((front.run, Some(before_last)))
+    let front = reader_of(name, file)?.take(before_last as u64);
+    let Replayed { run, .. } = replay(alloc, name, front, wanted, source)?;
+    Ok((run, Some(before_last)))
 }
 
 // What may have been sent and heard since the last row: the next command, if it asks for the state, or is a PLAY; and,
@@ -202,17 +203,17 @@ fn is_loss_unsaid<S: Source>(run: &LastRun<'_, S>) -> bool {
 }
 
 // Keeps the first bytes of a file, as many as this, and writes a text after them; what followed is gone.
-fn replace_from<'a>(
+fn replace_from<'a, F: ReadableDisk>(
     name: &'a str,
     size: usize,
     text: &[u8],
-    file: &mut File,
+    file: &mut F,
 ) -> Result<(), Failure<'a>>
     ensures { IfErr result (IsUnwritten name.entry) }
 {
-    cut_to(name, file, size)?;
-    match append_safely(file, text) {
-        Ok(()) => Ok(()),
-        Err(_) => Err(RecordFault::Device.failure(name)),
+    if file.cut_after(size as u64).is_ok() && append_safely(file, text).is_ok() {
+        Ok(())
+    } else {
+        Err(RecordFault::Device.failure(name))
     }
 }

@@ -1,22 +1,24 @@
 //! How the last run of a journal's file goes on.
-ghost use Rattle.std.specs.Prelude.{◌≡◌, ◌⊎◌, ◌≤◌, ◌↔◌, IfErr, IfOk, IfSome, IsSome, None, Some, if◌then◌else◌, nat_lt};
+ghost use Rattle.std.specs.Prelude.{◌≡◌, ◌⊎◌, ◌≤◌, ◌↔◌, IfErr, IfOk, IfSome, IsSome, None, OnOk, length, option_map};
 ghost use Rattle.vdcp_auto.specs.Plan.{plan_of};
 ghost use Rattle.vdcp_auto.specs.Turn.{outcome_of};
+ghost use Rattle.vdcp_journal.specs.Reading.{whole_lines};
 ghost use Rattle.vdcp_journal.specs.Runs.{Run};
 ghost use Rattle.vdcp_list.specs.Rests.{items_left};
 ghost use Rattle.vdcp_list.specs.Rows.{FileBytes};
+ghost use Rattle.vdcp_journal_file.specs.Disks.{HasJust};
 ghost use Rattle.vdcp_journal_file.specs.Recorded.{MayHold};
-ghost use Rattle.vdcp_journal_file.specs.Recording.{IsTimedOut, IsUnopened, IsUnwritten};
+ghost use Rattle.vdcp_journal_file.specs.Recording.{IsTimedOut, IsUnwritten};
 ghost use Rattle.vdcp_journal_file.specs.Resuming.{Continues, IsReplayed, IsUnread, IsUnresumed, open_after, plan_of_run};
 
+use crate::disk::{Disk, ReadableDisk, cut_safely};
 use crate::file::open;
 use crate::mending::{mend_end, mend_heading, not_read};
 use crate::pending::Pending;
 use crate::reading::{LastRun, Replayed, is_end, replay};
 use crate::recorder::{Recorder, now};
 use std::alloc::Global;
-use std::fs::{File, OpenFile};
-use std::io::{Read, Seek, SeekFrom};
+use std::fs::File;
 use std::rt::{Clock, Files};
 use vdcp_auto::{Controller, Source};
 use vdcp_journal::{Heading, Note, Row, size_of_lines};
@@ -26,11 +28,11 @@ use vdcp_words::Command;
 
 /// What goes on from a journal in a file.
 #[derive(Drop)]
-pub struct Resumption<'a, 'r, R, S: Source> {
+pub struct Resumption<'a, 'r, R, S: Source, F: Disk = File> {
     /// It plays the list from an event on.
     pub controller: Controller<Rest<S>>,
     /// It appends to the journal. None if the controller has ended: there is nothing to send.
-    pub recorder: Option<Recorder<'a, 'r, R, File>>,
+    pub recorder: Option<Recorder<'a, 'r, R, F>>,
 }
 
 /// Goes on with the last run of the journal of this name, if it is one of what is wanted: gives its rows to a new
@@ -57,133 +59,120 @@ pub fn resume_journal<'a, 'r, 's, R: Files<File = File> + Clock + AllocGlobal, S
     ensures name { IfOk result (λ r. IfSome r.recorder (λ recorder. recorder.name ≡ name.entry)) }
     ensures unresumed { IfErr result (IsUnresumed (S.items source.now) name.entry wanted.now) }
 {
-    let mut file = opened(rt, name, wanted)?;
+    let file = open(rt, name)?;
+    resume_in(rt, name, wanted, source, file)
+}
+
+// The same of the journal in this file, which has just the lines then that were read.
+fn resume_in<'a, 'r, 's, R: Clock + AllocGlobal, S: Source, F: ReadableDisk + Drop>(
+    rt: &'r R,
+    name: &'a str,
+    wanted: &Heading,
+    source: &'s S,
+    mut file: F,
+) -> Result<Resumption<'a, 'r, R, &'s S, F>, Failure<'a>>
+    requires unit { wanted.now.unit ≤ 15 }
+    requires some { 1 ≤ wanted.now.limit }
+    requires few { wanted.now.limit ≤ 1000 }
+    ensures resumed { IfOk result (λ r. (lines : FileBytes) × (run : Run)
+        × IsReplayed (S.items source.now) wanted.now lines run (plan_of (items_left (λ s. S.items s.now)) r.controller)
+        r.controller.state
+        × (r.controller.source.from ≡ run.from)
+        × IfSome r.recorder (λ recorder.
+        IsTimedOut (open_after (plan_of_run wanted.now (S.items source.now) run) run.rows) recorder.pending)
+        × IfSome r.recorder (λ recorder. HasJust F.safe F.written lines recorder.file)) }
+    ensures goes_on { IfOk result (λ r. IsSome r.recorder ↔ (outcome_of r.controller.state.stage ≡ None)) }
+    ensures unit { IfOk result (λ r. IfSome r.recorder (λ recorder. recorder.unit ≡ wanted.now.unit)) }
+    ensures name { IfOk result (λ r. IfSome r.recorder (λ recorder. recorder.name ≡ name.entry)) }
+    ensures unresumed { IfErr result (IsUnresumed (S.items source.now) name.entry wanted.now) }
+{
+    mend_heading(rt, name, wanted, &mut file)?;
     mend_end(rt, name, wanted, source, &mut file)?;
-    let Replayed { run, .. } = replay_file(rt.alloc(), name, wanted, source, &mut file)?;
+    let Replayed { run, .. } = replay_file(rt.alloc(), name, wanted, source, &file)?;
     cut(rt.alloc(), name, &mut file)?;
     go_on(rt, name, wanted.unit, file, run)
 }
 
-/// Opens the file of this name. If its first row was torn, that is written.
-pub(crate) fn opened<'a, R: Files<File = File> + Clock + AllocGlobal>(
-    rt: &R,
-    name: &'a str,
-    wanted: &Heading,
-) -> Result<File, Failure<'a>>
-    ensures { IfErr result (λ failure. IsUnopened name.entry failure
-        ⊎ (IsUnread name.entry failure ⊎ IsUnwritten name.entry failure)) }
-{
-    let mut file = open(rt, name)?;
-    mend_heading(rt, name, wanted, &mut file)?;
-    Ok(file)
-}
-
-/// The last run of the journal in this file, which is read from its beginning.
-pub(crate) fn replay_file<'a, 's, S: Source>(
+/// The last run of the journal in this file.
+pub(crate) fn replay_file<'a, 's, S: Source, F: ReadableDisk>(
     alloc: Global,
     name: &'a str,
     wanted: &Heading,
     source: &'s S,
-    file: &mut File,
+    file: &F,
 ) -> Result<Replayed<'s, S>, Failure<'a>>
     requires some { 1 ≤ wanted.now.limit }
     requires few { wanted.now.limit ≤ 1000 }
-    ensures replayed { IfOk result (λ r. (lines : FileBytes)
-        × Continues (λ s. S.items s.now) wanted.now (S.items source.now) lines r.run.controller r.run.«open» r.run.unsettled) }
+    ensures replayed { IfOk result (λ r. Continues (λ s. S.items s.now) wanted.now (S.items source.now)
+        (option_map whole_lines (F.written file.now)) r.run.controller r.run.«open» r.run.unsettled) }
     ensures unresumed { IfErr result (IsUnresumed (S.items source.now) name.entry wanted.now) }
 {
-    replay_front(alloc, name, wanted, source, file, u64::MAX)
+    let reader = reader_of(name, file)?;
+    replay(alloc, name, reader, wanted, source)
 }
 
-/// The last run of the journal in the first bytes of this file, as many as `size`, or all if it has fewer.
-pub(crate) fn replay_front<'a, 's, S: Source>(
-    alloc: Global,
+/// A reader of all of this file.
+pub(crate) fn reader_of<'a, F: ReadableDisk>(
     name: &'a str,
-    wanted: &Heading,
-    source: &'s S,
-    file: &mut File,
-    size: u64,
-) -> Result<Replayed<'s, S>, Failure<'a>>
-    requires some { 1 ≤ wanted.now.limit }
-    requires few { wanted.now.limit ≤ 1000 }
-    ensures replayed { IfOk result (λ r. (lines : FileBytes)
-        × Continues (λ s. S.items s.now) wanted.now (S.items source.now) lines r.run.controller r.run.«open» r.run.unsettled) }
-    ensures unresumed { IfErr result (IsUnresumed (S.items source.now) name.entry wanted.now) }
+    file: &F,
+) -> Result<F::Reader, Failure<'a>>
+    ensures all { IfOk result (λ reader. F.Reader.remaining reader ≡ F.written file.now) }
+    ensures unread { IfErr result (IsUnread name.entry) }
 {
-    rewind(name, file)?;
-    replay(alloc, name, file.take(size), wanted, source)
-}
-
-// The file is read from its beginning next.
-fn rewind<'a>(name: &'a str, file: &mut File) -> Result<(), Failure<'a>>
-    ensures { IfErr result (IsUnread name.entry) }
-{
-    match file.seek(SeekFrom::Start(0)) {
-        Ok(_) => Ok(()),
-        Err(_) => Err(Failure::Read(name)),
+    match file.reader() {
+        Ok(reader) => Ok(reader),
+        Err(error) => Err(not_read(name, &error)),
     }
 }
 
-/// Cuts a file off after its whole rows, if it has more than these.
-pub(crate) fn cut<'a>(alloc: Global, name: &'a str, file: &mut File) -> Result<(), Failure<'a>>
-    ensures { IfErr result (λ failure. IsUnread name.entry failure ⊎ IsUnwritten name.entry failure) }
+/// Cuts a file off after its whole rows, if it has more than these, and makes them safe.
+pub(crate) fn cut<'a, F: ReadableDisk>(
+    alloc: Global,
+    name: &'a str,
+    file: &mut F,
+) -> Result<(), Failure<'a>>
+    ensures whole { OnOk result (HasJust F.safe F.written (option_map whole_lines (F.written file.old)) file.new) }
+    ensures uncut { IfErr result (λ failure. IsUnread name.entry failure ⊎ IsUnwritten name.entry failure) }
 {
     let size = whole_size(alloc, name, file)?;
-    Ok(cut_to(name, file, size)?)
+    match cut_safely(file, size as u64) {
+        Ok(()) => Ok(()),
+        Err(_) => Err(Failure::Write(name)),
+    }
 }
 
 /// How many bytes the whole rows of a file are.
-pub(crate) fn whole_size<'a>(
+pub(crate) fn whole_size<'a, F: ReadableDisk>(
     alloc: Global,
     name: &'a str,
-    file: &mut File,
+    file: &F,
 ) -> Result<usize, Failure<'a>>
-    ensures { IfErr result (IsUnread name.entry) }
+    ensures size { IfOk result (λ size. IfSome (F.written file.now) (λ bytes. size ≡ length (whole_lines bytes))) }
+    ensures unread { IfErr result (IsUnread name.entry) }
 {
-    rewind(name, file)?;
-    match size_of_lines(alloc, file) {
+    let reader = reader_of(name, file)?;
+    match size_of_lines(alloc, reader) {
         Ok(size) => Ok(size),
         Err(error) => Err(not_read(name, &error)),
     }
 }
 
-/// Cuts a file off after its first bytes, as many as `size`, if it has more than these.
-pub(crate) fn cut_to<'a>(name: &'a str, file: &File, size: usize) -> Result<(), Failure<'a>>
-    ensures { IfErr result (IsUnwritten name.entry) }
-{
-    let Ok(found) = file.metadata() else {
-        return Err(Failure::Write(name));
-    };
-    match size_left(size as u64, found.len()) {
-        Some(left) => match file.set_len(left) {
-            Ok(()) => Ok(()),
-            Err(_) => Err(Failure::Write(name)),
-        },
-        None => Ok(()),
-    }
-}
-
-// How many bytes are left of a file of `all` bytes, if more follows its whole rows.
-fn size_left(whole: u64, all: u64) -> Option<u64>
-    ensures { result ≡ (if nat_lt whole all then Some whole else None) }
-{
-    if whole < all { Some(whole) } else { None }
-}
-
 /// What goes on, in a file of whole rows. If the controller has ended and no row says so, one is written.
-pub(crate) fn go_on<'a, 'r, 's, R: Files<File = File> + Clock + AllocGlobal, S: Source>(
+pub(crate) fn go_on<'a, 'r, 's, R: Clock + AllocGlobal, S: Source, F: Disk + Drop>(
     rt: &'r R,
     name: &'a str,
     unit: u8,
-    file: File,
+    file: F,
     run: LastRun<'s, S>,
-) -> Result<Resumption<'a, 'r, R, &'s S>, Failure<'a>>
+) -> Result<Resumption<'a, 'r, R, &'s S, F>, Failure<'a>>
     requires unit { unit ≤ 15 }
+    requires synced { F.safe file ≡ F.written file }
     ensures controller { IfOk result (λ r. r.controller ≡ run.entry.controller) }
     ensures goes_on { IfOk result (λ r. IsSome r.recorder ↔ (outcome_of r.controller.state.stage ≡ None)) }
     ensures unit { IfOk result (λ r. IfSome r.recorder (λ recorder. recorder.unit ≡ unit)) }
     ensures name { IfOk result (λ r. IfSome r.recorder (λ recorder. recorder.name ≡ name.entry)) }
     ensures pending { IfOk result (λ r. IfSome r.recorder (λ recorder. IsTimedOut run.entry.«open» recorder.pending)) }
+    ensures file { IfOk result (λ r. IfSome r.recorder (λ recorder. recorder.file ≡ file)) }
     ensures unwritten { IfErr result (IsUnwritten name.entry) }
 {
     let LastRun {

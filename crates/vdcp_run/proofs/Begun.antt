@@ -117,7 +117,7 @@ again_so : {F : Type 0} (list : List Item) (settings : RunSettings) (name : Bor 
     → IsOpenedAgain list (heading_for settings list) settings.from from plan state
     → IsBegun settings list (Some (journals.Again name)) (record { plan = plan; from = from; state = state }) recorder
 again_so list settings name from plan state recorder some few begins
-    (resuming.begins lines run ended end replayed within after plan_is state_is) =
+    (lines, resuming.begins run ended end replayed within after plan_is state_is) =
     let first : Plan = plan_for settings (drop from list) in
     let new : Reached first start [] = begun some few in
     record {
@@ -128,7 +128,7 @@ again_so list settings name from plan state recorder some few begins
           (subst (λ (s : State). Reached first s []) (sym state_is) new);
     }
 again_so list settings name from plan state recorder some few begins
-    (resuming.is_over unsaid lines run replayed is over) =
+    (lines, resuming.is_over unsaid run replayed is over) =
     replayed_so list settings (Some (journals.Again name)) (record { plan = plan; from = from; state = state }) recorder lines
     run some replayed is begins
 

@@ -1,33 +1,6 @@
-use Rattle.std.proofs.Common.{refl}
-use Rattle.std.proofs.lemmas.Result.{IfOk-weaker, err_from_is_err_and}
-use Rattle.vdcp_journal_file.proofs.OpenedAgain.{not_begun, replayed_of}
+use Rattle.std.proofs.lemmas.Result.{IfOk-weaker}
 use Rattle.vdcp_journal_file.proofs.again.begin_again.Goals as goal
-use Rattle.vdcp_journal_file.specs.Resuming.{begins, is_over, unresumed}
-
-pub returns-in_err-run-clause-unopened : goal.returns-in_err-run-clause-unopened
-returns-in_err-run-clause-unopened g c =
-    let p = err_from_is_err_and c.from_residual-in_err-run.result c.from_residual-in_err-run.ensures.1 in
-    rw (p.1, p.2) (unresumed c.in_err-run.ensures.unresumed)
-
-pub returns-in_err-event-clause-unopened : goal.returns-in_err-event-clause-unopened
-returns-in_err-event-clause-unopened g c =
-    let p = err_from_is_err_and c.from_residual-in_err-event.result c.from_residual-in_err-event.ensures.1 in
-    let replayed = c.in_ok-run.ensures.replayed in
-    rw (p.1, p.2) (not_begun _ _ _ _ _ _ _ _ _ (replayed_of _ _ _ _ _ _ _ replayed.1) (c.in_err-event.ensures.none _ _ replayed.1.on))
-
-pub returns-then-is_told_again-clause-opened : goal.returns-then-is_told_again-clause-opened
-returns-then-is_told_again-clause-opened g c =
-    let replayed = c.in_ok-run.ensures.replayed in
-    let over = is_over (c.is_told_again.ensures.unsaid c.if-is_told_again.true) replayed.0 replayed.1.run
-    (replayed_of _ _ _ _ _ _ _ replayed.1) replayed.1.on.from_is (c.is_told_again.ensures.is_over c.if-is_told_again.true) in
-    IfOk-weaker c.go_on.result _ _ (λ r same. rw same over) c.go_on.ensures.controller
 
 pub returns-clause-opened : goal.returns-clause-opened
 returns-clause-opened g c =
-    let replayed = c.in_ok-run.ensures.replayed in
-    let event = c.in_ok-event.ensures.begins _ _ replayed.1.on in
-    rw c.new_controller.ensures
-    (begins replayed.0 replayed.1.run _ _ (replayed_of _ _ _ _ _ _ _ replayed.1) event.1 event.0 refl refl)
-
-pub returns-clause-from : goal.returns-clause-from
-returns-clause-from g c = rw c.new_controller.ensures c.note_from.ensures.noted
+    IfOk-weaker c.begin_in.result _ _ (λ r p. (p.0, p.1)) c.begin_in.ensures.opened

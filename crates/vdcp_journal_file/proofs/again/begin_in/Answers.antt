@@ -1,0 +1,43 @@
+use Rattle.std.proofs.Common.{refl}
+use Rattle.std.proofs.lemmas.Option.{IfSome_then}
+use Rattle.std.proofs.lemmas.Result.{IfOk-weaker, err_from_is_err_and}
+use Rattle.std.specs.Prelude.{option_map}
+use Rattle.vdcp_journal.specs.Reading.{whole_lines}
+use Rattle.vdcp_journal_file.proofs.OpenedAgain.{both, not_begun, replayed_of}
+use Rattle.vdcp_journal_file.proofs.again.begin_in.Goals as goal
+use Rattle.vdcp_journal_file.specs.Resuming.{begins, is_over, unresumed}
+
+pub returns-in_err-run-clause-unopened : goal.returns-in_err-run-clause-unopened
+returns-in_err-run-clause-unopened g c =
+    let p = err_from_is_err_and c.from_residual-in_err-run.result c.from_residual-in_err-run.ensures.1 in
+    rw (p.1, p.2) (unresumed c.in_err-run.ensures.unresumed)
+
+pub returns-in_err-event-clause-unopened : goal.returns-in_err-event-clause-unopened
+returns-in_err-event-clause-unopened g c =
+    let p = err_from_is_err_and c.from_residual-in_err-event.result c.from_residual-in_err-event.ensures.1 in
+    let replayed = c.in_ok-run.ensures.replayed in
+    rw (p.1, p.2) (not_begun _ _ _ _ _ _ _ _ _ (replayed_of _ _ _ _ _ _ _ replayed) (c.in_err-event.ensures.none _ _ replayed.on))
+
+pub returns-then-is_told_again-clause-opened : goal.returns-then-is_told_again-clause-opened
+returns-then-is_told_again-clause-opened g c =
+    let replayed = c.in_ok-run.ensures.replayed in
+    let over = is_over (c.is_told_again.ensures.unsaid c.if-is_told_again.true) replayed.run
+    (replayed_of _ _ _ _ _ _ _ replayed) replayed.on.from_is (c.is_told_again.ensures.is_over c.if-is_told_again.true) in
+    IfOk-weaker c.go_on.result _ _ (λ r p. (
+      option_map whole_lines (g.F.Disk.written c.mend_heading.new.file),
+      rw p.0 over,
+      IfSome_then r.recorder p.1 (λ recorder is. rw is c.in_ok-cut.ensures.whole),
+    )) (both c.go_on.result _ _ c.go_on.ensures.controller c.go_on.ensures.file)
+
+pub returns-clause-opened : goal.returns-clause-opened
+returns-clause-opened g c =
+    let replayed = c.in_ok-run.ensures.replayed in
+    let event = c.in_ok-event.ensures.begins _ _ replayed.on in (
+      option_map whole_lines (g.F.Disk.written c.mend_heading.new.file),
+      rw c.new_controller.ensures
+          (begins replayed.run _ _ (replayed_of _ _ _ _ _ _ _ replayed) event.1 event.0 refl refl),
+      rw (c.note_from.ensures.rest, c.after-recorder.ensures) c.in_ok-cut-2.ensures.whole,
+    )
+
+pub returns-clause-from : goal.returns-clause-from
+returns-clause-from g c = rw c.new_controller.ensures c.note_from.ensures.noted

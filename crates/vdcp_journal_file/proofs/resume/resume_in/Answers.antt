@@ -1,0 +1,23 @@
+use Rattle.std.proofs.Common.{subst}
+use Rattle.std.proofs.lemmas.Option.{IfSome_then}
+use Rattle.std.proofs.lemmas.Result.{IfOk-weaker}
+use Rattle.std.specs.Prelude.{IfSome, Option, option_map}
+use Rattle.vdcp_journal.specs.Reading.{whole_lines}
+use Rattle.vdcp_journal_file.proofs.OpenedAgain.{both, replayed_of}
+use Rattle.vdcp_journal_file.proofs.resume.resume_in.Goals as goal
+use Rattle.vdcp_journal_file.specs.Recording.{IsTimedOut}
+use Rattle.vdcp_words.specs.declared.command.Command.{Command}
+
+pub returns-clause-resumed : goal.returns-clause-resumed
+returns-clause-resumed g c =
+    let replayed = c.in_ok-run.ensures.replayed in
+    IfOk-weaker c.go_on.result _ _ (λ r p. (
+      option_map whole_lines (g.F.Disk.written c.mend_end.new.file),
+      replayed.run,
+      rw p.0 (replayed_of _ _ _ _ _ _ _ replayed),
+      rw p.0 replayed.on.from_is,
+      subst (λ (o : Option Command). IfSome r.recorder (λ recorder. IsTimedOut o recorder.pending)) replayed.on.asked_is
+          p.1.0,
+      IfSome_then r.recorder p.1.1 (λ recorder is. rw is c.in_ok-cut.ensures.whole),
+    )) (both c.go_on.result _ _ c.go_on.ensures.controller
+    (both c.go_on.result _ _ c.go_on.ensures.pending c.go_on.ensures.file))
