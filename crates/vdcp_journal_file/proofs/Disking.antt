@@ -90,7 +90,7 @@ front_of byte more [] is =
     [ true ↦ refl | false ↦ refl ]
 front_of byte more (next ∷ lines) is = ap (λ (l : List ℕ). byte ∷ l) is
 
-lines_in_front : (text : List ℕ) → take (length (whole_lines text)) text ≡ whole_lines text
+pub lines_in_front : (text : List ℕ) → take (length (whole_lines text)) text ≡ whole_lines text
 lines_in_front [] = refl
 lines_in_front (byte ∷ more) = front_of byte more (whole_lines more) (lines_in_front more)
 

@@ -15,7 +15,7 @@ use crate::disk::ReadableDisk;
 use crate::file::open;
 use crate::mending::mend_heading;
 use crate::pending::Pending;
-use crate::reading::{LastRun, Replayed};
+use crate::reading::LastRun;
 use crate::recorder::Recorder;
 use crate::resume::{Resumption, cut, go_on, replay_file};
 use std::fs::File;
@@ -74,7 +74,7 @@ fn begin_in<'a, 'r, 's, R: Clock + AllocGlobal, S: Source, F: ReadableDisk + Dro
     ensures unopened { IfErr result (IsUnopenedAgain (S.items source.now) name.entry wanted.now word) }
 {
     mend_heading(rt, name, wanted, &mut file)?;
-    let Replayed { run, .. } = replay_file(rt.alloc(), name, wanted, source, &file)?;
+    let run = replay_file(rt.alloc(), name, wanted, source, &file)?;
     if is_told_again(word, &run.controller) {
         cut(rt.alloc(), name, &mut file)?;
         return go_on(rt, name, wanted.unit, file, run);

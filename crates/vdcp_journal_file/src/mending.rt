@@ -1,13 +1,16 @@
 //! What a killed run left undone in its journal is done before anything goes on from it.
-ghost use Rattle.std.specs.Prelude.{◌≤◌, ◌⊎◌, IfErr};
+ghost use Rattle.std.specs.Io.KnownBytes.{Appends};
+ghost use Rattle.std.specs.Prelude.{◌≡◌, ◌<◌, ◌≤◌, ◌⊎◌, [], IfErr, IfOk, IfSome, IsTrue, OnOk, length, option_map, take};
+ghost use Rattle.vdcp_journal.specs.Reading.{whole_lines};
+ghost use Rattle.vdcp_journal_file.specs.Disks.{AreLines, KeepsLines};
 ghost use Rattle.vdcp_journal_file.specs.Recording.{IsUnwritten};
 ghost use Rattle.vdcp_journal_file.specs.Resuming.{IsUnread, IsUnresumed};
 
 use crate::disk::{ReadableDisk, append_safely};
 use crate::pending::RecordFault;
-use crate::reading::{LastRun, Replayed, is_end, replay};
+use crate::reading::{LastRun, is_end, replay};
 use crate::recorder::{heading_text, now};
-use crate::resume::{reader_of, replay_file, whole_size};
+use crate::resume::{reader_of, replay_file, size_read, whole_size};
 use std::alloc::Global;
 use std::io::{self, ErrorKind, Read};
 use std::rt::Clock;
@@ -24,7 +27,8 @@ pub(crate) fn mend_heading<'a, R: Clock + AllocGlobal, F: ReadableDisk>(
     wanted: &Heading,
     file: &mut F,
 ) -> Result<(), Failure<'a>>
-    ensures { IfErr result (λ failure. IsUnread name.entry failure ⊎ IsUnwritten name.entry failure) }
+    ensures kept { OnOk result (KeepsLines (F.written file.old) (F.written file.new)) }
+    ensures unmended { IfErr result (λ failure. IsUnread name.entry failure ⊎ IsUnwritten name.entry failure) }
 {
     let row = match heading_text(rt, wanted) {
         Ok(row) => row,
@@ -32,8 +36,9 @@ pub(crate) fn mend_heading<'a, R: Clock + AllocGlobal, F: ReadableDisk>(
     };
     let mut text = Vec::new(rt.alloc());
     let mut front = reader_of(name, file)?.take(row.len() as u64);
-    if let Err(error) = front.read_to_end(&mut text) {
-        return Err(not_read(name, &error));
+    match front.read_to_end(&mut text) {
+        Ok(_) => {}
+        Err(error) => return Err(not_read(name, &error)),
     }
     if is_torn(text.as_slice(), row.as_slice()) {
         return replace_from(name, 0, row.as_slice(), file);
@@ -54,11 +59,21 @@ pub(crate) fn not_read<'a>(name: &'a str, error: &io::Error) -> Failure<'a>
 // How many bytes of a row are its time.
 const TIME: usize = 24;
 
-// Whether a text is the beginning of this row, with any time.
-fn is_torn(text: &[u8], row: &[u8]) -> bool {
-    if text.len() >= row.len() {
+// Whether a text is the beginning of this row, with any time, and has no whole row.
+fn is_torn(text: &[u8], row: &[u8]) -> bool
+    ensures few { IsTrue result → length text.now < length row.now }
+    ensures torn { IsTrue result → whole_lines text.now ≡ [] }
+{
+    if text.contains(&b'\n') {
         return false;
     }
+    text.len() < row.len() && begins(text, row)
+}
+
+// Whether a row begins with this text, at any time.
+fn begins(text: &[u8], row: &[u8]) -> bool
+    requires { length text.now ≤ length row.now }
+{
     for k in 0..text.len() {
         let digits = k < TIME && text[k].is_ascii_digit() && row[k].is_ascii_digit();
         if text[k] != row[k] && !digits {
@@ -80,9 +95,10 @@ pub(crate) fn mend_end<'a, R: Clock + AllocGlobal, S: Source, F: ReadableDisk>(
     requires unit { wanted.now.unit ≤ 15 }
     requires some { 1 ≤ wanted.now.limit }
     requires few { wanted.now.limit ≤ 1000 }
-    ensures { IfErr result (IsUnresumed (S.items source.now) name.entry wanted.now) }
+    ensures kept { OnOk result (KeepsLines (F.written file.old) (F.written file.new)) }
+    ensures unmended { IfErr result (IsUnresumed (S.items source.now) name.entry wanted.now) }
 {
-    let (mut run, kept) = replay_kept(rt.alloc(), name, wanted, source, file)?;
+    let (mut run, size) = replay_kept(rt.alloc(), name, wanted, source, file)?;
     let [first, second, third] = unkept(&run);
     give(&mut run, first);
     give(&mut run, second);
@@ -99,37 +115,35 @@ pub(crate) fn mend_end<'a, R: Clock + AllocGlobal, S: Source, F: ReadableDisk>(
     };
     match text_of(rt, wanted.unit, [first, second, third, silence, lost]) {
         Ok(rows) if rows.is_empty() => Ok(()),
-        Ok(rows) => {
-            let size = match kept {
-                Some(size) => size,
-                None => whole_size(rt.alloc(), name, file)?,
-            };
-            Ok(replace_from(name, size, rows.as_slice(), file)?)
-        }
+        Ok(rows) => Ok(replace_from(name, size, rows.as_slice(), file)?),
         Err(fault) => Err(fault.failure(name)),
     }
 }
 
 // The last run of a journal's file, but for a last row that asks for the state, which may have gone out with or without
-// one; and how many bytes stand before such a row, if there is one.
+// one; and how many bytes the rows are that it has then.
 fn replay_kept<'a, 's, S: Source, F: ReadableDisk>(
     alloc: Global,
     name: &'a str,
     wanted: &Heading,
     source: &'s S,
     file: &F,
-) -> Result<(LastRun<'s, S>, Option<usize>), Failure<'a>>
+) -> Result<(LastRun<'s, S>, usize), Failure<'a>>
     requires some { 1 ≤ wanted.now.limit }
     requires few { wanted.now.limit ≤ 1000 }
-    ensures { IfErr result (IsUnresumed (S.items source.now) name.entry wanted.now) }
+    ensures size { IfOk result (λ r. IfSome (F.written file.now) (λ text. AreLines text r.1)) }
+    ensures unresumed { IfErr result (IsUnresumed (S.items source.now) name.entry wanted.now) }
 {
-    let Replayed { run, before_last } = replay_file(alloc, name, wanted, source, file)?;
+    let run = replay_file(alloc, name, wanted, source, file)?;
+    let whole = whole_size(alloc, name, file)?;
     if !matches!(run.open, Some(Command::Status(_))) {
-        return Ok((run, None));
+        return Ok((run, whole));
     }
-    let front = reader_of(name, file)?.take(before_last as u64);
-    let Replayed { run, .. } = replay(alloc, name, front, wanted, source)?;
-    Ok((run, Some(before_last)))
+    let front = reader_of(name, file)?.take(whole.saturating_sub(1) as u64);
+    let size = size_read(alloc, name, front)?;
+    let front = reader_of(name, file)?.take(size as u64);
+    let run = replay(alloc, name, front, wanted, source)?;
+    Ok((run, size))
 }
 
 // What may have been sent and heard since the last row: the next command, if it asks for the state, or is a PLAY; and,
@@ -209,7 +223,8 @@ fn replace_from<'a, F: ReadableDisk>(
     text: &[u8],
     file: &mut F,
 ) -> Result<(), Failure<'a>>
-    ensures { IfErr result (IsUnwritten name.entry) }
+    ensures replaced { OnOk result (Appends (option_map (take size) (F.written file.old)) (F.written file.new) text.now) }
+    ensures unwritten { IfErr result (IsUnwritten name.entry) }
 {
     if file.cut_after(size as u64).is_ok() && append_safely(file, text).is_ok() {
         Ok(())

@@ -69,13 +69,6 @@ pub(crate) struct LastRun<'s, S: Source> {
     pub last_note: Option<Note>,
 }
 
-/// A journal's last run, and how many bytes stand before the journal's last row.
-#[derive(Drop)]
-pub(crate) struct Replayed<'s, S: Source> {
-    pub run: LastRun<'s, S>,
-    pub before_last: usize,
-}
-
 /// Gives the rows of the last run of a journal to a new controller of the list's events from the run's first on, and times
 /// out the exchange that was open. The failure is `JournalRow` if it is no journal of what is wanted, `Read` if it
 /// can't be read, or `Memory`.
@@ -85,11 +78,11 @@ pub(crate) fn replay<'a, 's, S: Source, I: io::Read + Drop>(
     reader: I,
     wanted: &Heading,
     source: &'s S,
-) -> Result<Replayed<'s, S>, Failure<'a>>
+) -> Result<LastRun<'s, S>, Failure<'a>>
     requires some { 1 ≤ wanted.now.limit }
     requires few { wanted.now.limit ≤ 1000 }
     ensures replayed { IfOk result (λ r. Continues (λ s. S.items s.now) wanted.now (S.items source.now)
-        (option_map whole_lines (I.remaining reader)) r.run.controller r.run.«open» r.run.unsettled) }
+        (option_map whole_lines (I.remaining reader)) r.controller r.«open» r.unsettled) }
     ensures refused { IfErr result (λ failure. (refusal : Refusal) × (failure ≡ failure_of name.entry refusal)
         × IsRefused (S.items source.now) wanted.now (option_map whole_lines (I.remaining reader)) refusal) }
 {
@@ -97,10 +90,7 @@ pub(crate) fn replay<'a, 's, S: Source, I: io::Read + Drop>(
         return Err(Failure::Memory);
     };
     match last_run(alloc, &mut lines, wanted, source) {
-        Ok(run) => Ok(Replayed {
-            run,
-            before_last: lines.before_last(),
-        }),
+        Ok(run) => Ok(run),
         Err(refusal) => Err(refusal_of(lines.long_line(), refusal).failure(name)),
     }
 }

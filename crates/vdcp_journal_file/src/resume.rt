@@ -15,10 +15,11 @@ use crate::disk::{Disk, ReadableDisk, cut_safely};
 use crate::file::open;
 use crate::mending::{mend_end, mend_heading, not_read};
 use crate::pending::Pending;
-use crate::reading::{LastRun, Replayed, is_end, replay};
+use crate::reading::{LastRun, is_end, replay};
 use crate::recorder::{Recorder, now};
 use std::alloc::Global;
 use std::fs::File;
+use std::io::Read;
 use std::rt::{Clock, Files};
 use vdcp_auto::{Controller, Source};
 use vdcp_journal::{Heading, Note, Row, size_of_lines};
@@ -88,7 +89,7 @@ fn resume_in<'a, 'r, 's, R: Clock + AllocGlobal, S: Source, F: ReadableDisk + Dr
 {
     mend_heading(rt, name, wanted, &mut file)?;
     mend_end(rt, name, wanted, source, &mut file)?;
-    let Replayed { run, .. } = replay_file(rt.alloc(), name, wanted, source, &file)?;
+    let run = replay_file(rt.alloc(), name, wanted, source, &file)?;
     cut(rt.alloc(), name, &mut file)?;
     go_on(rt, name, wanted.unit, file, run)
 }
@@ -100,11 +101,11 @@ pub(crate) fn replay_file<'a, 's, S: Source, F: ReadableDisk>(
     wanted: &Heading,
     source: &'s S,
     file: &F,
-) -> Result<Replayed<'s, S>, Failure<'a>>
+) -> Result<LastRun<'s, S>, Failure<'a>>
     requires some { 1 ≤ wanted.now.limit }
     requires few { wanted.now.limit ≤ 1000 }
     ensures replayed { IfOk result (λ r. Continues (λ s. S.items s.now) wanted.now (S.items source.now)
-        (option_map whole_lines (F.written file.now)) r.run.controller r.run.«open» r.run.unsettled) }
+        (option_map whole_lines (F.written file.now)) r.controller r.«open» r.unsettled) }
     ensures unresumed { IfErr result (IsUnresumed (S.items source.now) name.entry wanted.now) }
 {
     let reader = reader_of(name, file)?;
@@ -151,6 +152,18 @@ pub(crate) fn whole_size<'a, F: ReadableDisk>(
     ensures unread { IfErr result (IsUnread name.entry) }
 {
     let reader = reader_of(name, file)?;
+    size_read(alloc, name, reader)
+}
+
+/// How many bytes the whole rows are that a reader gives.
+pub(crate) fn size_read<'a, I: Read + Drop>(
+    alloc: Global,
+    name: &'a str,
+    reader: I,
+) -> Result<usize, Failure<'a>>
+    ensures size { IfOk result (λ size. IfSome (I.remaining reader) (λ bytes. size ≡ length (whole_lines bytes))) }
+    ensures unread { IfErr result (IsUnread name.entry) }
+{
     match size_of_lines(alloc, reader) {
         Ok(size) => Ok(size),
         Err(error) => Err(not_read(name, &error)),
