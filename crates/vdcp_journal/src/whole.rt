@@ -22,10 +22,8 @@ pub struct WholeLines<R> {
     given: usize,
     whole: usize,
     filled: usize,
-    // How many lines were found, how many bytes they are, and how many of these stand before the last line.
+    // How many lines were found.
     number: usize,
-    size: usize,
-    before_last: usize,
     ghost given_within: { given ≤ whole },
     ghost whole_within: { whole ≤ filled },
     ghost filled_within: { filled ≤ vec_len held },
@@ -49,14 +47,7 @@ impl<R: Read> WholeLines<R> {
             whole: 0,
             filled: 0,
             number: 0,
-            size: 0,
-            before_last: 0,
         })
-    }
-
-    /// How many bytes stand before the last line that was found: the last of all, once a read came to the end.
-    pub fn before_last(&self) -> usize {
-        self.before_last
     }
 
     /// The number, from 1, of the line that is too long, if each read fails at one.
@@ -109,8 +100,6 @@ impl<R: Read> WholeLines<R> {
     {
         self.whole += size;
         self.number = self.number.saturating_add(1);
-        self.before_last = self.size;
-        self.size = self.size.saturating_add(size);
     }
 
     // Reads what follows, in place of what was given, and says how many bytes came.

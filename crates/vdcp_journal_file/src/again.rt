@@ -1,12 +1,13 @@
 //! How a new run begins in a journal that has others.
-ghost use Rattle.std.specs.Prelude.{◌≡◌, ◌⊎◌, ◌≤◌, ◌<◌, ◌+◌, ◌↔◌, None, Some, IfErr, IfOk, IfSome, IsSome, IsTrue, length};
+ghost use Rattle.std.specs.Prelude.{◌≡◌, ◌⊎◌, ◌≤◌, ◌<◌, ◌+◌, ◌↔◌, None, Some, IfErr, IfOk, IfSome, IsSome, IsTrue, length, option_map};
 ghost use Rattle.vdcp_auto.specs.Plan.{plan_of};
 ghost use Rattle.vdcp_auto.specs.Turn.{new_controller, outcome_of};
+ghost use Rattle.vdcp_journal.specs.Reading.{whole_lines};
 ghost use Rattle.vdcp_journal.specs.Runs.{Run};
 ghost use Rattle.vdcp_journal.specs.declared.row.Heading.{Heading};
 ghost use Rattle.vdcp_list.specs.Rests.{items_left};
 ghost use Rattle.vdcp_list.specs.Rows.{FileBytes};
-ghost use Rattle.vdcp_journal_file.specs.Disks.{HasJust};
+ghost use Rattle.vdcp_journal_file.specs.Disks.{BeginsWith, HasJust};
 ghost use Rattle.vdcp_journal_file.specs.Recording.{NotesFrom};
 ghost use Rattle.vdcp_journal_file.specs.Resuming.{BeginsAfter, IsNoBeginning, IsOpenedAfter, IsOpenedAgain, IsOver, IsRunOn, IsUnopenedAgain};
 ghost use Rattle.vdcp_text.specs.declared.failure.Failure.TheVariants as failures;
@@ -66,7 +67,8 @@ fn begin_in<'a, 'r, 's, R: Clock + AllocGlobal, S: Source, F: ReadableDisk + Dro
     requires few { wanted.now.limit ≤ 1000 }
     ensures opened { IfOk result (λ r. (lines : FileBytes) × IsOpenedAfter (S.items source.now) wanted.now lines word
         r.controller.source.from (plan_of (items_left (λ s. S.items s.now)) r.controller) r.controller.state
-        × IfSome r.recorder (λ recorder. HasJust F.safe F.written lines recorder.file)) }
+        × IfSome r.recorder (λ recorder. HasJust F.safe F.written lines recorder.file)
+        × BeginsWith (option_map whole_lines (F.written file)) lines) }
     ensures goes_on { IfOk result (λ r. IsSome r.recorder ↔ (outcome_of r.controller.state.stage ≡ None)) }
     ensures unit { IfOk result (λ r. IfSome r.recorder (λ recorder. recorder.unit ≡ wanted.now.unit)) }
     ensures name { IfOk result (λ r. IfSome r.recorder (λ recorder. recorder.name ≡ name.entry)) }

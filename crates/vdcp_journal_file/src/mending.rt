@@ -2,7 +2,7 @@
 ghost use Rattle.std.specs.Io.KnownBytes.{Appends};
 ghost use Rattle.std.specs.Prelude.{◌≡◌, ◌<◌, ◌≤◌, ◌⊎◌, [], IfErr, IfOk, IfSome, IsTrue, OnOk, length, option_map, take};
 ghost use Rattle.vdcp_journal.specs.Reading.{whole_lines};
-ghost use Rattle.vdcp_journal_file.specs.Disks.{AreLines, KeepsLines};
+ghost use Rattle.vdcp_journal_file.specs.Disks.{AreLines, BeginsWith, KeepsLines};
 ghost use Rattle.vdcp_journal_file.specs.Recording.{IsUnwritten};
 ghost use Rattle.vdcp_journal_file.specs.Resuming.{IsUnread, IsUnresumed};
 
@@ -27,7 +27,7 @@ pub(crate) fn mend_heading<'a, R: Clock + AllocGlobal, F: ReadableDisk>(
     wanted: &Heading,
     file: &mut F,
 ) -> Result<(), Failure<'a>>
-    ensures kept { OnOk result (KeepsLines (F.written file.old) (F.written file.new)) }
+    ensures kept { OnOk result (BeginsWith (option_map whole_lines (F.written file.old)) (F.written file.new)) }
     ensures unmended { IfErr result (λ failure. IsUnread name.entry failure ⊎ IsUnwritten name.entry failure) }
 {
     let row = match heading_text(rt, wanted) {

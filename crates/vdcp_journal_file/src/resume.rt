@@ -6,7 +6,7 @@ ghost use Rattle.vdcp_journal.specs.Reading.{whole_lines};
 ghost use Rattle.vdcp_journal.specs.Runs.{Run};
 ghost use Rattle.vdcp_list.specs.Rests.{items_left};
 ghost use Rattle.vdcp_list.specs.Rows.{FileBytes};
-ghost use Rattle.vdcp_journal_file.specs.Disks.{HasJust};
+ghost use Rattle.vdcp_journal_file.specs.Disks.{HasJust, KeepsLines};
 ghost use Rattle.vdcp_journal_file.specs.Recorded.{MayHold};
 ghost use Rattle.vdcp_journal_file.specs.Recording.{IsTimedOut, IsUnwritten};
 ghost use Rattle.vdcp_journal_file.specs.Resuming.{Continues, IsReplayed, IsUnread, IsUnresumed, open_after, plan_of_run};
@@ -81,7 +81,8 @@ fn resume_in<'a, 'r, 's, R: Clock + AllocGlobal, S: Source, F: ReadableDisk + Dr
         × (r.controller.source.from ≡ run.from)
         × IfSome r.recorder (λ recorder.
         IsTimedOut (open_after (plan_of_run wanted.now (S.items source.now) run) run.rows) recorder.pending)
-        × IfSome r.recorder (λ recorder. HasJust F.safe F.written lines recorder.file)) }
+        × IfSome r.recorder (λ recorder. HasJust F.safe F.written lines recorder.file)
+        × KeepsLines (F.written file) lines) }
     ensures goes_on { IfOk result (λ r. IsSome r.recorder ↔ (outcome_of r.controller.state.stage ≡ None)) }
     ensures unit { IfOk result (λ r. IfSome r.recorder (λ recorder. recorder.unit ≡ wanted.now.unit)) }
     ensures name { IfOk result (λ r. IfSome r.recorder (λ recorder. recorder.name ≡ name.entry)) }

@@ -3,6 +3,7 @@ use Rattle.std.proofs.lemmas.Option.{IfSome_then}
 use Rattle.std.proofs.lemmas.Result.{IfOk-weaker, err_from_is_err_and}
 use Rattle.std.specs.Prelude.{option_map}
 use Rattle.vdcp_journal.specs.Reading.{whole_lines}
+use Rattle.vdcp_journal_file.proofs.Mended.{lines_begin}
 use Rattle.vdcp_journal_file.proofs.OpenedAgain.{both, not_begun, replayed_of}
 use Rattle.vdcp_journal_file.proofs.again.begin_in.Goals as goal
 use Rattle.vdcp_journal_file.specs.Resuming.{begins, is_over, unresumed}
@@ -27,6 +28,8 @@ returns-then-is_told_again-clause-opened g c =
       option_map whole_lines (g.F.Disk.written c.mend_heading.new.file),
       rw p.0 over,
       IfSome_then r.recorder p.1 (λ recorder is. rw is c.in_ok-cut.ensures.whole),
+      lines_begin (g.F.Disk.written c.args.file) (g.F.Disk.written c.mend_heading.new.file)
+          c.in_ok-mend_heading.ensures.kept,
     )) (both c.go_on.result _ _ c.go_on.ensures.controller c.go_on.ensures.file)
 
 pub returns-clause-opened : goal.returns-clause-opened
@@ -37,6 +40,8 @@ returns-clause-opened g c =
       rw c.new_controller.ensures
           (begins replayed.run _ _ (replayed_of _ _ _ _ _ _ _ replayed) event.1 event.0 refl refl),
       rw (c.note_from.ensures.rest, c.after-recorder.ensures) c.in_ok-cut-2.ensures.whole,
+      lines_begin (g.F.Disk.written c.args.file) (g.F.Disk.written c.mend_heading.new.file)
+          c.in_ok-mend_heading.ensures.kept,
     )
 
 pub returns-clause-from : goal.returns-clause-from

@@ -3,6 +3,7 @@ use Rattle.std.proofs.lemmas.Option.{IfSome_then}
 use Rattle.std.proofs.lemmas.Result.{IfOk-weaker}
 use Rattle.std.specs.Prelude.{IfSome, Option, option_map}
 use Rattle.vdcp_journal.specs.Reading.{whole_lines}
+use Rattle.vdcp_journal_file.proofs.Mended.{mended_so}
 use Rattle.vdcp_journal_file.proofs.OpenedAgain.{both, replayed_of}
 use Rattle.vdcp_journal_file.proofs.resume.resume_in.Goals as goal
 use Rattle.vdcp_journal_file.specs.Recording.{IsTimedOut}
@@ -19,5 +20,7 @@ returns-clause-resumed g c =
       subst (λ (o : Option Command). IfSome r.recorder (λ recorder. IsTimedOut o recorder.pending)) replayed.on.asked_is
           p.1.0,
       IfSome_then r.recorder p.1.1 (λ recorder is. rw is c.in_ok-cut.ensures.whole),
+      mended_so (g.F.Disk.written c.args.file) (g.F.Disk.written c.mend_heading.new.file) (g.F.Disk.written c.mend_end.new.file)
+          c.in_ok-mend_heading.ensures.kept c.in_ok-mend_end.ensures.kept,
     )) (both c.go_on.result _ _ c.go_on.ensures.controller
     (both c.go_on.result _ _ c.go_on.ensures.pending c.go_on.ensures.file))
