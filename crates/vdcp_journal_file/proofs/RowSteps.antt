@@ -95,7 +95,7 @@ pub runs_on : {S : Type 0} (items : S → List Item) (wanted : Heading) (list : 
     → asked ≡ awaited (plan_of (items_left items) made.controller) made.controller.state
     → unsettled ≡ unsettled_event wanted.mode run.rows
     → IsRunOn items wanted list run resumed asked unsettled
-runs_on {S} items wanted list run made resumed asked unsettled law (within, source, f) resumed_is asked_is unsettled_is =
+runs_on {S} items wanted list run made resumed asked unsettled law (within, source, of, f) resumed_is asked_is unsettled_is =
     let plan : Plan = plan_of_run wanted list run in
     let limit = limits wanted.limit (losses run.rows) f.some in
     let state_is : resumed.state ≡ state_after plan run.rows = ap (λ (v : View (FromEvent S)). v.state) resumed_is
@@ -110,6 +110,8 @@ runs_on {S} items wanted list run made resumed asked unsettled law (within, sour
         lawful = subst (λ (s : State). IsLawful plan s (log_of run.rows)) (sym state_is)
             (law plan run.rows limit.0 limit.1 f.told);
       };
+      list_is = ap (λ (v : View (FromEvent S)). items v.source.source) resumed_is
+          ∙ ap (λ (e : FromEvent S). items e.source) f.source_is ∙ of;
       from_is = ap (λ (v : View (FromEvent S)). v.source.from) resumed_is
           ∙ ap (λ (e : FromEvent S). e.from) f.source_is;
       asked_is = asked_is ∙ ap (λ (p : Plan). awaited p made.controller.state) f.plan_is ∙ ap (awaited plan) f.state_is;

@@ -157,6 +157,7 @@ pub record IsRunOn {S : Type 0} (items : S → List Item) (wanted : Heading) (li
   pub within : run.from ≤ length list
   pub stand : AllStand (plan_begun wanted list run) run.rows
   pub resumes : IsResumed (plan_of_run wanted list run) run.rows (plan_of (items_left items) controller) controller.state
+  pub list_is : items controller.source.source ≡ list
   pub from_is : controller.source.from ≡ run.from
   pub asked_is : asked ≡ open_after (plan_of_run wanted list run) run.rows
   pub unsettled_is : unsettled ≡ unsettled_event wanted.mode run.rows
@@ -179,7 +180,7 @@ IsOther found wanted why = (differs : JournalFault) × Differs found wanted diff
 abbrev pub IsMadeOrRefused : {S : Type 0} → (S → List Item) → Heading → List Item → Run → Result (RunView (FromEvent S)) Refusal
     → Type 0
 IsMadeOrRefused {S} items heading list run (Ok made) = (run.from ≤ length list) × (source : S)
-    × IsMadeBy (items_left items) (plan_begun heading list run) (record { source = source; from = run.from }) run.rows made
+    × (items source ≡ list) × IsMadeBy (items_left items) (plan_begun heading list run) (record { source = source; from = run.from }) run.rows made
 IsMadeOrRefused items heading list run (Err why) = IsRunRefused list heading run why
 
 -- a journal's last row says how the controller ended

@@ -43,6 +43,7 @@ pub fn begin_again<'a, 'r, 's, R: Files<File = File> + Clock + AllocGlobal, S: S
     requires few { wanted.now.limit ≤ 1000 }
     ensures opened { IfOk result (λ r. IsOpenedAgain (S.items source.now) wanted.now word r.controller.source.from
         (plan_of (items_left (λ s. S.items s.now)) r.controller) r.controller.state) }
+    ensures list { IfOk result (λ r. S.items r.controller.source.source.now ≡ S.items source.now) }
     ensures goes_on { IfOk result (λ r. IsSome r.recorder ↔ (outcome_of r.controller.state.stage ≡ None)) }
     ensures unit { IfOk result (λ r. IfSome r.recorder (λ recorder. recorder.unit ≡ wanted.now.unit)) }
     ensures name { IfOk result (λ r. IfSome r.recorder (λ recorder. recorder.name ≡ name.entry)) }
@@ -69,6 +70,7 @@ fn begin_in<'a, 'r, 's, R: Clock + AllocGlobal, S: Source, F: ReadableDisk + Dro
         r.controller.source.from (plan_of (items_left (λ s. S.items s.now)) r.controller) r.controller.state
         × IfSome r.recorder (λ recorder. HasJust F.safe F.written lines recorder.file)
         × BeginsWith (option_map whole_lines (F.written file)) lines) }
+    ensures list { IfOk result (λ r. S.items r.controller.source.source.now ≡ S.items source.now) }
     ensures goes_on { IfOk result (λ r. IsSome r.recorder ↔ (outcome_of r.controller.state.stage ≡ None)) }
     ensures unit { IfOk result (λ r. IfSome r.recorder (λ recorder. recorder.unit ≡ wanted.now.unit)) }
     ensures name { IfOk result (λ r. IfSome r.recorder (λ recorder. recorder.name ≡ name.entry)) }

@@ -4,7 +4,7 @@ ghost use Rattle.std.specs.Prelude.{◌≡◌, ◌⊎◌, Err, IfErr, IsOk, true
 ghost use Rattle.vdcp_journal_file.specs.Recording.{IsUnopened};
 ghost use Rattle.vdcp_text.specs.declared.failure.Failure.TheVariants as failures;
 
-use std::fs::{self, File, OpenOptions, TryLockError};
+use std::fs::{self, File, OpenFile, OpenOptions, TryLockError};
 use std::io::{self, ErrorKind};
 use std::path::Path;
 use std::rt::Files;
@@ -86,7 +86,7 @@ fn not_opened<'a>(error: &io::Error, name: &'a str) -> Failure<'a>
 }
 
 /// Makes it safe that the file has its name, if the system can say that of a folder.
-pub(crate) fn sync_folder<R: Files<File = File>>(rt: &R, name: &str) {
+pub fn sync_folder<R: Files>(rt: &R, name: &str) {
     let folder = match Path::new(name).parent() {
         Some(folder) if !folder.as_str().is_empty() => folder,
         _ => Path::new("."),

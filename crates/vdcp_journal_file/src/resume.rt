@@ -55,6 +55,7 @@ pub fn resume_journal<'a, 'r, 's, R: Files<File = File> + Clock + AllocGlobal, S
         × (r.controller.source.from ≡ run.from)
         × IfSome r.recorder (λ recorder.
         IsTimedOut (open_after (plan_of_run wanted.now (S.items source.now) run) run.rows) recorder.pending)) }
+    ensures list { IfOk result (λ r. S.items r.controller.source.source.now ≡ S.items source.now) }
     ensures goes_on { IfOk result (λ r. IsSome r.recorder ↔ (outcome_of r.controller.state.stage ≡ None)) }
     ensures unit { IfOk result (λ r. IfSome r.recorder (λ recorder. recorder.unit ≡ wanted.now.unit)) }
     ensures name { IfOk result (λ r. IfSome r.recorder (λ recorder. recorder.name ≡ name.entry)) }
@@ -83,6 +84,7 @@ fn resume_in<'a, 'r, 's, R: Clock + AllocGlobal, S: Source, F: ReadableDisk + Dr
         IsTimedOut (open_after (plan_of_run wanted.now (S.items source.now) run) run.rows) recorder.pending)
         × IfSome r.recorder (λ recorder. HasJust F.safe F.written lines recorder.file)
         × KeepsLines (F.written file) lines) }
+    ensures list { IfOk result (λ r. S.items r.controller.source.source.now ≡ S.items source.now) }
     ensures goes_on { IfOk result (λ r. IsSome r.recorder ↔ (outcome_of r.controller.state.stage ≡ None)) }
     ensures unit { IfOk result (λ r. IfSome r.recorder (λ recorder. recorder.unit ≡ wanted.now.unit)) }
     ensures name { IfOk result (λ r. IfSome r.recorder (λ recorder. recorder.name ≡ name.entry)) }

@@ -46,3 +46,10 @@ returns-clause-opened g c =
 
 pub returns-clause-from : goal.returns-clause-from
 returns-clause-from g c = rw c.new_controller.ensures c.note_from.ensures.noted
+
+pub returns-then-is_told_again-clause-list : goal.returns-then-is_told_again-clause-list
+returns-then-is_told_again-clause-list g c =
+    IfOk-weaker c.go_on.result _ _ (λ r same. rw same c.in_ok-run.ensures.replayed.on.list_is) c.go_on.ensures.controller
+
+pub returns-clause-list : goal.returns-clause-list
+returns-clause-list g c = rw c.new_controller.ensures refl

@@ -24,3 +24,7 @@ returns-clause-resumed g c =
           c.in_ok-mend_heading.ensures.kept c.in_ok-mend_end.ensures.kept,
     )) (both c.go_on.result _ _ c.go_on.ensures.controller
     (both c.go_on.result _ _ c.go_on.ensures.pending c.go_on.ensures.file))
+
+pub returns-clause-list : goal.returns-clause-list
+returns-clause-list g c =
+    IfOk-weaker c.go_on.result _ _ (λ r same. rw same c.in_ok-run.ensures.replayed.on.list_is) c.go_on.ensures.controller
