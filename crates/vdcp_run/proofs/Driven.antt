@@ -23,11 +23,12 @@ use Rattle.vdcp_journal_file.specs.Recording.{Recording}
 use Rattle.vdcp_run.proofs.Ends.{EndedWith, comes_so, gives_none}
 use Rattle.vdcp_run.proofs.Seen.{Shows, run_seen}
 use Rattle.vdcp_run.specs.Ends.{line_end_of, outcome_in_list}
-use Rattle.vdcp_run.specs.Run.{ComesTo, IsEndBy}
+use Rattle.vdcp_run.specs.Run.{ComesTo, HasAsrun, IsEndBy}
 use Rattle.vdcp_run.specs.Session.{CallsBy, HasOperated, IsClosed, IsGiven, LastRound, MissesBy, Parts, Playing, Plays, Rounds, Runs, RunsBy, ended, missed, rules_of, run_over, spent, start_of}
 use Rattle.vdcp_run.specs.Waiting.{AsksState, OnlyAsks, alone, asking}
 use Rattle.vdcp_run.specs.declared.run_end.LineEnd.TheVariants as line_end
 use Rattle.vdcp_run.specs.declared.run_end.RunEnd.{RunEnd}
+use Rattle.vdcp_run.specs.declared.settings.RunSettings.{RunSettings}
 use Rattle.vdcp_value.specs.declared.part.Item.{Item}
 use Rattle.vdcp_words.specs.declared.command.Command.{Command}
 
@@ -182,6 +183,13 @@ ends_by {S} this controller end told is from outcome reported by =
       outcome_is = outcome ∙ by.outcome_is ∙ ap (λ (f : ℕ). outcome_in_list f (outcome_of this.state.stage)) (sym from);
       reported_is = reported ∙ by.reported_is ∙ ap (λ (f : ℕ). f + this.state.settled) (sym from);
     })
+
+-- its as-run file is of the same list
+pub asrun_by : {S : Type 0} (items : S → List Item) (settings : RunSettings) (this new old : View (FromEvent S))
+    (end : RunEnd) → this ≡ new → new ≡ record old { state = new.state } → HasAsrun settings (items this.source.source) end
+    → HasAsrun settings (items old.source.source) end
+asrun_by {S} items settings this new old end is stays made =
+    subst (λ (v : View (FromEvent S)). HasAsrun settings (items v.source.source) end) (is ∙ stays) made
 
 pub unkept_by : (answer : Result Ran KeptFault) → line_end_of answer ≡ line_end.Unkept → answer ≡ Err fault.Unkept
 unkept_by (Ok ran.Ended) h = cc

@@ -18,7 +18,7 @@ use Rattle.vdcp_drive.specs.declared.line.Ran.TheVariants as ran
 use Rattle.vdcp_list.specs.Rests.{FromEvent, items_left}
 use Rattle.vdcp_run.specs.Ends.{line_end_of, outcome_in_list}
 use Rattle.vdcp_files.specs.Files.{File}
-use Rattle.vdcp_run.specs.Run.{ComesTo, IsEndBy, IsEndOf, IsPlayed, IsRun, end_text, fault_text, faults_text, line_failure, outcome_status, run_status, status_unless, told_outcome}
+use Rattle.vdcp_run.specs.Run.{ComesTo, IsEndBy, IsEndOf, IsPlayed, IsRun, asrun_failure, end_text, fault_text, faults_text, line_failure, outcome_status, run_status, status_unless, told_outcome}
 use Rattle.vdcp_run.specs.declared.run_end.LineEnd.{LineEnd}
 use Rattle.vdcp_run.specs.declared.run_end.LineEnd.TheVariants as line_end
 use Rattle.vdcp_run.specs.declared.run_end.RunEnd.{RunEnd}
@@ -139,7 +139,7 @@ pub told_with : {E : Type 0} (n : ℕ) → n ≤ 2 → (settings : RunSettings) 
     → IsRun settings list out out' n × Keeps err err'
 told_with n low settings list end (Ok status) out out' err err' played lines faults is one = (
   record { end = end; played = played; gained = lines; status_is = sym one ∙ is },
-  keeps_by err err' (faults_text end) (silent_by n low end.unwritten end.unkept (line_failure end.line)
+  keeps_by err err' (faults_text end) (silent_by n low (asrun_failure end.asrun) end.unkept (line_failure end.line)
       (outcome_status (told_outcome end.line end.outcome)) (sym is ∙ one)) faults,
 )
 told_with n low settings list end (Err e) out out' err err' played lines faults is one = absurd (omega (arith, low, one))

@@ -2,7 +2,7 @@
 use Rattle.std.specs.Borrow.{Bor}
 use Rattle.std.specs.Io.KnownBytes.{Appends, Keeps}
 use Rattle.std.specs.declared.fs.File.{File as StdFile}
-use Rattle.std.specs.Prelude.{ℕ, ◌≡◌, ◌⊎◌, ◌+◌, ◌<◌, ◌≤◌, Bool, true, false, List, [], ◌++◌, codes, decimal, drop, length, take, Option, None, Some, option_map, unwrap_or, IfSome, IsSome, if◌then◌else◌}
+use Rattle.std.specs.Prelude.{ℕ, ◌≡◌, ◌⊎◌, ◌+◌, ◌-◌, ◌<◌, ◌≤◌, Bool, true, false, List, [], ◌++◌, codes, decimal, drop, length, take, Option, None, Some, option_map, unwrap_or, Result, Ok, Err, IfSome, IsSome, if◌then◌else◌}
 use Rattle.vdcp_value.specs.declared.part.Item.{Item}
 use Rattle.vdcp_value.specs.declared.rate.Rate.{Rate}
 use Rattle.vdcp_auto.specs.Course.{Reached}
@@ -37,6 +37,7 @@ use Rattle.vdcp_run.specs.declared.settings.RunJournal.TheVariants as journals
 use Rattle.vdcp_run.specs.declared.run_end.LineEnd.{LineEnd}
 use Rattle.vdcp_run.specs.declared.run_end.LineEnd.TheVariants as line_end
 use Rattle.vdcp_run.specs.declared.run_end.RunEnd.{RunEnd}
+use Rattle.vdcp_run.specs.declared.saved.SavedText.{SavedText}
 use Rattle.vdcp_run.specs.declared.settings.RunSettings.{RunSettings}
 
 -- what the controller is made with for these items
@@ -83,12 +84,6 @@ IsUnlisted (Some (journals.New name)) failure = failure ≡ failures.Memory
 IsUnlisted (Some (journals.Older name)) failure = Unit {0}
 IsUnlisted (Some (journals.Again name)) failure = Unit {0}
 
--- if no file is named nothing is written, and that is no failure
-abbrev pub MayBeUnwritten : Option (Bor (List ℕ)) → Option RunJournal → Option Failure → Type 0
-MayBeUnwritten name journal None = Unit {0}
-MayBeUnwritten None journal (Some failure) = ⊥
-MayBeUnwritten (Some name) journal (Some failure) = IsUnwritten name failure ⊎ IsUnlisted journal failure
-
 -- the file that is named for the as-run list, if one is, is the list
 abbrev pub IsOverList : Option (Bor (List ℕ)) → Failure → Type 0
 IsOverList None failure = ⊥
@@ -99,18 +94,51 @@ abbrev pub IsPlaceRefused : Option (Bor (List ℕ)) → Failure → Type 0
 IsPlaceRefused None failure = ⊥
 IsPlaceRefused (Some name) failure = (failure ≡ failures.Exists name) ⊎ IsUnwritten name failure
 
--- the text of the list: the events that a controller reports of the rest of a list, with the numbers of the whole list
-abbrev pub reported_text : {S : Type 0} → Rate → (S → List Item) → View (FromEvent S) → List ℕ
-reported_text rate items controller =
-    events_text rate (has_part (items controller.source.source)) controller.source.from
-    (take controller.state.settled (drop controller.source.from (items controller.source.source)))
+-- the text of the list: the events of these items from one to before another, with their numbers
+abbrev pub reported_text : Rate → List Item → (from reported : ℕ) → List ℕ
+reported_text rate items from reported =
+    events_text rate (has_part items) from (take (reported - from) (drop from items))
 
--- the text that the file gets: if a journal goes on, all that this shows
-abbrev pub IsListed : {S : Type 0} → (S → List Item) → Rate → Option RunJournal → View (FromEvent S) → List ℕ → Type 0
-IsListed items rate None controller text = text ≡ reported_text rate items controller
-IsListed items rate (Some (journals.New name)) controller text = text ≡ reported_text rate items controller
-IsListed items rate (Some (journals.Older name)) controller text = IsAsrunOf rate (items controller.source.source) text
-IsListed items rate (Some (journals.Again name)) controller text = IsAsrunOf rate (items controller.source.source) text
+-- the text that the file gets of a run that reported them: if a journal goes on, all that this shows
+abbrev pub IsListed : Rate → Option RunJournal → List Item → (from reported : ℕ) → List ℕ → Type 0
+IsListed rate None items from reported text = text ≡ reported_text rate items from reported
+IsListed rate (Some (journals.New name)) items from reported text = text ≡ reported_text rate items from reported
+IsListed rate (Some (journals.Older name)) items from reported text = IsAsrunOf rate items text
+IsListed rate (Some (journals.Again name)) items from reported text = IsAsrunOf rate items text
+
+-- the file of this name has this text
+abbrev pub IsSaved : Bor (List ℕ) → List ℕ → SavedText → Type 0
+IsSaved name text saved = (saved.name ≡ name) × (saved.text.items ≡ text)
+
+-- the file of this name, if one is wanted, has its list, or there is a failure
+abbrev pub IsAsrunMade : Rate → Option RunJournal → List Item → (from reported : ℕ) → Option (Bor (List ℕ))
+    → Option (Result SavedText Failure) → Type 0
+IsAsrunMade rate journal items from reported None made = made ≡ None
+IsAsrunMade rate journal items from reported (Some name) None = ⊥
+IsAsrunMade rate journal items from reported (Some name) (Some (Ok saved)) =
+    (saved.name ≡ name) × IsListed rate journal items from reported saved.text.items
+IsAsrunMade rate journal items from reported (Some name) (Some (Err failure)) =
+    IsUnwritten name failure ⊎ IsUnlisted journal failure
+
+-- the name of the file that is wanted once the line ended so: none if the port isn't empty
+abbrev pub wanted_after : LineEnd → Option (Bor (List ℕ)) → Option (Bor (List ℕ))
+wanted_after line_end.Unneeded name = name
+wanted_after line_end.Closed name = name
+wanted_after line_end.Spent name = name
+wanted_after line_end.Failed name = name
+wanted_after line_end.Unkept name = name
+wanted_after line_end.Occupied name = None
+wanted_after line_end.Unanswered name = name
+
+-- so it is after a run of these items
+abbrev pub HasAsrun : RunSettings → List Item → RunEnd → Type 0
+HasAsrun settings items end = IsAsrunMade settings.rate settings.journal items end.from end.reported
+    (wanted_after end.line settings.asrun) end.asrun
+
+abbrev pub asrun_failure : Option (Result SavedText Failure) → Option Failure
+asrun_failure None = None
+asrun_failure (Some (Ok saved)) = None
+asrun_failure (Some (Err failure)) = Some failure
 
 -- ---- the journal
 
@@ -181,7 +209,7 @@ fault_text (Some failure) = failure_line failure
 
 -- the fault lines of the as-run file, the journal and the line, of which there are any
 abbrev pub faults_text : RunEnd → List ℕ
-faults_text end = fault_text end.unwritten ++ fault_text end.unkept ++ fault_text (line_failure end.line)
+faults_text end = fault_text (asrun_failure end.asrun) ++ fault_text end.unkept ++ fault_text (line_failure end.line)
 
 -- ---- the exit status
 
@@ -203,7 +231,7 @@ status_unless (Some failure) status = 3
 
 abbrev pub run_status : RunEnd → ℕ
 run_status end =
-    status_unless end.unwritten
+    status_unless (asrun_failure end.asrun)
     (status_unless end.unkept (status_unless (line_failure end.line) (outcome_status (told_outcome end.line end.outcome))))
 
 -- ---- the whole
@@ -240,7 +268,7 @@ pub record ComesTo {S : Type 0} (items : S → List Item) (controller : View (Fr
 pub record EndsRun {S : Type 0} (settings : RunSettings) (kept : Option (Bor (List ℕ))) (items : S → List Item)
     (controller : View (FromEvent S)) (end : RunEnd) : Type 0 where
   pub comes : ComesTo items controller end
-  pub unwritten : MayBeUnwritten settings.asrun settings.journal end.unwritten
+  pub asrun : HasAsrun settings (items controller.source.source) end
   pub unkept : MayBeUnkept kept end.unkept
 
 -- A run begins so, with this recorder, if its controller hasn't ended: if the last run of some journal of these items
@@ -305,7 +333,7 @@ pub record IsPlayed (settings : RunSettings) (list : File) (end : RunEnd) : Type
   pub items : List Item
   pub lists : IsListOf settings.rate (bytes_of list) items
   pub runs : IsRunOf settings items settings.journal end
-  pub unwritten : MayBeUnwritten settings.asrun settings.journal end.unwritten
+  pub asrun : HasAsrun settings items end
   pub unkept : MayBeUnkept (option_map name_of settings.journal) end.unkept
 
 -- the list was played to this end: a writer gained the lines of that, and this is the status

@@ -1,36 +1,42 @@
 //! How the as-run file of a run is made.
 ghost use Rattle.std.specs.Io.KnownBytes.{Appends};
-ghost use Rattle.std.specs.Prelude.{◌≡◌, IfErr, IfOk, OnOk};
-ghost use Rattle.vdcp_run.specs.Run.{IsListed, IsUnlisted, IsUnwritten, MayBeUnwritten, reported_text};
+ghost use Rattle.std.specs.Prelude.{◌≡◌, ◌+◌, IfErr, IfOk, OnOk};
+ghost use Rattle.vdcp_run.specs.Run.{IsAsrunMade, IsListed, IsSaved, IsUnlisted, IsUnwritten, reported_text, wanted_after};
 
 use crate::place::{Place, make_beside, not_made};
+use crate::run_end::LineEnd;
+use crate::saved::SavedText;
 use crate::settings::{RunJournal, RunSettings};
-use std::fs::{self, File, OpenFile};
+use std::fs::{self, OpenFile};
 use std::io::{self, ErrorKind};
-use std::path::Path;
 use std::rt::Files;
 use vdcp_auto::{Controller, Source};
 use vdcp_files::keep_older;
-use vdcp_journal_file::{Disk, append_safely, asrun_of_journal};
+use vdcp_journal_file::{Disk, append_safely, asrun_of_journal, sync_folder};
 use vdcp_list::{Rest, write_events};
 use vdcp_text::Failure;
 use vdcp_value::Rate;
 
-/// Makes the as-run file of a run that has ended, if one is named. An older file is there, whole, until the new one is;
-/// one of other bytes is kept beside, as `NAME.~N~`.
+/// Makes the as-run file of a run that has ended, if one is named, and the port was empty. An older file is there, whole,
+/// until the new one is; one of other bytes is kept beside, as `NAME.~N~`.
 pub fn save_asrun<'a, R: Files + AllocGlobal, S: Source>(
     rt: &R,
     controller: &Controller<Rest<S>>,
+    line: LineEnd,
     settings: RunSettings<'a>,
-) -> Option<Failure<'a>>
-    ensures { MayBeUnwritten settings.entry.asrun settings.entry.journal result }
+) -> Option<Result<SavedText<'a>, Failure<'a>>>
+    ensures { IsAsrunMade settings.entry.rate settings.entry.journal (S.items controller.now.source.source)
+        controller.now.source.from (controller.now.source.from + controller.now.state.settled)
+        (wanted_after line settings.entry.asrun) result }
 {
+    if line == LineEnd::Occupied {
+        return None;
+    }
     let name = settings.asrun?;
-    let text = match listed(rt, controller, settings) {
-        Ok(text) => text,
-        Err(failure) => return Some(failure),
-    };
-    save_text(rt, name, text.as_slice()).err()
+    match listed(rt, controller, settings) {
+        Ok(text) => Some(save_text(rt, name, text)),
+        Err(failure) => Some(Err(failure)),
+    }
 }
 
 // The as-run list: if a journal went on, all that this shows, else what the controller reports.
@@ -39,8 +45,9 @@ fn listed<'a, R: Files + AllocGlobal, S: Source>(
     controller: &Controller<Rest<S>>,
     settings: RunSettings<'a>,
 ) -> Result<Vec<u8>, Failure<'a>>
-    ensures listed { IfOk result (λ text. IsListed S.items settings.entry.rate settings.entry.journal controller.now
-        text.items) }
+    ensures listed { IfOk result (λ text. IsListed settings.entry.rate settings.entry.journal
+        (S.items controller.now.source.source) controller.now.source.from
+        (controller.now.source.from + controller.now.state.settled) text.items) }
     ensures unlisted { IfErr result (IsUnlisted settings.entry.journal) }
 {
     let events = controller.source().whole();
@@ -58,7 +65,8 @@ fn reported<'a, R: AllocGlobal, S: Source>(
     controller: &Controller<Rest<S>>,
     rate: Rate,
 ) -> Result<Vec<u8>, Failure<'a>>
-    ensures text { IfOk result (λ text. text.items ≡ reported_text rate S.items controller.now) }
+    ensures text { IfOk result (λ text. text.items ≡ reported_text rate (S.items controller.now.source.source)
+        controller.now.source.from (controller.now.source.from + controller.now.state.settled)) }
     ensures memory { IfErr result (λ failure. failure ≡ Failure.Memory) }
 {
     let alloc = rt.alloc();
@@ -82,29 +90,19 @@ fn reported<'a, R: AllocGlobal, S: Source>(
 fn save_text<'a, R: Files + AllocGlobal>(
     rt: &R,
     name: &'a str,
-    text: &[u8],
-) -> Result<(), Failure<'a>>
-    ensures { IfErr result (IsUnwritten name.entry) }
+    text: Vec<u8>,
+) -> Result<SavedText<'a>, Failure<'a>>
+    ensures saved { IfOk result (IsSaved name.entry text.items) }
+    ensures unwritten { IfErr result (IsUnwritten name.entry) }
 {
     match Place::of(rt, name) {
-        Ok(Place::Taken(whole)) if has_bytes(rt, whole.as_str(), text) => Ok(()),
-        Ok(Place::Free(whole) | Place::Taken(whole)) => save_beside(rt, name, whole.as_str(), text),
-        Ok(Place::Device) => match fs::create(rt, name) {
-            Ok(mut file) => write_to(name, &mut file, text),
-            Err(error) => Err(not_made(&error, name)),
+        Ok(Place::Free(whole)) => save_beside(rt, name, whole.as_str(), text),
+        Ok(Place::Taken(whole)) => match SavedText::find(rt, name, text.as_slice()) {
+            Some(saved) => Ok(saved),
+            None => save_beside(rt, name, whole.as_str(), text),
         },
+        Ok(Place::Device) => SavedText::create(rt, name, text),
         Err(error) => Err(not_made(&error, name)),
-    }
-}
-
-// Whether the file of this name can be read, and has just these bytes.
-fn has_bytes<R: Files + AllocGlobal>(rt: &R, name: &str, bytes: &[u8]) -> bool {
-    match fs::metadata(rt, name) {
-        Ok(found) if found.len() == bytes.len() as u64 => match fs::read(rt, name) {
-            Ok(older) => older.as_slice() == bytes,
-            Err(_) => false,
-        },
-        _ => false,
     }
 }
 
@@ -113,15 +111,16 @@ fn save_beside<'a, R: Files + AllocGlobal>(
     rt: &R,
     name: &'a str,
     whole: &str,
-    text: &[u8],
-) -> Result<(), Failure<'a>>
-    ensures { IfErr result (IsUnwritten name.entry) }
+    text: Vec<u8>,
+) -> Result<SavedText<'a>, Failure<'a>>
+    ensures saved { IfOk result (IsSaved name.entry text.items) }
+    ensures unwritten { IfErr result (IsUnwritten name.entry) }
 {
-    let (file, beside) = match make_beside(rt, whole) {
+    let (mut file, beside) = match make_beside(rt, whole) {
         Ok(made) => made,
         Err(error) => return Err(not_made(&error, name)),
     };
-    let saved = fill(rt, name, file, beside.as_str(), whole, text);
+    let saved = fill(rt, name, &mut file, beside.as_str(), whole, text);
     if saved.is_err() {
         let _ = fs::remove_file(rt, beside.as_str());
     }
@@ -129,74 +128,55 @@ fn save_beside<'a, R: Files + AllocGlobal>(
 }
 
 // Writes the text to a new file, which gets the whole name once that is safe.
-fn fill<'a, R: Files + AllocGlobal, D: Disk + OpenFile + Drop>(
+fn fill<'a, R: Files + AllocGlobal, D: Disk + OpenFile>(
     rt: &R,
     name: &'a str,
-    mut file: D,
+    file: &mut D,
     beside: &str,
     whole: &str,
-    text: &[u8],
-) -> Result<(), Failure<'a>>
-    ensures { IfErr result (IsUnwritten name.entry) }
+    text: Vec<u8>,
+) -> Result<SavedText<'a>, Failure<'a>>
+    ensures safe { OnOk result (Appends (D.written file.old) (D.safe file.new) text.items) }
+    ensures saved { IfOk result (IsSaved name.entry text.items) }
+    ensures unwritten { IfErr result (IsUnwritten name.entry) }
 {
-    match append_safely(&mut file, text) {
-        Ok(()) => put_in_place(rt, name, &file, beside, whole),
-        Err(_) => Err(Failure::Write(name)),
-    }
-}
-
-// Writes the text to a file, which has the name for the fault.
-fn write_to<'a, W: io::Write>(name: &'a str, file: &mut W, text: &[u8]) -> Result<(), Failure<'a>>
-    ensures written { OnOk result (Appends (W.contents file.old) (W.contents file.new) text.now) }
-    ensures failed { IfErr result (λ failure. failure ≡ Failure.Write name.entry) }
-{
-    if file.write_all(text).is_err() || file.flush().is_err() {
+    if append_safely(file, text.as_slice()).is_err() {
         return Err(Failure::Write(name));
     }
-    Ok(())
-}
-
-// Gives a file that is written, and safe, the whole name. It may be written by whom the older one might, which is kept
-// beside.
-fn put_in_place<'a, R: Files + AllocGlobal, D: Disk + OpenFile>(
-    rt: &R,
-    name: &'a str,
-    file: &D,
-    beside: &str,
-    whole: &str,
-) -> Result<(), Failure<'a>>
-    requires { D.safe file.now ≡ D.written file.now }
-    ensures { IfErr result (IsUnwritten name.entry) }
-{
-    match take_name(rt, file, beside, whole) {
-        Ok(()) => Ok(()),
+    match take_name(rt, name, file, beside, whole, text) {
+        Ok(saved) => Ok(saved),
         Err(error) if error.kind() == ErrorKind::OutOfMemory => Err(Failure::Memory),
         Err(_) => Err(Failure::Write(name)),
     }
 }
 
-fn take_name<R: Files + AllocGlobal, D: OpenFile>(
+// Gives a file that is written, and safe, the whole name. It may be written by whom the older one might, which is kept
+// beside.
+fn take_name<'a, R: Files + AllocGlobal, D: Disk + OpenFile>(
     rt: &R,
+    name: &'a str,
     file: &D,
     beside: &str,
     whole: &str,
-) -> io::Result<()> {
+    text: Vec<u8>,
+) -> io::Result<SavedText<'a>>
+    requires { D.safe file.now ≡ D.written file.now }
+    ensures { IfOk result (IsSaved name.entry text.items) }
+{
     let mut kept = None;
     if let Ok(older) = fs::metadata(rt, whole) {
         let _ = file.set_permissions(older.permissions());
         kept = keep_older(rt, whole)?;
     }
-    if let Err(error) = fs::rename(rt, beside, whole) {
-        if let Some(kept) = kept {
+    match (SavedText::rename(rt, name, beside, whole, text), kept) {
+        (Ok(saved), _) => {
+            sync_folder(rt, whole);
+            Ok(saved)
+        }
+        (Err(error), None) => Err(error),
+        (Err(error), Some(kept)) => {
             let _ = fs::remove_file(rt, kept.as_str());
-        }
-        return Err(error);
-    }
-    // (that it has the name is on the disk once the folder is, if the system can say that of a folder)
-    if let Some(folder) = Path::new(whole).parent() {
-        if let Ok(folder) = File::open(rt, folder) {
-            let _ = folder.sync_all();
+            Err(error)
         }
     }
-    Ok(())
 }

@@ -28,6 +28,7 @@ pub fn begin<'a, 'r, 's, R: Files<File = File> + Clock + AllocGlobal, S: Source>
     ensures begun { IfOk result (λ r. IsBegun settings.entry (S.items source.now) settings.entry.journal
         (start_of (λ s. S.items s.now) r.controller) r.recorder) }
     ensures kept { IfOk result (λ r. HasRecorder settings.entry.unit settings.entry.journal r.controller.state r.recorder) }
+    ensures list { IfOk result (λ r. S.items r.controller.source.source.now ≡ S.items source.now) }
     ensures refused { IfErr result (IsUnkept settings.entry (S.items source.now) settings.entry.journal) }
 {
     match settings.journal {
@@ -53,6 +54,7 @@ fn begin_kept<'a, 'r, 's, R: Files<File = File> + Clock + AllocGlobal, S: Source
     ensures begun { IfOk result (λ r. IsBegun settings.entry (S.items source.now) (Some journal.entry)
         (start_of (λ s. S.items s.now) r.controller) r.recorder) }
     ensures kept { IfOk result (λ r. HasRecorder settings.entry.unit (Some journal.entry) r.controller.state r.recorder) }
+    ensures list { IfOk result (λ r. S.items r.controller.source.source.now ≡ S.items source.now) }
     ensures refused { IfErr result (IsUnkept settings.entry (S.items source.now) (Some journal.entry)) }
 {
     test_place(rt, settings.asrun, journal.name())?;

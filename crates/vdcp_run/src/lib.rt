@@ -3,8 +3,8 @@
 //! `do_run` connects to an address and plays a list through the port of the server there. Each fault has a line on
 //! standard error, and the exit status is given.
 //!
-//! Files, in reading order: `settings`, `run`, `begin`, `session`, `asking`, `run_end`, `advice`, `asrun`, `place`, `in_list`,
-//! `polling`, `lapsing`, `waiting`, `stopwatch`.
+//! Files, in reading order: `settings`, `run`, `begin`, `session`, `asking`, `run_end`, `advice`, `asrun`, `saved`, `place`,
+//! `in_list`, `polling`, `lapsing`, `waiting`, `stopwatch`.
 #![tactic(auto)]
 
 mod advice;
@@ -17,6 +17,7 @@ mod place;
 mod polling;
 mod run;
 mod run_end;
+mod saved;
 mod session;
 mod settings;
 mod stopwatch;

@@ -2,10 +2,11 @@
 ghost use Rattle.std.specs.Io.KnownBytes.{Appends};
 ghost use Rattle.std.specs.Prelude.{◌≡◌, ◌≢◌, IfOk, IsSome, None, OnOk};
 ghost use Rattle.vdcp_run.specs.Ends.{line_end_of};
-ghost use Rattle.vdcp_run.specs.Run.{IsEndBy, MayBeUnwritten, end_text, fault_text, faults_text, line_failure, run_status, told_outcome};
+ghost use Rattle.vdcp_run.specs.Run.{HasAsrun, IsEndBy, asrun_failure, end_text, fault_text, faults_text, line_failure, run_status, told_outcome};
 
 use crate::asrun::save_asrun;
 use crate::in_list::{outcome_in_list, reported_in_list};
+use crate::saved::SavedText;
 use crate::settings::RunSettings;
 use std::io;
 use std::rt::Files;
@@ -63,7 +64,7 @@ impl LineEnd {
 }
 
 /// How a run ended.
-#[derive(Clone, Copy)]
+#[derive(Drop)]
 pub struct RunEnd<'a> {
     /// The event of the list that the controller began with.
     pub from: usize,
@@ -72,13 +73,13 @@ pub struct RunEnd<'a> {
     /// The first event of the list that isn't reported, by its number: how many are, counted from the list's first.
     pub reported: usize,
     pub line: LineEnd,
-    /// Why writing the as-run list failed, if it did.
-    pub unwritten: Option<Failure<'a>>,
+    /// The as-run file, if one is wanted; or why it hasn't the list.
+    pub asrun: Option<Result<SavedText<'a>, Failure<'a>>>,
     /// Why keeping the journal failed, if it did.
     pub unkept: Option<Failure<'a>>,
 }
 
-impl RunEnd<'_> {
+impl<'a> RunEnd<'a> {
     /// Tells `out` what came of the run, then `err` what failed, and gives the exit status.
     pub fn tell<W: io::Write, E: io::Write>(self, out: &mut W, err: &mut E) -> io::Result<u8>
         ensures lines { OnOk result (Appends (W.contents out.old) (W.contents out.new) (end_text self.entry)) }
@@ -118,11 +119,21 @@ impl RunEnd<'_> {
         }
     }
 
+    // Why the as-run file hasn't the list, if it is wanted and hasn't.
+    fn unwritten(&self) -> Option<Failure<'a>>
+        ensures { result ≡ asrun_failure self.now.asrun }
+    {
+        match &self.asrun {
+            Some(Err(failure)) => Some(*failure),
+            Some(Ok(_)) | None => None,
+        }
+    }
+
     // Writes the fault lines of the as-run file, the journal and the line, of which there are any.
     fn write_faults<E: io::Write>(&self, err: &mut E) -> io::Result<()>
         ensures { OnOk result (Appends (E.contents err.old) (E.contents err.new) (faults_text self.now)) }
     {
-        write_fault(self.unwritten, err)?;
+        write_fault(self.unwritten(), err)?;
         write_fault(self.unkept, err)?;
         write_fault(self.line.failure(), err)
     }
@@ -131,7 +142,7 @@ impl RunEnd<'_> {
     fn status(&self) -> u8
         ensures { result ≡ run_status self.now }
     {
-        if self.unwritten.is_some() || self.unkept.is_some() || self.line.failure().is_some() {
+        if self.unwritten().is_some() || self.unkept.is_some() || self.line.failure().is_some() {
             return 3;
         }
         match self.told_outcome() {
@@ -153,8 +164,7 @@ fn write_fault<E: io::Write>(failure: Option<Failure<'_>>, err: &mut E) -> io::R
     }
 }
 
-/// How a run has ended whose list wasn't begun: as its controller did, if that has ended, and else as its line. If the
-/// port isn't empty no as-run list is written.
+/// How a run has ended whose list wasn't begun: as its controller did, if that has ended, and else as its line.
 pub fn unbegun<'a, R: Files + AllocGlobal, S: Source>(
     rt: &R,
     controller: &Controller<Rest<S>>,
@@ -168,19 +178,16 @@ pub fn unbegun<'a, R: Files + AllocGlobal, S: Source>(
     ensures unneeded { result.line ≡ LineEnd.Unneeded → IsSome result.outcome }
     ensures ended { IsSome result.outcome → result.line ≡ LineEnd.Unneeded }
     ensures told { result.line ≢ LineEnd.Unkept }
-    ensures unwritten { MayBeUnwritten settings.entry.asrun settings.entry.journal result.unwritten }
+    ensures asrun { HasAsrun settings.entry (S.items controller.now.source.source) result }
     ensures kept { result.unkept ≡ None }
 {
-    if controller.outcome().is_some() {
-        return ended(rt, controller, LineEnd::Unneeded, settings);
+    match controller.outcome() {
+        Some(_) => ended(rt, controller, LineEnd::Unneeded, settings),
+        None => ended(rt, controller, line, settings),
     }
-    if line == LineEnd::Occupied {
-        return end_of(controller, line);
-    }
-    ended(rt, controller, line, settings)
 }
 
-/// How a run has ended, by its controller and its line. The as-run list is written.
+/// How a run has ended, by its controller and its line. Its as-run file is made.
 pub fn ended<'a, R: Files + AllocGlobal, S: Source>(
     rt: &R,
     controller: &Controller<Rest<S>>,
@@ -189,20 +196,7 @@ pub fn ended<'a, R: Files + AllocGlobal, S: Source>(
 ) -> RunEnd<'a>
     ensures of_controller { IsEndBy controller.now result }
     ensures line { result.line ≡ line }
-    ensures unwritten { MayBeUnwritten settings.entry.asrun settings.entry.journal result.unwritten }
-    ensures kept { result.unkept ≡ None }
-{
-    RunEnd {
-        unwritten: save_asrun(rt, controller, settings),
-        ..end_of(controller, line)
-    }
-}
-
-// The same, if no as-run list is wanted.
-fn end_of<'a, S: Source>(controller: &Controller<Rest<S>>, line: LineEnd) -> RunEnd<'a>
-    ensures of_controller { IsEndBy controller.now result }
-    ensures line { result.line ≡ line }
-    ensures written { result.unwritten ≡ None }
+    ensures asrun { HasAsrun settings.entry (S.items controller.now.source.source) result }
     ensures kept { result.unkept ≡ None }
 {
     let from = controller.source().from();
@@ -211,7 +205,7 @@ fn end_of<'a, S: Source>(controller: &Controller<Rest<S>>, line: LineEnd) -> Run
         outcome: outcome_in_list(from, controller.outcome()),
         reported: reported_in_list(controller),
         line,
-        unwritten: None,
+        asrun: save_asrun(rt, controller, line, settings),
         unkept: None,
     }
 }

@@ -66,10 +66,10 @@ pub fn play_at<
     };
     let wire = StreamWire::new(stream, silence_of(settings));
     let end = play_over(rt, controller, recorder, wire, settings, showing, hand);
-    match end.line {
-        LineEnd::Occupied => Err(Failure::NotEmpty),
-        _ => Ok(end),
+    if end.line == LineEnd::Occupied {
+        return Err(Failure::NotEmpty);
     }
+    Ok(end)
 }
 
 /// How long the line has to be silent for an answer to be missing.

@@ -24,7 +24,7 @@ returns-clause-played g c =
       lists = c.in_ok-events.ensures.events;
       runs = is_run (λ list. items_of list.now) items c.args.settings begun.controller begun.recorder end
           c.in-Ok-begin.ensures.begun c.in-Ok-begin.ensures.kept e.0 e.1.comes;
-      unwritten = e.1.unwritten;
+      asrun = rw c.in-Ok-begin.ensures.list at e.1.asrun;
       unkept = unkept_so c.args.settings.unit c.args.settings.journal begun.controller.state begun.recorder end.unkept
           c.in-Ok-begin.ensures.kept e.1.unkept;
     }) done

@@ -3,7 +3,7 @@ use Rattle.std.specs.Prelude.{None, Option, Some}
 use Rattle.vdcp_auto.specs.Turn.{outcome_of}
 use Rattle.vdcp_auto.specs.declared.outcome.Outcome.{Outcome}
 use Rattle.vdcp_list.specs.Rests.{items_left}
-use Rattle.vdcp_run.proofs.Driven.{comes_to, ends_by, kept_shown, plays_so, runs_kept, unkept_by, unkept_shown}
+use Rattle.vdcp_run.proofs.Driven.{asrun_by, comes_to, ends_by, kept_shown, plays_so, runs_kept, unkept_by, unkept_shown}
 use Rattle.vdcp_run.proofs.session.play_by.Goals as goal
 use Rattle.vdcp_run.specs.Run.{MayBeUnkept}
 use Rattle.vdcp_run.specs.Session.{IsClosed}
@@ -29,7 +29,8 @@ returns-in-None g c =
         comes = comes_to g.S.Source.items _ _ _ _ c.args.driver.controller c.args.driver c.run_with-ran.new.self _ _ _ _
             c.run_with-ran.result c.ended.result refl e.leaves line by
             (λ unkept. absurd (e.fails (unkept_by c.run_with-ran.result (sym line ∙ unkept))));
-        unwritten = end.unwritten;
+        asrun = asrun_by g.S.Source.items c.args.settings _ c.run_with-ran.new.self.controller c.args.driver.controller
+            c.ended.result c.controller.ensures e.leaves.controller end.asrun;
         unkept = rw end.kept tt;
       };
     })
@@ -53,7 +54,8 @@ returns g c =
       end = record {
         comes = comes_to g.S.Source.items _ _ _ _ c.args.driver.controller c.args.driver c.run.new.driver _ _ _ _
             c.run.result _ refl left line by (λ unkept. c.close-unkept.ensures.told (sym end.line ∙ unkept));
-        unwritten = end.unwritten;
+        asrun = asrun_by g.S.Source.items c.args.settings _ c.run.new.driver.controller c.args.driver.controller
+            c.ended-in-Some.result c.controller-in-Some-2.ensures left.controller end.asrun;
         unkept = subst (λ name. MayBeUnkept (Some name) c.close-unkept.result) c.name-name.ensures c.close-unkept.ensures.unkept;
       };
     })

@@ -2,7 +2,7 @@ use Rattle.std.proofs.Common.{◌∙◌, ap, refl, subst, sym, true}
 use Rattle.std.specs.Prelude.{None, Option, Some}
 use Rattle.vdcp_auto.specs.Turn.{outcome_of}
 use Rattle.vdcp_auto.specs.declared.outcome.Outcome.{Outcome}
-use Rattle.vdcp_run.proofs.Driven.{ends_by, kept_shown, operated_comes, operated_kept, plays_so, unkept_by, unkept_shown}
+use Rattle.vdcp_run.proofs.Driven.{asrun_by, ends_by, kept_shown, operated_comes, operated_kept, plays_so, unkept_by, unkept_shown}
 use Rattle.vdcp_run.proofs.session.play_operated.Goals as goal
 use Rattle.vdcp_run.specs.Run.{MayBeUnkept}
 use Rattle.vdcp_run.specs.Session.{IsClosed}
@@ -24,7 +24,8 @@ returns-in-None g c =
         comes = operated_comes g.S.Source.items c.args.driver.now.controller c.args.driver.now c.run_operated-ran.new.self
             c.run_operated-ran.result c.ended-end.result refl e.controller e.reached e.ended e.unended line by
             (λ unkept. absurd (e.fails (unkept_by c.run_operated-ran.result (sym line ∙ unkept))));
-        unwritten = end.unwritten;
+        asrun = asrun_by g.S.Source.items c.args.settings _ c.run_operated-ran.new.self.controller c.args.driver.now.controller
+            c.ended-end.result c.controller.ensures e.controller end.asrun;
         unkept = rw end.kept tt;
       };
     })
@@ -51,7 +52,8 @@ returns-in-Some g c =
         comes = operated_comes g.S.Source.items c.args.driver.now.controller c.args.driver.now
             c.run_operated-ran-in-Some.new.self c.run_operated-ran-in-Some.result _ refl e.controller e.reached e.ended
             e.unended line by (λ unkept. c.close-unkept.ensures.told (sym end.line ∙ unkept));
-        unwritten = end.unwritten;
+        asrun = asrun_by g.S.Source.items c.args.settings _ c.run_operated-ran-in-Some.new.self.controller
+            c.args.driver.now.controller c.ended-end-in-Some.result c.controller-in-Some-2.ensures e.controller end.asrun;
         unkept = subst (λ name. MayBeUnkept (Some name) c.close-unkept.result) c.name-name.ensures c.close-unkept.ensures.unkept;
       };
     })
