@@ -1,5 +1,5 @@
 -- The end of a run, by what its driver answered and the state that its controller reached.
-use Rattle.std.proofs.Common.{◌≡◌, ◌⊎◌, ◌+◌, ◌≤◌, ◌++◌, [], ℕ, List, ap, arith, inl, inr, refl, sym, ◌∙◌, subst}
+use Rattle.std.proofs.Common.{◌≡◌, ◌≢◌, ◌⊎◌, ◌+◌, ◌≤◌, ◌++◌, [], ℕ, List, ap, arith, inl, inr, refl, sym, ◌∙◌, subst}
 use Rattle.std.proofs.lemmas.List.{append-nil}
 use Rattle.std.specs.Io.KnownBytes.{Appends, Keeps}
 use Rattle.std.specs.Prelude.{◌↔◌, Bool, IfOk, IsSome, None, OnOk, Option, Result, Ok, Err, Some}
@@ -16,7 +16,7 @@ use Rattle.vdcp_drive.specs.declared.keep.KeptFault.TheVariants as fault
 use Rattle.vdcp_drive.specs.declared.line.Ran.{Ran}
 use Rattle.vdcp_drive.specs.declared.line.Ran.TheVariants as ran
 use Rattle.vdcp_list.specs.Rests.{FromEvent, items_left}
-use Rattle.vdcp_run.specs.Ends.{line_end_of, outcome_in_list}
+use Rattle.vdcp_run.specs.Ends.{IsOpening, line_end_of, outcome_in_list}
 use Rattle.vdcp_files.specs.Files.{File}
 use Rattle.vdcp_run.specs.Run.{ComesTo, IsEndBy, IsEndOf, IsPlayed, IsRun, asrun_failure, end_text, fault_text, faults_text, line_failure, outcome_status, run_status, status_unless, told_outcome}
 use Rattle.vdcp_run.specs.declared.run_end.LineEnd.{LineEnd}
@@ -78,6 +78,36 @@ pub gives_none : (plan : Plan) (stop : Bool) (stage : Stage) → IsSome (given_i
 gives_none plan stop (Ready p) gives = λ some. cc
 gives_none plan stop (Awaiting p) gives = λ some. cc
 gives_none plan stop (Ended outcome) gives = λ some. cc
+
+-- a controller that gives the first command hasn't ended
+pub opens_unended : (plan : Plan) (stop : Bool) (stage : Stage) → IsSome (outcome_of stage)
+    → ¬ IsOpening (given_in plan stop stage)
+opens_unended plan stop (Ready p) ended = λ opens. cc
+opens_unended plan stop (Awaiting p) ended = λ opens. cc
+opens_unended plan stop (Ended outcome) ended = λ opens. opens
+
+some_in_list : (from : ℕ) (outcome : Option Outcome) → IsSome (outcome_in_list from outcome) → IsSome outcome
+some_in_list from None some = some
+some_in_list from (Some outcome) some = some
+
+-- the controller of a list that isn't begun is as it was
+pub unbegun_comes : {S : Type 0} (items : S → List Item) (controller : View (FromEvent S)) (end : RunEnd)
+    → IsEndBy controller end → ¬ IsSome (outcome_of controller.state.stage)
+    → end.line ≢ line_end.Unneeded → end.line ≢ line_end.Unkept → ComesTo items controller end
+unbegun_comes items controller end by unended needed kept = record {
+  from_is = by.from_is;
+  ends = λ log reached. record {
+    log = log;
+    state = controller.state;
+    reached = reached;
+    outcome_is = by.outcome_is;
+    reported_is = by.reported_is;
+    unneeded = λ is. absurd (needed is);
+    ended = λ some. absurd (unended (some_in_list end.from (outcome_of controller.state.stage)
+        (subst (λ (o : Option Outcome). IsSome o) by.outcome_is some)));
+    told = λ is. absurd (kept is);
+  };
+}
 
 -- the controller of a run was led from one state to the next, with which the driver's answer fits
 is_end_so : {S : Type 0} (items : S → List Item) (controller old new : View S) (answer : Result Ran KeptFault)

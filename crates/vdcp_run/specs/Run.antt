@@ -32,6 +32,7 @@ use Rattle.vdcp_text.specs.Outcome.{outcome_text}
 use Rattle.vdcp_wire.specs.Address.{IsAddress}
 use Rattle.vdcp_run.specs.Ends.{outcome_in_list}
 use Rattle.vdcp_run.specs.Session.{HasSession, Start}
+use Rattle.vdcp_run.specs.declared.place.Apart.{Apart}
 use Rattle.vdcp_run.specs.declared.settings.RunJournal.{RunJournal}
 use Rattle.vdcp_run.specs.declared.settings.RunJournal.TheVariants as journals
 use Rattle.vdcp_run.specs.declared.run_end.LineEnd.{LineEnd}
@@ -83,6 +84,10 @@ IsUnlisted None failure = failure ≡ failures.Memory
 IsUnlisted (Some (journals.New name)) failure = failure ≡ failures.Memory
 IsUnlisted (Some (journals.Older name)) failure = Unit {0}
 IsUnlisted (Some (journals.Again name)) failure = Unit {0}
+
+-- the file of this name, if one is named, isn't this other one
+abbrev pub IsApart : Option (Bor (List ℕ)) → Bor (List ℕ) → Apart → Type 0
+IsApart name other apart = (apart.name ≡ name) × (apart.other ≡ other)
 
 -- the file that is named for the as-run list, if one is, is the list
 abbrev pub IsOverList : Option (Bor (List ℕ)) → Failure → Type 0
@@ -179,6 +184,14 @@ IsUnkept settings items None failure = ⊥
 IsUnkept settings items (Some journal) failure =
     (failure ≡ failures.Memory) ⊎ (IsJournalRefused settings items journal failure
     ⊎ IsPlaceRefused settings.asrun failure)
+
+-- the one that isn't kept of a session that came to this: a new one, if nothing was sent
+abbrev pub unsent_journal : Result RunEnd Failure → Option RunJournal → Option (Bor (List ℕ))
+unsent_journal (Ok end) journal = None
+unsent_journal (Err failure) None = None
+unsent_journal (Err failure) (Some (journals.New name)) = Some name
+unsent_journal (Err failure) (Some (journals.Older name)) = None
+unsent_journal (Err failure) (Some (journals.Again name)) = None
 
 -- why the journal of this name isn't whole, if it isn't: it can't be written, or memory was refused
 abbrev pub MayBeUnkept : Option (Bor (List ℕ)) → Option Failure → Type 0

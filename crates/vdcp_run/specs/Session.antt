@@ -218,7 +218,7 @@ pub data HasTried {W V F : Type 0} (does : Act → W → W → Type 0) (safe : F
       → HasTried does safe sees settings start world watch end
   unbegun : (answer : Result Vacancy WireFault) (wire : W) (left : ℕ)
       → IsAsked does settings start world.wire wire left answer → ¬ MayBegin answer
-      → (end.outcome ≡ None → end.line ≡ unbegun_line answer)
+      → end.line ≡ unbegun_line answer
       → HasTried does safe sees settings start world watch end
 
 -- ---- over a connection

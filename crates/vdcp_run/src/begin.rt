@@ -1,10 +1,10 @@
 //! What a run begins with: its controller, and the recorder of its journal.
-ghost use Rattle.std.specs.Prelude.{◌≡◌, ◌⊎◌, ◌≤◌, IfErr, IfOk, IfSome, IsSome, Some, length};
+ghost use Rattle.std.specs.Prelude.{◌≡◌, ◌⊎◌, ◌≤◌, IfErr, IfOk, IfSome, IsSome, IsSomeAnd, Some, length};
 ghost use Rattle.vdcp_journal_file.specs.Recording.{IsUnbegun, NotesFrom};
-ghost use Rattle.vdcp_run.specs.Run.{HasRecorder, IsBegun, IsPlaceRefused, IsUnkept, first_event, heading_for, new_controller};
+ghost use Rattle.vdcp_run.specs.Run.{HasRecorder, IsApart, IsBegun, IsPlaceRefused, IsUnkept, first_event, heading_for, name_of, new_controller};
 ghost use Rattle.vdcp_run.specs.Session.{start_of};
 
-use crate::place::{test_apart, test_place};
+use crate::place::{Apart, test_place};
 use crate::settings::{RunJournal, RunSettings};
 use std::fs::{self, File};
 use std::rt::{Clock, Files};
@@ -15,27 +15,32 @@ use vdcp_list::Rest;
 use vdcp_text::Failure;
 
 /// The controller of a run, and the recorder of its journal, if it has one and its controller hasn't ended there. The
-/// as-run list of a run with a journal has to have its place. If it is refused no new journal is left.
+/// as-run list of a run with a journal has to have its place, apart from that. If it is refused no new journal is left.
 pub fn begin<'a, 'r, 's, R: Files<File = File> + Clock + AllocGlobal, S: Source>(
     rt: &'r R,
     source: &'s S,
     settings: RunSettings<'a>,
-) -> Result<Resumption<'a, 'r, R, &'s S>, Failure<'a>>
+) -> Result<(Resumption<'a, 'r, R, &'s S>, Option<Apart<'a>>), Failure<'a>>
     requires unit { settings.unit ≤ 15 }
     requires some { 1 ≤ settings.limit }
     requires few { settings.limit ≤ 1000 }
     requires listed { first_event settings.from ≤ length (S.items source.now) }
     ensures begun { IfOk result (λ r. IsBegun settings.entry (S.items source.now) settings.entry.journal
-        (start_of (λ s. S.items s.now) r.controller) r.recorder) }
-    ensures kept { IfOk result (λ r. HasRecorder settings.entry.unit settings.entry.journal r.controller.state r.recorder) }
-    ensures list { IfOk result (λ r. S.items r.controller.source.source.now ≡ S.items source.now) }
+        (start_of (λ s. S.items s.now) r.0.controller) r.0.recorder) }
+    ensures kept { IfOk result (λ r. HasRecorder settings.entry.unit settings.entry.journal r.0.controller.state r.0.recorder) }
+    ensures list { IfOk result (λ r. S.items r.0.controller.source.source.now ≡ S.items source.now) }
+    ensures apart { IfOk result (λ r. IfSome settings.entry.journal (λ journal.
+        IsSomeAnd r.1 (IsApart settings.entry.asrun (name_of journal)))) }
     ensures refused { IfErr result (IsUnkept settings.entry (S.items source.now) settings.entry.journal) }
 {
     match settings.journal {
-        None => Ok(Resumption {
-            controller: new_controller(source, settings),
-            recorder: None,
-        }),
+        None => {
+            let begun = Resumption {
+                controller: new_controller(source, settings),
+                recorder: None,
+            };
+            Ok((begun, None))
+        }
         Some(journal) => begin_kept(rt, source, journal, settings),
     }
 }
@@ -46,23 +51,30 @@ fn begin_kept<'a, 'r, 's, R: Files<File = File> + Clock + AllocGlobal, S: Source
     source: &'s S,
     journal: RunJournal<'a>,
     settings: RunSettings<'a>,
-) -> Result<Resumption<'a, 'r, R, &'s S>, Failure<'a>>
+) -> Result<(Resumption<'a, 'r, R, &'s S>, Option<Apart<'a>>), Failure<'a>>
     requires unit { settings.unit ≤ 15 }
     requires some { 1 ≤ settings.limit }
     requires few { settings.limit ≤ 1000 }
     requires listed { first_event settings.from ≤ length (S.items source.now) }
     ensures begun { IfOk result (λ r. IsBegun settings.entry (S.items source.now) (Some journal.entry)
-        (start_of (λ s. S.items s.now) r.controller) r.recorder) }
-    ensures kept { IfOk result (λ r. HasRecorder settings.entry.unit (Some journal.entry) r.controller.state r.recorder) }
-    ensures list { IfOk result (λ r. S.items r.controller.source.source.now ≡ S.items source.now) }
+        (start_of (λ s. S.items s.now) r.0.controller) r.0.recorder) }
+    ensures kept { IfOk result (λ r. HasRecorder settings.entry.unit (Some journal.entry) r.0.controller.state r.0.recorder) }
+    ensures list { IfOk result (λ r. S.items r.0.controller.source.source.now ≡ S.items source.now) }
+    ensures apart { IfOk result (λ r. IsSomeAnd r.1 (IsApart settings.entry.asrun (name_of journal.entry))) }
     ensures refused { IfErr result (IsUnkept settings.entry (S.items source.now) (Some journal.entry)) }
 {
-    test_place(rt, settings.asrun, journal.name())?;
+    let apart = test_place(rt, settings.asrun, journal.name())?;
     let heading = heading_of(rt, source, settings)?;
     match journal {
         RunJournal::New(name) => begin_new(rt, name, &heading, source, settings),
-        RunJournal::Older(name) => resume_journal(rt, name, &heading, source),
-        RunJournal::Again(name) => begin_again(rt, name, &heading, source, settings.from),
+        RunJournal::Older(name) => match resume_journal(rt, name, &heading, source) {
+            Ok(begun) => Ok((begun, Some(apart))),
+            Err(failure) => Err(failure),
+        },
+        RunJournal::Again(name) => match begin_again(rt, name, &heading, source, settings.from) {
+            Ok(begun) => Ok((begun, Some(apart))),
+            Err(failure) => Err(failure),
+        },
     }
 }
 
@@ -73,29 +85,35 @@ fn begin_new<'a, 'r, 's, R: Files<File = File> + Clock + AllocGlobal, S: Source>
     heading: &Heading,
     source: &'s S,
     settings: RunSettings<'a>,
-) -> Result<Resumption<'a, 'r, R, &'s S>, Failure<'a>>
+) -> Result<(Resumption<'a, 'r, R, &'s S>, Option<Apart<'a>>), Failure<'a>>
     requires unit { heading.now.unit ≤ 15 }
     requires heading { heading.now ≡ heading_for settings (S.items source.now) }
     requires some { 1 ≤ settings.limit }
     requires few { settings.limit ≤ 1000 }
     requires listed { first_event settings.from ≤ length (S.items source.now) }
-    ensures controller { IfOk result (λ r. r.controller ≡ new_controller settings.entry source.entry) }
-    ensures recorder { IfOk result (λ r. IfSome r.recorder
+    ensures controller { IfOk result (λ r. r.0.controller ≡ new_controller settings.entry source.entry) }
+    ensures recorder { IfOk result (λ r. IfSome r.0.recorder
         (λ recorder. (recorder.name ≡ name.entry) × (recorder.unit ≡ heading.now.unit))) }
-    ensures from { IfOk result (λ r. IfSome r.recorder (λ recorder. NotesFrom settings.entry.from recorder.pending)) }
-    ensures kept { IfOk result (λ r. IsSome r.recorder) }
+    ensures from { IfOk result (λ r. IfSome r.0.recorder (λ recorder. NotesFrom settings.entry.from recorder.pending)) }
+    ensures kept { IfOk result (λ r. IsSome r.0.recorder) }
+    ensures apart { IfOk result (λ r. IsSomeAnd r.1 (IsApart settings.entry.asrun name.entry)) }
     ensures refused { IfErr result (λ failure. IsUnbegun name.entry failure
         ⊎ IsPlaceRefused settings.entry.asrun failure) }
 {
     let recorder = begin_journal(rt, name, heading, settings.from)?;
-    if let Err(failure) = test_apart(rt, settings.asrun, name) {
-        let _ = fs::remove_file(rt, name);
-        return Err(failure);
+    match Apart::test(rt, settings.asrun, name) {
+        Ok(apart) => {
+            let begun = Resumption {
+                controller: new_controller(source, settings),
+                recorder: Some(recorder),
+            };
+            Ok((begun, Some(apart)))
+        }
+        Err(asrun) => {
+            let _ = fs::remove_file(rt, name);
+            Err(Failure::Exists(asrun))
+        }
     }
-    Ok(Resumption {
-        controller: new_controller(source, settings),
-        recorder: Some(recorder),
-    })
 }
 
 // The new controller of a list.

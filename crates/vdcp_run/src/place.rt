@@ -1,6 +1,6 @@
 //! The name of the as-run file, and whether a list can come there.
-ghost use Rattle.std.specs.Prelude.{IfErr};
-ghost use Rattle.vdcp_run.specs.Run.{IsOverList, IsPlaceRefused, IsUnwritten};
+ghost use Rattle.std.specs.Prelude.{◌≡◌, IfErr, IfOk, Some};
+ghost use Rattle.vdcp_run.specs.Run.{IsApart, IsPlaceRefused, IsUnwritten};
 
 use std::fs::{self, File, OpenFile, OpenOptions};
 use std::io::{self, ErrorKind};
@@ -53,27 +53,23 @@ impl Place {
     }
 }
 
-/// Tests that the file for the as-run list, if one is named, isn't that of the list.
-pub fn test_list<'a, R: Files>(rt: &R, name: Option<&'a str>, list: &str) -> Result<(), Failure<'a>>
-    ensures { IfErr result (IsOverList name.entry) }
-{
-    match name {
-        Some(name) if is_same_file(rt, name, list) => Err(Failure::IsList(name)),
-        _ => Ok(()),
-    }
+/// The file of a name, if one is named, isn't this other one, which has to stay. Only the test makes one.
+#[derive(Clone, Copy)]
+pub struct Apart<'a> {
+    name: Option<&'a str>,
+    other: &'a str,
 }
 
-/// Tests that the file for the as-run list, if one is named, isn't this other one, which has to stay: a journal, say.
-pub fn test_apart<'a, R: Files>(
-    rt: &R,
-    name: Option<&'a str>,
-    other: &str,
-) -> Result<(), Failure<'a>>
-    ensures { IfErr result (IsPlaceRefused name.entry) }
-{
-    match name {
-        Some(name) if is_same_file(rt, name, other) => Err(Failure::Exists(name)),
-        _ => Ok(()),
+impl<'a> Apart<'a> {
+    /// Tests it. Err has the name if both are of one file.
+    pub fn test<R: Files>(rt: &R, name: Option<&'a str>, other: &'a str) -> Result<Self, &'a str>
+        ensures apart { IfOk result (IsApart name.entry other.entry) }
+        ensures same { IfErr result (λ same. name.entry ≡ Some same) }
+    {
+        match name {
+            Some(name) if is_same_file(rt, name, other) => Err(name),
+            _ => Ok(Apart { name, other }),
+        }
     }
 }
 
@@ -82,16 +78,20 @@ pub fn test_apart<'a, R: Files>(
 pub fn test_place<'a, R: Files + AllocGlobal>(
     rt: &R,
     name: Option<&'a str>,
-    journal: &str,
-) -> Result<(), Failure<'a>>
-    ensures { IfErr result (IsPlaceRefused name.entry) }
+    journal: &'a str,
+) -> Result<Apart<'a>, Failure<'a>>
+    ensures apart { IfOk result (IsApart name.entry journal.entry) }
+    ensures refused { IfErr result (IsPlaceRefused name.entry) }
 {
-    test_apart(rt, name, journal)?;
+    let apart = match Apart::test(rt, name, journal) {
+        Ok(apart) => apart,
+        Err(name) => return Err(Failure::Exists(name)),
+    };
     let Some(name) = name else {
-        return Ok(());
+        return Ok(apart);
     };
     match try_place(rt, name) {
-        Ok(()) => Ok(()),
+        Ok(()) => Ok(apart),
         Err(error) => Err(not_made(&error, name)),
     }
 }

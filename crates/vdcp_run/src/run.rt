@@ -4,13 +4,13 @@ ghost use Rattle.std.specs.Prelude.{◌≡◌, ◌⊎◌, ◌≤◌, IfErr, IfOk
 ghost use Rattle.vdcp_files.specs.Files.{IsWholeList, file};
 ghost use Rattle.vdcp_list.specs.List.{items_of};
 ghost use Rattle.vdcp_list.specs.Playlists.{IsListOf};
-ghost use Rattle.vdcp_run.specs.Run.{IsEventRefused, IsListRefused, IsNoEvent, IsNotBegun, IsPlayed, IsRun, IsRunRefused, IsUnplayed, first_event, told_of_list};
+ghost use Rattle.vdcp_run.specs.Run.{IsApart, IsEventRefused, IsListRefused, IsNoEvent, IsNotBegun, IsPlayed, IsRun, IsRunRefused, IsUnplayed, first_event, told_of_list, unsent_journal};
 ghost use Rattle.vdcp_text.specs.Failure.{failure_line};
 ghost use Rattle.vdcp_wire.specs.Address.{IsAddress};
 
 use crate::advice::Advice;
 use crate::begin::begin;
-use crate::place::test_list;
+use crate::place::Apart;
 use crate::run_end::RunEnd;
 use crate::session::play_at;
 use crate::settings::{RunJournal, RunSettings, Showing};
@@ -148,17 +148,29 @@ fn run_list<
         return Err(Failure::Address);
     };
     let name = list.name;
-    let events = read_events(rt, list, settings)?;
+    let (events, _) = read_events(rt, list, settings)?;
     let begun = match begin(rt, &events, settings) {
-        Ok(begun) => begun,
+        Ok((begun, _)) => begun,
         Err(failure) => return Err(told_of_list(name, failure)),
     };
     let end = play_at(rt, address, begun, settings, showing, hand);
-    // (a journal of which nothing was sent isn't kept)
-    if let (Err(_), Some(RunJournal::New(name))) = (&end, settings.journal) {
+    if let Some(name) = unsent_journal(&end, settings.journal) {
         let _ = fs::remove_file(rt, name);
     }
     end
+}
+
+// The journal that isn't kept of a session that came to this: a new one, if nothing was sent.
+fn unsent_journal<'a>(
+    end: &Result<RunEnd<'_>, Failure<'_>>,
+    journal: Option<RunJournal<'a>>,
+) -> Option<&'a str>
+    ensures { result ≡ unsent_journal end.now journal.entry }
+{
+    match (end, journal) {
+        (Err(_), Some(RunJournal::New(name))) => Some(name),
+        _ => None,
+    }
 }
 
 // Reads the list, and tests that it has the event to begin with, and isn't the as-run file.
@@ -166,18 +178,20 @@ fn read_events<'a, R: Files + AllocGlobal, L: io::Read + Drop>(
     rt: &R,
     list: NamedFile<'a, L>,
     settings: RunSettings<'a>,
-) -> Result<vdcp_list::List, Failure<'a>>
-    ensures events { IfOk result (λ events. IsListOf settings.entry.rate (L.remaining list.entry.reader)
-        (items_of events)) }
-    ensures listed { IfOk result (λ events. first_event settings.entry.from ≤ length (items_of events)) }
+) -> Result<(vdcp_list::List, Apart<'a>), Failure<'a>>
+    ensures events { IfOk result (λ r. IsListOf settings.entry.rate (L.remaining list.entry.reader) (items_of r.0)) }
+    ensures listed { IfOk result (λ r. first_event settings.entry.from ≤ length (items_of r.0)) }
+    ensures apart { IfOk result (λ r. IsApart settings.entry.asrun list.entry.name r.1) }
     ensures unplayed { IfErr result (λ failure. (address : List ℕ) → IsAddress address → IsUnplayed settings.entry address
         (file list.entry.name (L.remaining list.entry.reader)) failure) }
 {
     let name = list.name;
     let events = list.read_list(rt.alloc(), settings.rate)?;
     test_event(&events, settings.from)?;
-    test_list(rt, settings.asrun, name)?;
-    Ok(events)
+    match Apart::test(rt, settings.asrun, name) {
+        Ok(apart) => Ok((events, apart)),
+        Err(asrun) => Err(Failure::IsList(asrun)),
+    }
 }
 
 // What is told if the list of this name isn't the journal's, and of any other failure.

@@ -1,6 +1,6 @@
 //! How a run ended, what is printed of that, and its exit status.
 ghost use Rattle.std.specs.Io.KnownBytes.{Appends};
-ghost use Rattle.std.specs.Prelude.{◌≡◌, ◌≢◌, IfOk, IsSome, None, OnOk};
+ghost use Rattle.std.specs.Prelude.{◌≡◌, IfOk, None, OnOk};
 ghost use Rattle.vdcp_run.specs.Ends.{line_end_of};
 ghost use Rattle.vdcp_run.specs.Run.{HasAsrun, IsEndBy, asrun_failure, end_text, fault_text, faults_text, line_failure, run_status, told_outcome};
 
@@ -161,29 +161,6 @@ fn write_fault<E: io::Write>(failure: Option<Failure<'_>>, err: &mut E) -> io::R
     match failure {
         Some(failure) => writeln!(err, "vdcp: {failure}"),
         None => Ok(()),
-    }
-}
-
-/// How a run has ended whose list wasn't begun: as its controller did, if that has ended, and else as its line.
-pub fn unbegun<'a, R: Files + AllocGlobal, S: Source>(
-    rt: &R,
-    controller: &Controller<Rest<S>>,
-    line: LineEnd,
-    settings: RunSettings<'a>,
-) -> RunEnd<'a>
-    requires begun { line ≢ LineEnd.Unneeded }
-    requires kept { line ≢ LineEnd.Unkept }
-    ensures of_controller { IsEndBy controller.now result }
-    ensures line { result.outcome ≡ None → result.line ≡ line }
-    ensures unneeded { result.line ≡ LineEnd.Unneeded → IsSome result.outcome }
-    ensures ended { IsSome result.outcome → result.line ≡ LineEnd.Unneeded }
-    ensures told { result.line ≢ LineEnd.Unkept }
-    ensures asrun { HasAsrun settings.entry (S.items controller.now.source.source) result }
-    ensures kept { result.unkept ≡ None }
-{
-    match controller.outcome() {
-        Some(_) => ended(rt, controller, LineEnd::Unneeded, settings),
-        None => ended(rt, controller, line, settings),
     }
 }
 

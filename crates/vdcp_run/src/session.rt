@@ -7,7 +7,7 @@ ghost use Rattle.vdcp_run.specs.Session.{HasAwaited, HasPlayed, HasSession, HasT
 use crate::asking::{may_begin, unbegun_line, vacancy_for};
 use crate::lapsing::Lapsing;
 use crate::polling::Polling;
-use crate::run_end::{LineEnd, RunEnd, ended, unbegun};
+use crate::run_end::{LineEnd, RunEnd, ended};
 use crate::settings::{RunSettings, Showing, Shown};
 use crate::waiting::await_clip;
 use std::fs::File;
@@ -258,7 +258,7 @@ fn play_asked<
     let mut left = settings.listens;
     let asked = vacancy_for(&controller, settings, &mut left, &mut wire);
     if !may_begin(asked) {
-        return unbegun(rt, &controller, unbegun_line(asked), settings);
+        return ended(rt, &controller, unbegun_line(asked), settings);
     }
     let rest = RunSettings {
         listens: left,

@@ -1,6 +1,9 @@
-use Rattle.std.proofs.Common.{◌∙◌}
+use Rattle.std.proofs.Common.{◌∙◌, subst, sym}
+use Rattle.vdcp_auto.specs.Plan.{plan_of}
+use Rattle.vdcp_list.specs.Rests.{items_left}
+use Rattle.vdcp_run.proofs.Ends.{opens_unended, unbegun_comes}
 use Rattle.vdcp_run.proofs.session.play_asked.Goals as goal
-use Rattle.vdcp_run.specs.Session.{played, unbegun}
+use Rattle.vdcp_run.specs.Session.{MayBegin, played, unbegun}
 
 pub returns-clause-session : goal.returns-clause-session
 returns-clause-session g c =
@@ -15,4 +18,18 @@ returns-then-not-may_begin-clause-session g c =
     unbegun c.vacancy_for-asked.result c.vacancy_for-asked.new.wire c.vacancy_for-asked.new.left
     (record { unasked = asked.unasked; opened = asked.opened; asks = asked.asks })
     (λ may. let yes = c.may_begin.ensures.1 may in let no = c.if-not-may_begin.true in cc)
-    (λ none. c.unbegun.ensures.line none ∙ c.unbegun_line.ensures.line)
+    (c.ended.ensures.line ∙ c.unbegun_line.ensures.line)
+
+pub returns-then-not-may_begin-clause-end : goal.returns-then-not-may_begin-clause-end
+returns-then-not-may_begin-clause-end g c =
+    let line = c.ended.ensures.line in
+    let state = c.args.controller.state in
+    record {
+      comes = unbegun_comes g.S.Source.items c.args.controller c.ended.result c.ended.ensures.of_controller
+          (λ some. let vacant = (c.vacancy_for-asked.ensures.opened (opens_unended (plan_of (items_left g.S.Source.items) c.args.controller)
+          state.stop state.stage some)).0 in
+          let yes = c.may_begin.ensures.1 (subst MayBegin (sym vacant) tt) in let no = c.if-not-may_begin.true in cc)
+          (λ is. c.unbegun_line.ensures.begun (sym line ∙ is)) (λ is. c.unbegun_line.ensures.kept (sym line ∙ is));
+      asrun = c.ended.ensures.asrun;
+      unkept = rw c.ended.ensures.kept tt;
+    }
