@@ -126,6 +126,7 @@ impl<S: Duplex + Drop> Wire for StreamWire<S> {
 
     ghost failures = { λ w. failures_of w.connection };
 
+    #[tactic(auto, using(crate::proofs::Streaming::wrote_front))]
     fn send(&mut self, bytes: &[u8]) -> Result<(), WireFault>
         requires { failures_of self.old.connection ≡ 0 }
         ensures sends { OnOk result (StreamDoes (sends bytes.now) self.old self.new) }
@@ -133,10 +134,18 @@ impl<S: Duplex + Drop> Wire for StreamWire<S> {
         ensures connection { OnOk result (self.new.connection ≡ self.old.connection) }
         ensures failed { OnErr result (failures_of self.new.connection ≡ 1) }
     {
-        match write_all(&mut self.stream, bytes) {
-            Ok(()) => Ok(()),
-            Err(WireFault) => Err(self.fail()),
+        let mut at = 0;
+        'writes: for _ in 0..u32::MAX {
+            if at == bytes.len() {
+                return Ok(());
+            }
+            match self.stream.write_some(&bytes[at..]) {
+                Ok(n) if n > 0 => at += n,
+                Err(error) if error.kind() == ErrorKind::Interrupted => continue,
+                Ok(_) | Err(_) => return Err(self.fail()),
+            }
         }
+        Err(self.fail())
     }
 
     fn listen(&mut self, buffer: &mut [u8; PIECE]) -> Result<Came, WireFault>
@@ -179,27 +188,6 @@ impl<S: Duplex + Drop> Wire for StreamWire<S> {
     ghost fails_once = { λ w. counted_once w.connection };
 
     ghost tells = { λ _ _ _ _. refl };
-}
-
-// Writes all these bytes, or a beginning of them if it fails.
-#[tactic(auto, using(crate::proofs::Streaming::wrote_front))]
-fn write_all<S: Duplex>(stream: &mut S, bytes: &[u8]) -> Result<(), WireFault>
-    ensures all { OnOk result (Appends (S.written stream.old) (S.written stream.new) bytes.now) }
-    ensures front { OnErr result (OfFront bytes.now (Appends (S.written stream.old) (S.written stream.new))) }
-    ensures apart { Keeps (S.ahead stream.old) (S.ahead stream.new) }
-{
-    let mut at = 0;
-    'writes: for _ in 0..u32::MAX {
-        if at == bytes.len() {
-            return Ok(());
-        }
-        match stream.write_some(&bytes[at..]) {
-            Ok(n) if n > 0 => at += n,
-            Err(error) if error.kind() == ErrorKind::Interrupted => continue,
-            Ok(_) | Err(_) => return Err(WireFault),
-        }
-    }
-    Err(WireFault)
 }
 
 // Reads what waits on a connection that doesn't wait, and says whether the other end has closed.
