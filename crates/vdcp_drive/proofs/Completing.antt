@@ -4,7 +4,8 @@ use Rattle.std.proofs.Common.{append_assoc, append-nil, length-append, arith}
 use Rattle.std.proofs.Math.Seq.{take-append_seam}
 use Rattle.std.proofs.lemmas.List.{length-take-le}
 use Rattle.std.proofs.lemmas.List.Elements.{All-append, All-take}
-use Rattle.std.specs.Prelude.{Some, None}
+use Rattle.std.specs.Option.{option_to_list}
+use Rattle.std.specs.Prelude.{Option, Some, None}
 use Rattle.vdcp_frame.specs.Burst.{messages_of, end_of}
 use Rattle.vdcp_frame.specs.Head.{IsWrong}
 use Rattle.vdcp_frame.specs.Message.{Content, AreOctets, Spells}
@@ -17,7 +18,8 @@ use Rattle.vdcp_auto.specs.Heard.{heard_as}
 use Rattle.vdcp_auto.specs.declared.exchange.Heard.{Heard}
 use Rattle.vdcp_drive.specs.HearingLaws.{completed_both, held_both}
 use Rattle.vdcp_drive.specs.Below.{Below}
-use Rattle.vdcp_drive.specs.Reading.{Held, holds, skips, held_with, held_after, held_by, completed, IsReader, HasRead}
+use Rattle.vdcp_drive.specs.Reading.{Held, holds, skips, held_with, held_after, held_by, completed, IsReader}
+use Rattle.vdcp_drive.specs.Hearing.{heard_by}
 
 -- Bytes that begin a message and are no whole one.
 
@@ -197,9 +199,14 @@ completes_nothing (x ∷ xs) = completes_nothing xs
 
 -- What is read, by what the reader gave for these bytes.
 
+-- these bytes were read, and this is heard in the message that they complete, if they complete one
+pub record HasRead (unit : ℕ) (at : Held) (piece : List ℕ) (at' : Held) (heard : Option Heard) : Type 0 where
+  pub takes : at' ≡ held_after at piece
+  pub hears : option_to_list heard ≡ heard_by unit at piece
+
 pub read_none : (unit : ℕ) (xs : List ℕ) → HasRead unit skips xs skips None
 read_none unit xs =
-    record { hears = ap (map (heard_as unit)) (completes_nothing xs).0; holds_then = sym (completes_nothing xs).1 }
+    record { takes = sym (completes_nothing xs).1; hears = sym (ap (map (heard_as unit)) (completes_nothing xs).0) }
 
 pub read_message : (law : Below) (unit : ℕ) (p : Progress) (piece : List ℕ) (n : ℕ) (m : Content) (h : Heard)
     → IsReader (Some p)
@@ -208,8 +215,8 @@ pub read_message : (law : Below) (unit : ℕ) (p : Progress) (piece : List ℕ) 
 read_message law unit (reading taken held) piece n m h begun t is =
     let c = completes law held (take n piece) m (omega (arith, t.some, length-take-le n piece t.within)) t.spelt
     in record {
-      hears = ap (map (heard_as unit)) c.0 ∙ ap (λ (x : Heard). x ∷ []) (sym is);
-      holds_then = sym c.1;
+      takes = sym c.1;
+      hears = ap (λ (x : Heard). x ∷ []) is ∙ sym (ap (map (heard_as unit)) c.0);
     }
 read_message law unit failed piece n m h begun t is = absurd begun
 
@@ -217,7 +224,7 @@ pub read_more : (law : Below) (unit : ℕ) (p : Progress) (piece : List ℕ) (n 
     → Gives p piece n more → HasRead unit (held_by (Some p)) (take n piece) (held_by (Some (fed p piece n more))) None
 read_more law unit (reading taken held) piece n begun t =
     let c = completes_none law held (take n piece) t.unfinished in
-    record { hears = ap (map (heard_as unit)) c.0; holds_then = sym c.1 }
+    record { takes = sym c.1; hears = sym (ap (map (heard_as unit)) c.0) }
 read_more law unit failed piece n begun t = absurd begun
 
 wrong_so : (law : Below) (unit : ℕ) (taken : ℕ) (held piece : List ℕ) (n : ℕ) (which : Fault) (place : ℕ)
@@ -230,7 +237,7 @@ wrong_so law unit taken held piece n which place u fits t r =
     in
     let c = completes_fault law held (take n piece) which place (omega (arith, t.some, length-take-le n piece t.within))
     all t.first r in
-    record { hears = ap (map (heard_as unit)) c.0; holds_then = sym c.1 }
+    record { takes = sym c.1; hears = sym (ap (map (heard_as unit)) c.0) }
 
 wrong_by : (law : Below) (unit : ℕ) (taken : ℕ) (held piece : List ℕ) (n : ℕ) (which : Fault) (place : ℕ)
     → taken ≡ length held → IsUnfinished held

@@ -1,34 +1,38 @@
 //! The ear for a line that keeps order: it doesn't wait for silences.
+ghost use Rattle.std.specs.Prelude.{◌≡◌, [], Some};
+ghost use Rattle.vdcp_drive.specs.Reading.{IsReader, held_by, holds};
+
 use crate::ear::Ear;
-use crate::scanner::Scanner;
+use crate::laws;
 use std::marker::Model;
 use vdcp_auto::Heard;
+use vdcp_frame::{Got, Reader};
 
 /// Hears each message as soon as it is whole; a silence or the close is a time-out. A message that a silence has torn is
 /// read on; only after a fault is all passed over until the next silence. Nothing that waits is dropped.
 #[derive(Drop)]
 pub struct AtOnce {
-    scanner: Scanner,
+    // none after a fault
+    reader: Option<Reader>,
 }
 
 impl Model for AtOnce {
-    ghost use Rattle.vdcp_drive.specs.Reading.{Held};
+    ghost use Rattle.vdcp_drive.specs.Reading.{Held, IsReader, held_by};
 
     ghost Value = { Held };
 
-    ghost view = { λ e. e.scanner };
+    ghost view = { λ e. held_by e.reader };
+
+    ghost invariant = { λ e. IsReader e.reader };
 }
 
 impl AtOnce {
-    ghost use Rattle.std.specs.Prelude.{◌≡◌, []};
-    ghost use Rattle.vdcp_drive.specs.Reading.{holds};
-
     /// An ear that has heard nothing.
     pub fn new() -> Self
         ensures { result ≡ holds [] }
     {
         AtOnce {
-            scanner: Scanner::new(),
+            reader: Some(new_reader()),
         }
     }
 }
@@ -44,13 +48,39 @@ impl Ear for AtOnce {
     }
 
     fn read(&mut self, unit: u8, piece: &[u8]) -> (usize, Option<Heard>) {
-        self.scanner.read(unit, piece)
+        laws::laws_below();
+        let Some(reader) = &mut self.reader else {
+            return (piece.len(), None);
+        };
+        let (taken, got) = reader.feed(piece);
+        match got {
+            Got::Message(message) => {
+                let heard = Heard::of_message(&message, unit);
+                reader.silence();
+                (taken, Some(heard))
+            }
+            Got::More => (taken, None),
+            Got::Fault(_, _) => {
+                self.reader = None;
+                (taken, None)
+            }
+        }
     }
 
     fn rest(&mut self) -> Option<Heard> {
-        self.scanner.renew();
+        if self.reader.is_none() {
+            self.reader = Some(new_reader());
+        }
         None
     }
 
     ghost pieces = { at_once_in_pieces };
+}
+
+// A reader that is between two messages.
+fn new_reader() -> Reader
+    ensures place { IsReader (Some result) }
+    ensures holds { held_by (Some result) ≡ holds [] }
+{
+    Reader::new()
 }

@@ -1,6 +1,6 @@
 //! The ear that waits for the end of a burst.
+use crate::at_once::AtOnce;
 use crate::ear::Ear;
-use crate::scanner::Scanner;
 use std::marker::Model;
 use vdcp_auto::Heard;
 
@@ -8,7 +8,7 @@ use vdcp_auto::Heard;
 /// What waits is dropped before a command goes out.
 #[derive(Drop)]
 pub struct AtSilences {
-    scanner: Scanner,
+    at_once: AtOnce,
     heard: Option<Heard>,
 }
 
@@ -17,7 +17,7 @@ impl Model for AtSilences {
 
     ghost Value = { Burst };
 
-    ghost view = { λ e. burst_of e.scanner e.heard };
+    ghost view = { λ e. burst_of e.at_once e.heard };
 }
 
 impl AtSilences {
@@ -30,7 +30,7 @@ impl AtSilences {
         ensures { result ≡ begun (holds []) }
     {
         AtSilences {
-            scanner: Scanner::new(),
+            at_once: AtOnce::new(),
             heard: None,
         }
     }
@@ -50,14 +50,14 @@ impl Ear for AtSilences {
         if self.heard.is_some() {
             return (piece.len(), None);
         }
-        let (taken, heard) = self.scanner.read(unit, piece);
+        let (taken, heard) = self.at_once.read(unit, piece);
         self.heard = heard;
         (taken, None)
     }
 
     fn rest(&mut self) -> Option<Heard> {
         let heard = self.heard;
-        self.scanner = Scanner::new();
+        self.at_once = AtOnce::new();
         self.heard = None;
         heard
     }

@@ -37,8 +37,8 @@
 //! controller to one (`Watch`), has each command kept before it goes out, and what ended its exchange (`Keep`), and waits
 //! between commands (`Pace`); `run_operated` asks an operator too (`Operator`), whose calls are kept before they are given.
 //!
-//! Files, in reading order: `server`, `driver`, `automation`, `ear`, `at_silences`, `at_once`, `scanner`, `line`,
-//! `watch`, `keep`, `operator`, `vacancy`, `laws`.
+//! Files, in reading order: `server`, `driver`, `automation`, `ear`, `at_once`, `at_silences`, `line`, `watch`,
+//! `keep`, `operator`, `vacancy`, `laws`.
 #![tactic(auto)]
 
 mod at_once;
@@ -50,7 +50,6 @@ mod keep;
 pub mod laws;
 mod line;
 mod operator;
-mod scanner;
 mod server;
 mod vacancy;
 mod watch;

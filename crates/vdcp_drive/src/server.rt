@@ -21,7 +21,6 @@ use vdcp_frame::{Got, Message, Reader, laws as bursts};
 use vdcp_port::{Catalogue, Port, laws as answers, reply_at_end};
 use vdcp_value::Item;
 use vdcp_wire::{Came, PIECE, Wire, WireFault};
-use vdcp_words::Reply;
 
 /// The server's end of one playout channel, over a wire.
 ///
@@ -227,7 +226,10 @@ fn answer<C: Catalogue, W: Wire>(
     if item.is_some() {
         *aired = item;
     }
-    send_reply(reply, unit, wire)
+    match reply {
+        Some(reply) => wire.send(reply.encode(unit).as_slice()),
+        None => Ok(()),
+    }
 }
 
 // The burst ends at a silence: its end is answered, and a frame passes at the port.
@@ -248,23 +250,9 @@ fn end_burst<C: Catalogue, W: Wire>(
     ensures works { OnOk result (W.failures wire.new ≡ 0) }
     ensures failed { OnErr result (W.failures wire.new ≡ 1) }
 {
-    send_reply(reply_at_end(reader.silence()), port.unit(), wire)?;
+    if let Some(reply) = reply_at_end(reader.silence()) {
+        wire.send(reply.encode(port.unit()).as_slice())?;
+    }
     port.frame();
     Ok(())
-}
-
-// Sends the bytes of a reply, if there is one.
-fn send_reply<W: Wire>(reply: Option<Reply>, unit: u8, wire: &mut W) -> Result<(), WireFault>
-    requires unit { unit ≤ 15 }
-    requires works { W.failures wire.old ≡ 0 }
-    ensures sent { OnOk result (Chain W.does (sending unit (option_to_list reply)) wire.old wire.new) }
-    ensures front { OnErr result (OfFront (answer_bytes unit (option_to_list reply)) (λ front.
-        W.does (sends front) wire.old wire.new)) }
-    ensures works { OnOk result (W.failures wire.new ≡ 0) }
-    ensures failed { OnErr result (W.failures wire.new ≡ 1) }
-{
-    match reply {
-        None => Ok(()),
-        Some(reply) => wire.send(reply.encode(unit).as_slice()),
-    }
 }
