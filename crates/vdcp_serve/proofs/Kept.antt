@@ -1,38 +1,35 @@
 -- How a port is kept for one turn more.
-use Rattle.std.proofs.Common.{ℕ, ◌≡◌, List, suc, subst}
-use Rattle.std.specs.Prelude.{⊤, Result}
-use Rattle.vdcp_port.specs.Clock.{ClockedPort, after_frame}
+use Rattle.std.proofs.Common.{ℕ, ◌≡◌, ◌<◌, ◌-◌, List, [], ◌∷◌, ◌++◌, suc, ap, refl, sym, subst, append_assoc, append-nil, arith}
+use Rattle.std.specs.Prelude.{⊤, Option, None, Some, Result}
+use Rattle.vdcp_port.specs.Clock.{ClockedPort}
 use Rattle.vdcp_drive.specs.ServeLeaves.{ServeLeaves}
 use Rattle.vdcp_drive.specs.Serving.{Look, Serving}
 use Rattle.vdcp_drive.specs.declared.line.DriveFault.{DriveFault}
 use Rattle.vdcp_drive.specs.declared.line.Ran.{Ran}
 use Rattle.vdcp_wire.specs.Acts.{Act}
-use Rattle.vdcp_serve.specs.Stay.{IsKept, IsTakenWith, left_after, nobody_came, no_line_came, served}
+use Rattle.vdcp_serve.specs.Stay.{IsKept, adds_ends}
+use Rattle.vdcp_serve.specs.declared.serve.ServeEnd.{ServeEnd}
 
--- in a turn in which nobody came
-pub kept_alone : {W : Type 0} {does : Act → W → W → Type 0} {failures made : W → ℕ} {port : ClockedPort} {turns : ℕ}
-    (now : ClockedPort) (left rest : ℕ)
-    → left ≡ suc rest → IsKept does failures made port turns now left
-    → IsKept does failures made port turns (after_frame now) rest
-kept_alone {W} {does} {failures} {made} {port} {turns} now left rest is kept =
-    nobody_came (subst (λ (n : ℕ). IsKept does failures made port turns now n) is kept)
+-- this many turns are left, since some are
+pub one_more : {W : Type 0} {does : Act → W → W → Type 0} {failures : W → ℕ} {most : Option ℕ} {port : ClockedPort}
+    {turns : ℕ} {ends : List (Result ServeEnd DriveFault)} (now : ClockedPort) (left : ℕ) → 0 < left
+    → IsKept does failures most port turns now left ends → IsKept does failures most port turns now (suc (left - 1)) ends
+one_more {W} {does} {failures} {most} {port} {turns} {ends} now left some kept =
+    let one : left ≡ suc (left - 1) = omega (arith, some) in
+    subst (λ (n : ℕ). IsKept does failures most port turns now n ends) one kept
 
--- in one in which a line failed at once
-pub kept_lineless : {W : Type 0} {does : Act → W → W → Type 0} {failures made : W → ℕ} {port : ClockedPort} {turns : ℕ}
-    (now : ClockedPort) (left rest : ℕ)
-    → left ≡ suc rest → IsKept does failures made port turns now left → IsKept does failures made port turns now rest
-kept_lineless {W} {does} {failures} {made} {port} {turns} now left rest is kept =
-    no_line_came (subst (λ (n : ℕ). IsKept does failures made port turns now n) is kept)
+-- What is told of ends.
 
--- and in the turns over a line
-pub kept_over : {W : Type 0} {does : Act → W → W → Type 0} {failures made : W → ℕ} {port : ClockedPort} {turns : ℕ}
-    (now : ClockedPort) (left rest : ℕ)
-    → left ≡ suc rest → IsKept does failures made port turns now left
-    → (old new : Serving W) (answer : Result Ran DriveFault)
-    → IsTakenWith failures now old → ServeLeaves does (λ _. ⊤) failures rest old new answer
-    → IsKept does failures made port turns new.port (left_after answer rest (made new.wire))
-kept_over {W} {does} {failures} {made} {port} {turns} now left rest is kept old new answer taken leaves =
-    served (subst (λ (n : ℕ). IsKept does failures made port turns now n) is kept) old new answer taken leaves
+pub none_told : (told : Option (List (Result ServeEnd DriveFault))) → told ≡ adds_ends [] told
+none_told None = refl
+none_told (Some ends) = ap (λ (l : List (Result ServeEnd DriveFault)). Some l) (sym (append-nil ends))
+
+pub one_told : (ends : List (Result ServeEnd DriveFault)) (end : Result ServeEnd DriveFault)
+    (told₀ told₁ told₂ told₃ : Option (List (Result ServeEnd DriveFault))) → told₁ ≡ adds_ends ends told₀ → told₂ ≡ told₁
+    → told₃ ≡ adds_ends (end ∷ []) told₂ → told₃ ≡ adds_ends (ends ++ end ∷ []) told₀
+one_told ends end None told₁ told₂ told₃ before same more = rw (more, same, before) refl
+one_told ends end (Some told₀) told₁ told₂ told₃ before same more =
+    rw (more, same, before) (ap (λ (l : List (Result ServeEnd DriveFault)). Some l) (append_assoc told₀ ends (end ∷ [])))
 
 -- whatever was lent
 pub unwatched : {W : Type 0} (does : Act → W → W → Type 0) (lent : List Look → Type 0) (failures : W → ℕ) (turns : ℕ)

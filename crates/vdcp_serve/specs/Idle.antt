@@ -60,9 +60,18 @@ IdlingBrings does true what old new = (what ≡ close) × (new.wire ≡ old.wire
 IdlingBrings does false what old new =
     does (brings what) old.wire new.wire × (has_given_up new.patience ≡ false)
 
+-- how often it was listened to with one listen more: of a line that was given up there is none
+abbrev pub listens_with : Patience → ℕ → ℕ
+listens_with (patience.Waits silences) made = min (made + 1) (2 ^ 64 - 1)
+listens_with patience.GaveUp made = made
+
 -- what it does is what the wire below does, but for that close
 abbrev pub IdlingDoes : {W : Type 0} → (Act → W → W → Type 0) → Act → Idling W → Idling W → Type 0
-IdlingDoes does (sends bytes) old new = does (sends bytes) old.wire new.wire × (new.patience ≡ old.patience)
+IdlingDoes does (sends bytes) old new =
+    does (sends bytes) old.wire new.wire × (new.patience ≡ old.patience) × (new.listens ≡ old.listens)
 IdlingDoes does (brings what) old new = IdlingBrings does (gives_up old.most old.patience) what old new
-IdlingDoes does drops old new = does drops old.wire new.wire × (new.patience ≡ old.patience)
+    × (new.listens ≡ listens_with old.patience old.listens)
+IdlingDoes does drops old new =
+    does drops old.wire new.wire × (new.patience ≡ old.patience) × (new.listens ≡ old.listens)
+-- (a listen that fails is counted, and a drop isn't)
 IdlingDoes does fails old new = does fails old.wire new.wire × (new.patience ≡ old.patience)

@@ -74,7 +74,7 @@ pub idling_tells : {W : Type 0} (does : Act → W → W → Type 0) (told : W �
 idling_tells does told tells (sends bytes) old new h =
     rw h.1 (sends_on old.patience bytes (told old.wire) (told new.wire) (tells (sends bytes) old.wire new.wire h.0))
 idling_tells does told tells (brings what) old new h =
-    brings_so does told tells (gives_up old.most old.patience) what old new refl h
+    brings_so does told tells (gives_up old.most old.patience) what old new refl h.0
 idling_tells does told tells drops old new h =
     rw h.1 (drops_on old.patience (told old.wire) (told new.wire) (tells drops old.wire new.wire h.0))
 idling_tells does told tells fails old new h =

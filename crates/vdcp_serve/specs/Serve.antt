@@ -23,11 +23,14 @@ end_of ran.Closed false = ends.Closed
 end_of ran.Spent has_given_up = ends.Spent
 end_of ran.Ended has_given_up = ends.Spent
 
+abbrev pub word_of : ServeEnd → List ℕ
+word_of ends.Closed = codes "closed"
+word_of ends.Idle = codes "idle"
+word_of ends.Spent = codes "spent"
+
 -- a writer gained the line of how they ended
 abbrev pub PrintsEnd : ServeEnd → Option (List ℕ) → Option (List ℕ) → Type 0
-PrintsEnd ends.Closed out out' = Appends out out' (line (codes "closed"))
-PrintsEnd ends.Idle out out' = Appends out out' (line (codes "idle"))
-PrintsEnd ends.Spent out out' = Appends out out' (line (codes "spent"))
+PrintsEnd end out out' = Appends out out' (line (word_of end))
 
 -- the turns of a server answered so, and what a writer gained of it: if the wire works the line of how they ended,
 -- unless the writer failed, and else nothing

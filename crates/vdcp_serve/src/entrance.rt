@@ -1,9 +1,9 @@
 //! How one connection after another is taken, and made a line.
-ghost use Rattle.std.specs.Prelude.{◌≡◌, IfOk};
+ghost use Rattle.std.specs.Prelude.{◌≡◌, ◌*◌, IfOk};
 ghost use Rattle.vdcp_wire.specs.Streams.{failures_of};
 
 use crate::paced::Paced;
-use crate::serve::ServeSettings;
+use crate::serve::{ServeEnd, ServeSettings};
 use crate::stay::{Coming, Connections};
 use mio::unix::SourceFd;
 use mio::{Events, Interest, Poll, Token};
@@ -13,7 +13,9 @@ use std::net::{Net, OpenListener, SocketAddr};
 use std::os::fd::AsRawFd;
 use std::rt::Clock;
 use std::time::{Duration, Instant};
+use vdcp_drive::DriveFault;
 use vdcp_log::{Hearing, Log, Logged};
+use vdcp_text::Failure;
 use vdcp_wire::{Duplex, StreamWire, WireFault};
 
 /// Listens at an address and takes one connection after another. The system has those wait that come meanwhile.
@@ -31,7 +33,7 @@ pub struct Entrance<'a, R: Net + Clock, L: io::Write> {
 
 impl<'a, R: Net + AllocGlobal + Clock, L: io::Write + Drop> Entrance<'a, R, L> {
     /// With this listener. A wait for a connection is no longer than a silence of one, or by the clock than a frame; the
-    /// log is told of its messages.
+    /// log is told of each, of its messages and of its end.
     pub fn new(
         rt: &'a R,
         listener: R::Listener,
@@ -85,14 +87,26 @@ impl<'a, R: Net + AllocGlobal + Clock, L: io::Write + Drop> Connections<
         let Some(stream) = taken else {
             return Ok(Coming::Nobody);
         };
-        match line_over(self.rt, stream, self.settings) {
-            Ok(line) => Ok(Coming::Line(Logged::new(line, self.log, Hearing::AtSilences))),
-            Err(_) => Ok(Coming::Failed),
-        }
+        let Ok(line) = line_over(self.rt, stream, self.settings) else {
+            return Ok(Coming::Failed);
+        };
+        self.log.tell(&"taken");
+        Ok(Coming::Line(Logged::new(line, self.log, Hearing::AtSilences)))
     }
 
     fn from(&self) -> Option<SocketAddr> {
         self.from
+    }
+
+    fn tell_end(&mut self, end: Result<ServeEnd, DriveFault>) {
+        match end {
+            Ok(ServeEnd::Spent) => {}
+            Ok(end) => self.log.tell(&end.word()),
+            Err(DriveFault::Device) => {
+                let failure = Failure::LineFailed;
+                self.log.tell_fault(&format_args!("vdcp: {failure}"));
+            }
+        }
     }
 }
 
@@ -102,7 +116,9 @@ pub fn line_over<R: Clock, S: Duplex + Drop>(
     stream: S,
     settings: ServeSettings,
 ) -> io::Result<Paced<'_, R, StreamWire<S>>>
-    ensures { IfOk result (λ line. failures_of line.wire.connection ≡ 0) }
+    ensures works { IfOk result (λ line. failures_of line.wire.connection ≡ 0) }
+    ensures pace { IfOk result (λ line. line.pace ≡ settings.pace) }
+    ensures silence { IfOk result (λ line. line.silence ≡ settings.silence * 1000000) }
 {
     let wait = settings.pace.wait(settings.silence);
     let wire = match settings.idle {

@@ -7,7 +7,7 @@ ghost use Rattle.vdcp_wire.specs.Address.{IsAddress};
 ghost use Rattle.vdcp_wire.specs.Listening.{PrintsListening};
 ghost use Rattle.vdcp_serve.specs.Idle.{IdlingDoes, has_given_up, idle_frames, idle_silences, idling_failures};
 ghost use Rattle.vdcp_serve.specs.Serve.{EndsAs, IsCatalogueRefused, IsServedThere, IsUnheard, IsUnserved, PrintsEnd};
-ghost use Rattle.vdcp_serve.specs.Serve.{end_of};
+ghost use Rattle.vdcp_serve.specs.Serve.{end_of, word_of};
 ghost use Rattle.vdcp_port.specs.Clock.{new_port};
 ghost use Rattle.vdcp_text.specs.Failure.{failure_line};
 
@@ -56,7 +56,7 @@ pub struct ServeSettings {
 
 /// How the turns of a server ended.
 #[derive(Clone, Copy, Debug, PartialEq, Eq)]
-enum ServeEnd {
+pub enum ServeEnd {
     /// The other end closed.
     Closed,
     /// Nothing came for too long.
@@ -67,7 +67,7 @@ enum ServeEnd {
 
 impl ServeEnd {
     // By what the server's turns answered, and whether it gave the line up.
-    fn of_turns(ran: Ran, has_given_up: bool) -> ServeEnd
+    pub(crate) fn of_turns(ran: Ran, has_given_up: bool) -> ServeEnd
         requires { ran ≢ Ran.Ended }
         ensures { result ≡ end_of ran has_given_up }
     {
@@ -77,6 +77,17 @@ impl ServeEnd {
             Ran::Spent => ServeEnd::Spent,
             // A server has no controller that ends.
             Ran::Ended => unreachable!(),
+        }
+    }
+
+    // Its word.
+    pub(crate) fn word(self) -> &'static str
+        ensures { result.now ≡ word_of self }
+    {
+        match self {
+            ServeEnd::Closed => "closed",
+            ServeEnd::Idle => "idle",
+            ServeEnd::Spent => "spent",
         }
     }
 }
@@ -266,7 +277,7 @@ fn serve_each<R: Net + AllocGlobal + Clock, C: Catalogue + Drop, L: io::Write + 
     let mut watcher = Watcher::new(log, settings.rate, panel);
     let turns = u64::from(settings.turns);
     let most = idle_silences(settings);
-    if stay(port, &mut entrance, turns, most, log, &mut watcher).is_err() {
+    if stay(port, &mut entrance, turns, most, &mut watcher).is_err() {
         return Err(Failure::Bind);
     }
     match write_end(ServeEnd::Spent, out) {
@@ -361,10 +372,6 @@ fn serve_turns<'f, C: Catalogue, S: Hears, V: WatchPort<C>, W: io::Write>(
 fn write_end<W: io::Write>(end: ServeEnd, out: &mut W) -> io::Result<()>
     ensures { OnOk result (PrintsEnd end (W.contents out.old) (W.contents out.new)) }
 {
-    match end {
-        ServeEnd::Closed => writeln!(out, "closed")?,
-        ServeEnd::Idle => writeln!(out, "idle")?,
-        ServeEnd::Spent => writeln!(out, "spent")?,
-    }
+    writeln!(out, "{}", end.word())?;
     out.flush()
 }

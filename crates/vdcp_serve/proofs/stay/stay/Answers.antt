@@ -1,40 +1,55 @@
-use Rattle.std.proofs.Common.{ℕ, ◌≡◌, ◌-◌, suc, ap, subst, ◌∙◌, arith}
-use Rattle.vdcp_serve.proofs.Kept.{kept_alone, kept_lineless, kept_over}
+use Rattle.std.proofs.Common.{◌≡◌, ◌∷◌, ◌++◌, [], ◌∙◌, arith}
+use Rattle.std.specs.Prelude.{Err}
+use Rattle.vdcp_drive.specs.declared.line.DriveFault.TheVariants as fault
+use Rattle.vdcp_serve.proofs.Kept.{none_told, one_more, one_told}
 use Rattle.vdcp_serve.proofs.stay.stay.Goals as goal
-use Rattle.vdcp_serve.specs.Idle.{IdlingDoes, idling_failures}
-use Rattle.vdcp_serve.specs.Stay.{IsKept, at_first}
-use Rattle.vdcp_serve.specs.declared.idling.Idling.{Idling}
+use Rattle.vdcp_serve.specs.Stay.{at_first, nobody_came, no_line_came, served}
+use Rattle.vdcp_serve.specs.Stay.{IsTakenWith}
 
 pub turns-init : goal.turns-init
-turns-init g c = at_first
+turns-init g c = ([], at_first, none_told _)
 
 pub turns-preserved-in-Nobody : goal.turns-preserved-in-Nobody
 turns-preserved-in-Nobody g c =
-    let one : c.turns.left ≡ suc (c.turns.left - 1) = omega (arith, c.turns-test.true) in
-    rw c.frame.ensures.next (kept_alone c.turns.port c.turns.left (c.turns.left - 1) one c.turns.invariant)
+    let i = c.turns.invariant in
+    rw c.frame.ensures.next (
+      i.0,
+      nobody_came (one_more c.turns.port c.turns.left c.turns-test.true i.1),
+      c.wait.ensures.ends ∙ i.2,
+    )
 
 pub turns-preserved-in-Failed : goal.turns-preserved-in-Failed
 turns-preserved-in-Failed g c =
-    let one : c.turns.left ≡ suc (c.turns.left - 1) = omega (arith, c.turns-test.true) in
-    kept_lineless c.turns.port c.turns.left (c.turns.left - 1) one c.turns.invariant
+    let i = c.turns.invariant in (
+      i.0 ++ Err fault.Device ∷ [],
+      no_line_came (one_more c.turns.port c.turns.left c.turns-test.true i.1),
+      one_told i.0 (Err fault.Device) _ _ _ _ i.2 c.wait.ensures.ends c.tell_end.ensures,
+    )
 
 -- the line works, and so the server over it
 pub turns-preserved : goal.turns-preserved
 turns-preserved g c =
-    let one : c.turns.left ≡ suc (c.turns.left - 1) = omega (arith, c.turns-test.true) in
-    let failures = g.W.Wire.failures in
-    let works = ap (λ (w : Idling g.row.W.Denot). failures w.wire) c.new-server.ensures.wire
-    ∙ (ap failures c.new.ensures.wire
-    ∙ c.in_ok-wait.ensures.works c.in-Line.line c.in-Line.is) in
-    let e = c.serve_one-kept.ensures in
-    rw (e.3, e.4) (kept_over c.turns.port c.turns.left (c.turns.left - 1) one c.turns.invariant c.new-server.result e.0
-    e.1
-    (record { port_is = c.new-server.ensures.port; at_start = c.new-server.ensures.reader; works = works }) e.2)
+    let i = c.turns.invariant in
+    let made = c.new-server.ensures in
+    let line = c.new.ensures in
+    let e = c.serve_one-rest.ensures in
+    let taken : IsTakenWith g.W.Wire.failures c.args.most c.turns.port c.new-server.result =
+    rw (made.wire, line.wire) (record {
+      port_is = made.port;
+      at_start = made.reader;
+      works = c.in_ok-wait.ensures.works c.in-Line.line c.in-Line.is;
+      most_is = line.most;
+      waits = line.waits;
+      listens = line.listens;
+    }) in
+    rw (c.into_parts.ensures.port, e.2) (
+      i.0 ++ c.serve_one-rest.result.1 ∷ [],
+      rw e.3 (served (one_more c.turns.port c.turns.left c.turns-test.true i.1) c.new-server.result
+          c.serve_one-rest.new.server e.0 taken e.1),
+      one_told i.0 c.serve_one-rest.result.1 _ _ _ _ i.2 c.wait.ensures.ends c.tell_end-in-Line.ensures,
+    )
 
 pub returns : goal.returns
 returns g c =
     let none : c.turns.left ≡ 0 = omega (arith, c.turns-test.false) in
-    record {
-      kept = subst (λ (n : ℕ). IsKept (IdlingDoes g.W.Wire.does) (idling_failures g.W.Wire.failures) (λ w. w.listens) c.args.port
-          c.args.turns c.turns.port n) none c.turns.invariant;
-    }
+    record { kept = rw none at c.turns.invariant }

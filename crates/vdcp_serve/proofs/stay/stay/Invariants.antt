@@ -1,11 +1,13 @@
-use Rattle.vdcp_serve.specs.Idle.{IdlingDoes, idling_failures}
-use Rattle.vdcp_serve.specs.Stay.{IsKept}
+use Rattle.std.specs.Prelude.{◌≡◌, List, Result}
+use Rattle.vdcp_drive.specs.declared.line.DriveFault.{DriveFault}
+use Rattle.vdcp_serve.specs.Stay.{IsKept, adds_ends}
+use Rattle.vdcp_serve.specs.declared.serve.ServeEnd.{ServeEnd}
 use Rattle.vdcp_serve.proofs.stay.stay.Given as goal
 
 abbrev pub invariant-turns : goal.invariant-turns
-invariant-turns g l =
-    IsKept (IdlingDoes g.W.Wire.does) (idling_failures g.W.Wire.failures) (λ w. w.listens) l.fn.port l.fn.turns l.port
-    l.left
+invariant-turns g l = (ends : List (Result ServeEnd DriveFault))
+    × IsKept g.W.Wire.does g.W.Wire.failures l.most l.fn.port l.fn.turns l.port l.left ends
+    × (g.D.Connections.ends l.connections ≡ adds_ends ends (g.D.Connections.ends l.fn.connections))
 
 abbrev pub decreases-turns : goal.decreases-turns
 decreases-turns g l = l.left
