@@ -8,6 +8,7 @@ use Rattle.vdcp_auto.specs.State.{State}
 use Rattle.vdcp_journal.specs.Airings.{settled_in}
 use Rattle.vdcp_journal.specs.Runs.{Run}
 use Rattle.vdcp_journal.specs.declared.row.Heading.{Heading}
+use Rattle.vdcp_journal.specs.declared.row.Note.{Note}
 use Rattle.vdcp_journal_file.specs.Resuming.{BeginsAfter, Continues, IsNoBeginning, IsReplayed, IsRunOn, IsUnopenedAgain, may_have, next_event, next_may_have_aired, no_event, not_listed, unsettled}
 use Rattle.vdcp_text.specs.declared.failure.Failure.{Failure}
 use Rattle.vdcp_text.specs.declared.failure.Failure.TheVariants as failures
@@ -75,10 +76,10 @@ both (Err e) P Q p q = tt
 
 -- what continues was replayed
 pub replayed_of : {S : Type 0} (items : S → List Item) (wanted : Heading) (list : List Item) (lines : FileBytes)
-    (controller : View (FromEvent S)) (asked : Option Command) (may : Option ℕ)
-    → (c : Continues items wanted list lines controller asked may)
+    (controller : View (FromEvent S)) (asked : Option Command) (may : Option ℕ) (noted : Option Note)
+    → (c : Continues items wanted list lines controller asked may noted)
     → IsReplayed list wanted lines c.run (plan_of (items_left items) controller) controller.state
-replayed_of items wanted list lines controller asked may c = record {
+replayed_of items wanted list lines controller asked may noted c = record {
   journal = c.journal;
   reads = c.reads;
   wanted_is = c.wanted_is;

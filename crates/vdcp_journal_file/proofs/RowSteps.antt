@@ -16,7 +16,7 @@ use Rattle.vdcp_journal.specs.declared.faults.JournalReadFault.TheVariants as un
 use Rattle.vdcp_journal.specs.declared.faults.ResumeFault.{ResumeFault}
 use Rattle.vdcp_journal.specs.declared.row.Heading.{Heading}
 use Rattle.vdcp_journal.specs.declared.row.Row.{Row}
-use Rattle.vdcp_journal_file.specs.Resuming.{Differs, IsLastRun, IsMadeOrRefused, IsOther, IsRefused, IsRunOn, IsRunRefused, bad_run, falls, no_event, no_journal, of_other, plan_begun, plan_of_run, state_after}
+use Rattle.vdcp_journal_file.specs.Resuming.{Differs, IsLastRun, IsMadeOrRefused, IsOther, IsRefused, IsRunOn, IsRunRefused, bad_run, falls, last_note, no_event, no_journal, of_other, plan_begun, plan_of_run, state_after}
 use Rattle.vdcp_journal_file.specs.declared.reading.Refusal.{Refusal}
 use Rattle.vdcp_journal_file.specs.declared.reading.Refusal.TheVariants as refusal
 use Rattle.vdcp_text.specs.declared.failure.JournalFault.TheVariants as fault
@@ -157,6 +157,12 @@ pub both_ok : {A E : Type 0} (result : Result A E) (P : Type 0) (Q : A → Type 
     → IfOk result (λ x. P × Q x)
 both_ok (Ok x) P Q p q = (p, q)
 both_ok (Err e) P Q p q = tt
+
+-- what the last row notes
+pub last_of : (rows : List Row) (row : Row) → last_note (rows ++ row ∷ []) ≡ Some row.note
+last_of [] row = refl
+last_of (first ∷ []) row = refl
+last_of (first ∷ next ∷ rows) row = last_of (next ∷ rows) row
 
 -- why the last run of a journal that was read doesn't go on
 pub of_run : (list : List Item) (wanted : Heading) (lines : FileBytes) (journal : Journal) (found : Heading) (run : Run)

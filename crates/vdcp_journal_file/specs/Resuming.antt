@@ -162,15 +162,22 @@ pub record IsRunOn {S : Type 0} (items : S → List Item) (wanted : Heading) (li
   pub asked_is : asked ≡ open_after (plan_of_run wanted list run) run.rows
   pub unsettled_is : unsettled ≡ unsettled_event wanted.mode run.rows
 
--- the last run of a journal of what is wanted, which has these whole lines, goes on so
+-- what the last of these rows notes, if there is one
+abbrev pub last_note : List Row → Option Note
+last_note [] = None
+last_note (row ∷ []) = Some row.note
+last_note (row ∷ next ∷ rows) = last_note (next ∷ rows)
+
+-- the last run of a journal of what is wanted, which has these whole lines, goes on so; and this is the journal's last note
 pub record Continues {S : Type 0} (items : S → List Item) (wanted : Heading) (list : List Item) (lines : FileBytes)
-    (controller : View (FromEvent S)) (asked : Option Command) (unsettled : Option ℕ) : Type 0 where
+    (controller : View (FromEvent S)) (asked : Option Command) (unsettled : Option ℕ) (noted : Option Note) : Type 0 where
   pub journal : Journal
   pub reads : IsJournal lines journal
   pub wanted_is : journal.heading ≡ wanted
   pub run : Run
   pub last : IsLastRun journal.rows run
   pub on : IsRunOn items wanted list run controller asked unsettled
+  pub noted_is : noted ≡ last_note journal.rows
 
 -- a journal's heading differs from the one that is wanted, and it is refused so
 abbrev pub IsOther : Heading → Heading → Refusal → Type 0

@@ -82,7 +82,7 @@ pub(crate) fn replay<'a, 's, S: Source, I: io::Read + Drop>(
     requires some { 1 ≤ wanted.now.limit }
     requires few { wanted.now.limit ≤ 1000 }
     ensures replayed { IfOk result (λ r. Continues (λ s. S.items s.now) wanted.now (S.items source.now)
-        (option_map whole_lines (I.remaining reader)) r.controller r.«open» r.unsettled) }
+        (option_map whole_lines (I.remaining reader)) r.controller r.«open» r.unsettled r.last_note) }
     ensures refused { IfErr result (λ failure. (refusal : Refusal) × (failure ≡ failure_of name.entry refusal)
         × IsRefused (S.items source.now) wanted.now (option_map whole_lines (I.remaining reader)) refusal) }
 {
@@ -116,7 +116,7 @@ fn last_run<'s, S: Source, I: io::Read + Drop>(
     requires some { 1 ≤ wanted.now.limit }
     requires few { wanted.now.limit ≤ 1000 }
     ensures replayed { IfOk result (λ r. Continues (λ s. S.items s.now) wanted.now (S.items source.now) (I.remaining lines)
-        r.controller r.«open» r.unsettled) }
+        r.controller r.«open» r.unsettled r.last_note) }
     ensures refused { IfErr result (IsRefused (S.items source.now) wanted.now (I.remaining lines)) }
 {
     runs_follow_one_another();
@@ -160,6 +160,7 @@ fn the_last<'s, S: Source>(
     ensures goes_on { (list : List Item) (run : Run) → IsMadeOrRefused (λ s. S.items s.now) wanted.now list run made.entry
         → FoundSoFar (λ s. S.items s.now) wanted.now.mode run.rows airings.now
         → IfOk result (λ r. IsRunOn (λ s. S.items s.now) wanted.now list run r.controller r.«open» r.unsettled) }
+    ensures noted { IfOk result (λ r. r.last_note ≡ last) }
     ensures refused { (list : List Item) (run : Run) → IsMadeOrRefused (λ s. S.items s.now) wanted.now list run made.entry
         → IfErr result (λ why. IsOther found.now wanted.now why ⊎ IsRunRefused list wanted.now run why) }
 {

@@ -1,15 +1,16 @@
 //! How the last run of a journal's file goes on.
-ghost use Rattle.std.specs.Prelude.{◌≡◌, ◌⊎◌, ◌≤◌, ◌↔◌, IfErr, IfOk, IfSome, IsSome, None, OnOk, length, option_map};
+ghost use Rattle.std.specs.Prelude.{◌≡◌, ◌⊎◌, ◌≤◌, ◌↔◌, IfErr, IfOk, IfSome, IsFalse, IsSome, IsTrue, None, OnOk, Some, length, option_map};
 ghost use Rattle.vdcp_auto.specs.Plan.{plan_of};
 ghost use Rattle.vdcp_auto.specs.Turn.{outcome_of};
 ghost use Rattle.vdcp_journal.specs.Reading.{whole_lines};
 ghost use Rattle.vdcp_journal.specs.Runs.{Run};
+ghost use Rattle.vdcp_journal.specs.declared.moment.Moment.{Moment};
 ghost use Rattle.vdcp_list.specs.Rests.{items_left};
 ghost use Rattle.vdcp_list.specs.Rows.{FileBytes};
 ghost use Rattle.vdcp_journal_file.specs.Disks.{HasJust, KeepsLines};
 ghost use Rattle.vdcp_journal_file.specs.Recorded.{MayHold};
-ghost use Rattle.vdcp_journal_file.specs.Recording.{IsTimedOut, IsUnwritten};
-ghost use Rattle.vdcp_journal_file.specs.Resuming.{Continues, IsReplayed, IsUnread, IsUnresumed, open_after, plan_of_run};
+ghost use Rattle.vdcp_journal_file.specs.Recording.{Adds, IsTimedOut, IsUnwritten, outcome_rows};
+ghost use Rattle.vdcp_journal_file.specs.Resuming.{Continues, IsReplayed, IsUnread, IsUnresumed, is_end, open_after, plan_of_run};
 
 use crate::disk::{Disk, ReadableDisk, cut_safely};
 use crate::file::open;
@@ -21,7 +22,7 @@ use std::alloc::Global;
 use std::fs::File;
 use std::io::Read;
 use std::rt::{Clock, Files};
-use vdcp_auto::{Controller, Source};
+use vdcp_auto::{Controller, Outcome, Source};
 use vdcp_journal::{Heading, Note, Row, size_of_lines};
 use vdcp_list::Rest;
 use vdcp_text::Failure;
@@ -108,7 +109,7 @@ pub(crate) fn replay_file<'a, 's, S: Source, F: ReadableDisk>(
     requires some { 1 ≤ wanted.now.limit }
     requires few { wanted.now.limit ≤ 1000 }
     ensures replayed { IfOk result (λ r. Continues (λ s. S.items s.now) wanted.now (S.items source.now)
-        (option_map whole_lines (F.written file.now)) r.controller r.«open» r.unsettled) }
+        (option_map whole_lines (F.written file.now)) r.controller r.«open» r.unsettled r.last_note) }
     ensures unresumed { IfErr result (IsUnresumed (S.items source.now) name.entry wanted.now) }
 {
     let reader = reader_of(name, file)?;
@@ -199,9 +200,7 @@ pub(crate) fn go_on<'a, 'r, 's, R: Clock + AllocGlobal, S: Source, F: Disk + Dro
     } = run;
     let mut recorder = Recorder::after(rt, name, unit, file, pending_after(rt, open));
     if let Some(outcome) = controller.outcome() {
-        if !is_end(last_note) {
-            recorder.finish(Some(outcome))?;
-        }
+        finish(&mut recorder, outcome, last_note)?;
         return Ok(Resumption {
             controller,
             recorder: None,
@@ -211,6 +210,23 @@ pub(crate) fn go_on<'a, 'r, 's, R: Clock + AllocGlobal, S: Source, F: Disk + Dro
         controller,
         recorder: Some(recorder),
     })
+}
+
+// Writes how a controller has ended, with what is pending, unless the journal's last row says so.
+fn finish<'a, R: Clock + AllocGlobal, F: Disk + Drop>(
+    recorder: &mut Recorder<'a, '_, R, F>,
+    outcome: Outcome,
+    last: Option<Note>,
+) -> Result<(), Failure<'a>>
+    ensures said { IsTrue (is_end last) → recorder.new ≡ recorder.old }
+    ensures unsaid { IsFalse (is_end last) → OnOk result ((time : Moment)
+        × Adds F.safe recorder.old recorder.new (outcome_rows time (Some outcome))) }
+    ensures unwritten { IfErr result (IsUnwritten recorder.old.name) }
+{
+    if is_end(last) {
+        return Ok(());
+    }
+    recorder.finish(Some(outcome))
 }
 
 // What is still to be written if this command's exchange was timed out, if one was.

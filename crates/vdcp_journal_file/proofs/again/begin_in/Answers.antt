@@ -17,13 +17,13 @@ pub returns-in_err-event-clause-unopened : goal.returns-in_err-event-clause-unop
 returns-in_err-event-clause-unopened g c =
     let p = err_from_is_err_and c.from_residual-in_err-event.result c.from_residual-in_err-event.ensures.1 in
     let replayed = c.in_ok-run.ensures.replayed in
-    rw (p.1, p.2) (not_begun _ _ _ _ _ _ _ _ _ (replayed_of _ _ _ _ _ _ _ replayed) (c.in_err-event.ensures.none _ _ replayed.on))
+    rw (p.1, p.2) (not_begun _ _ _ _ _ _ _ _ _ (replayed_of _ _ _ _ _ _ _ _ replayed) (c.in_err-event.ensures.none _ _ replayed.on))
 
 pub returns-then-is_told_again-clause-opened : goal.returns-then-is_told_again-clause-opened
 returns-then-is_told_again-clause-opened g c =
     let replayed = c.in_ok-run.ensures.replayed in
     let over = is_over (c.is_told_again.ensures.unsaid c.if-is_told_again.true) replayed.run
-    (replayed_of _ _ _ _ _ _ _ replayed) replayed.on.from_is (c.is_told_again.ensures.is_over c.if-is_told_again.true) in
+    (replayed_of _ _ _ _ _ _ _ _ replayed) replayed.on.from_is (c.is_told_again.ensures.is_over c.if-is_told_again.true) in
     IfOk-weaker c.go_on.result _ _ (λ r p. (
       option_map whole_lines (g.F.Disk.written c.mend_heading.new.file),
       rw p.0 over,
@@ -38,7 +38,7 @@ returns-clause-opened g c =
     let event = c.in_ok-event.ensures.begins _ _ replayed.on in (
       option_map whole_lines (g.F.Disk.written c.mend_heading.new.file),
       rw c.new_controller.ensures
-          (begins replayed.run _ _ (replayed_of _ _ _ _ _ _ _ replayed) event.1 event.0 refl refl),
+          (begins replayed.run _ _ (replayed_of _ _ _ _ _ _ _ _ replayed) event.1 event.0 refl refl),
       rw (c.note_from.ensures.rest, c.after-recorder.ensures) c.in_ok-cut-2.ensures.whole,
       lines_begin (g.F.Disk.written c.args.file) (g.F.Disk.written c.mend_heading.new.file)
           c.in_ok-mend_heading.ensures.kept,

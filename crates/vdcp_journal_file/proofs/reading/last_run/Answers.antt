@@ -5,7 +5,8 @@ use Rattle.vdcp_journal.specs.Runs.{Run, last_run, run_after}
 use Rattle.vdcp_journal.specs.declared.faults.JournalReadFault.TheVariants as unread
 use Rattle.vdcp_journal.specs.declared.row.Row.{Row}
 use Rattle.std.specs.Prelude.{Some}
-use Rattle.vdcp_journal_file.proofs.RowSteps.{begins, both_ok, of_run, other, some_rows}
+use Rattle.vdcp_journal_file.proofs.OpenedAgain.{both}
+use Rattle.vdcp_journal_file.proofs.RowSteps.{begins, both_ok, last_of, of_run, other, some_rows}
 use Rattle.vdcp_journal_file.proofs.reading.last_run.Goals as goal
 use Rattle.vdcp_journal_file.proofs.reading.last_run.Goals.{in-Some, in-None+in_ok-add-in-None}
 use Rattle.vdcp_journal_file.specs.Resuming.{no_journal}
@@ -19,6 +20,7 @@ loop-read-init g c = (
   refl,
   c.in-Ok.ensures.begun,
   record { is = c.begun-made.ensures (last_run []) refl refl refl; found = c.new-airings.ensures },
+  refl,
 )
 
 pub returns-in-Ok-None-clause-replayed : goal.returns-in-Ok-None-clause-replayed
@@ -33,9 +35,11 @@ returns-in-Ok-None-clause-replayed g c =
       wanted_is = sym c.next_row.ensures.heading ∙ p.0;
       run = last_run rows;
       last = (_, c.runs_follow_one_another.ensures.all rows);
-      on = p.1;
-    }) (both_ok c.the_last.result _ _ c.the_last.ensures.same
-    (c.the_last.ensures.goes_on _ (last_run rows) c.loop-read.invariant.3.is c.loop-read.invariant.3.found))
+      on = p.1.0;
+      noted_is = p.1.1 ∙ c.loop-read.invariant.4;
+    }) (both_ok c.the_last.result _ _ c.the_last.ensures.same (both c.the_last.result _ _
+    (c.the_last.ensures.goes_on _ (last_run rows) c.loop-read.invariant.3.is c.loop-read.invariant.3.found)
+    c.the_last.ensures.noted))
 
 pub returns-in-Ok-None-clause-refused : goal.returns-in-Ok-None-clause-refused
 returns-in-Ok-None-clause-refused g c =
@@ -74,6 +78,7 @@ loop-read-preserved g c =
             (w.followed-made.ensures c.args.wanted.now _ run (omega (arith, count)) c.loop-read.invariant.3.is)
             (w.in_ok-add-in-None.ensures c.args.wanted.now.mode run.rows c.loop-read.invariant.3.found (omega (arith, count, few))))
       ],
+      sym (last_of rows row),
     )
 
 pub returns-clause-refused : goal.returns-clause-refused

@@ -15,7 +15,7 @@ returns-clause-resumed g c =
     IfOk-weaker c.go_on.result _ _ (λ r p. (
       option_map whole_lines (g.F.Disk.written c.mend_end.new.file),
       replayed.run,
-      rw p.0 (replayed_of _ _ _ _ _ _ _ replayed),
+      rw p.0 (replayed_of _ _ _ _ _ _ _ _ replayed),
       rw p.0 replayed.on.from_is,
       subst (λ (o : Option Command). IfSome r.recorder (λ recorder. IsTimedOut o recorder.pending)) replayed.on.asked_is
           p.1.0,
