@@ -2,7 +2,7 @@
 ghost use Rattle.std.specs.Option.{option_copied, option_to_list};
 ghost use Rattle.std.specs.Prelude.{◌≡◌, ◌≤◌, ◌++◌, Err, IfNone, IfOk, IfSome, OnOk, Some, false, true};
 ghost use Rattle.vdcp_journal.specs.Rows.{AreBytesOf, rows_text};
-ghost use Rattle.vdcp_journal_file.specs.Recording.{FitHeldRows, announces, ended, failure_of, is_announced, rows_left, says_nothing_new, seen_before, seen_last, seen_of, is_again, with_play};
+ghost use Rattle.vdcp_journal_file.specs.Recording.{FitHeldRows, ended, failure_of, is_announced, rows_left, says_nothing_new, seen_before, seen_last, seen_of, is_again, with_play};
 ghost use Rattle.vdcp_journal_file.specs.declared.pending.Pending.TheVariants.{Failed};
 ghost use Rattle.vdcp_journal_file.specs.declared.pending.RecordFault.{RecordFault};
 
@@ -150,18 +150,11 @@ impl Pending {
     {
         match (self, row.note) {
             (Pending::Answered(Some(before), asks, hears), Note::Sent(Command::Play))
-                if before.is_waiting() => { Some(Pending::Played(before, asks, hears, row)) }
+                if before.state & CUE_DONE != 0 && before.state & PLAYING != 0 => {
+                Some(Pending::Played(before, asks, hears, row))
+            }
             _ => None,
         }
-    }
-}
-
-impl Seen {
-    // Whether the cue was done while a clip played.
-    fn is_waiting(self) -> bool
-        ensures { result ≡ announces (Some self) }
-    {
-        self.state & CUE_DONE != 0 && self.state & PLAYING != 0
     }
 }
 

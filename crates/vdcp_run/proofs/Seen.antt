@@ -22,7 +22,6 @@ use Rattle.vdcp_journal_file.specs.Recording.{Recording}
 use Rattle.vdcp_run.specs.Lapse.{Lapses, MayLapse}
 use Rattle.vdcp_run.specs.Session.{HasAwaited, HasPlayed, HasSession, HasTried, IsAsked, IsGiven, LastRound, Parts, Playing, Plays, Rounds, Runs, RunsBy, Start, TriesOver, broke, does_by, ended, missed, no_wire, over, played, rules_of, run_over, spent, tried, unbegun, unseen, went_on}
 use Rattle.vdcp_run.specs.Waiting.{AsksState, AwaitsIn, waiting_in}
-use Rattle.vdcp_run.specs.declared.lapsing.Since.{Since}
 use Rattle.vdcp_run.specs.declared.run_end.LineEnd.TheVariants as line_end
 use Rattle.vdcp_run.specs.declared.run_end.RunEnd.{RunEnd}
 use Rattle.vdcp_run.specs.declared.settings.RunSettings.{RunSettings}
@@ -262,13 +261,13 @@ awaited_seen does does' safe w acting settings start wire recorder end (broke wa
 
 -- ---- a silence by the clock
 
-pub lapses_so : {W : Type 0} (does : Act → W → W → Type 0) (lapsed : Bool) (since : Since) (act : Act) (old new : W)
-    → Lapses does lapsed since act old new → MayLapse does act old new
-lapses_so does lapsed since (sends bytes) old new h = h.0
-lapses_so does true since (brings what) old new h = inr h
-lapses_so does false since (brings what) old new h = inl h
-lapses_so does lapsed since drops old new h = h
-lapses_so does lapsed since fails old new h = h
+pub lapses_so : {W : Type 0} (does : Act → W → W → Type 0) (lapsed : Bool) (noted : Type 0) (act : Act) (old new : W)
+    → Lapses does lapsed noted act old new → MayLapse does act old new
+lapses_so does lapsed noted (sends bytes) old new h = h.0
+lapses_so does true noted (brings what) old new h = inr h
+lapses_so does false noted (brings what) old new h = inl h
+lapses_so does lapsed noted drops old new h = h
+lapses_so does lapsed noted fails old new h = h
 
 pub tries_at_silences : {W F : Type 0} (does : Act → W → W → Type 0) (safe : F → Option (List ℕ))
     (settings : RunSettings) (start : Start) (wire : W) (recorder : Option (Recording F)) (end : RunEnd)

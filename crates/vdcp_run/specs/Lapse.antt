@@ -1,7 +1,7 @@
 -- A silence that comes by the clock, if bytes keep coming.
 use Rattle.std.specs.Prelude.{ℕ, suc, zero, ◌≡◌, ◌⊎◌, ◌-◌, Bool, true, false, nat_le}
 use Rattle.vdcp_wire.specs.Acts.{Act, sends, brings, drops, fails}
-use Rattle.vdcp_wire.specs.Wires.{silence}
+use Rattle.vdcp_wire.specs.Wires.{Arrival, silence}
 use Rattle.vdcp_wire.specs.declared.wire.Came.{Came}
 use Rattle.vdcp_wire.specs.declared.wire.Came.TheVariants as brings
 use Rattle.vdcp_run.specs.declared.lapsing.Since.{Since}
@@ -20,13 +20,21 @@ since_with brings.Closed before = before
 since_with (brings.Bytes zero) before = before
 since_with (brings.Bytes (suc n)) before = since.Bytes
 
--- what the wire below does; at a silence by the clock that stays as it is. A command that is sent begins anew
-abbrev pub Lapses : {W : Type 0} → (Act → W → W → Type 0) → (lapsed : Bool) → (since' : Since) → Act → W → W → Type 0
-Lapses does lapsed since' (sends bytes) old new = does (sends bytes) old new × (since' ≡ since.Nothing)
-Lapses does true since' (brings what) old new = (what ≡ silence) × (new ≡ old)
-Lapses does false since' (brings what) old new = does (brings what) old new
-Lapses does lapsed since' drops old new = does drops old new
-Lapses does lapsed since' fails old new = does fails old new
+-- a command went out now
+abbrev pub IsNoted : Since → (sent now : ℕ) → Type 0
+IsNoted since' sent now = (since' ≡ since.Nothing) × (sent ≡ now)
+
+-- a listen brings a silence by the clock, and the wire below stays as it is; or what that brings
+abbrev pub LapsesAt : {W : Type 0} → (Act → W → W → Type 0) → (lapsed : Bool) → Arrival → W → W → Type 0
+LapsesAt does true what old new = (what ≡ silence) × (new ≡ old)
+LapsesAt does false what old new = does (brings what) old new
+
+-- so, and else what the wire below does. A command that is sent is noted
+abbrev pub Lapses : {W : Type 0} → (Act → W → W → Type 0) → (lapsed : Bool) → (noted : Type 0) → Act → W → W → Type 0
+Lapses does lapsed noted (sends bytes) old new = does (sends bytes) old new × noted
+Lapses does lapsed noted (brings what) old new = LapsesAt does lapsed what old new
+Lapses does lapsed noted drops old new = does drops old new
+Lapses does lapsed noted fails old new = does fails old new
 
 -- a wire does this, or a silence comes by the clock, and leaves it as it is
 abbrev pub MayLapse : {W : Type 0} → (Act → W → W → Type 0) → Act → W → W → Type 0

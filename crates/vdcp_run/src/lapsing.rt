@@ -2,7 +2,7 @@
 ghost use Rattle.std.specs.Prelude.{◌≡◌, ◌≤◌, ◌*◌, IfOk, OnErr, OnOk};
 ghost use Rattle.vdcp_wire.specs.Acts.{brings, fails};
 ghost use Rattle.vdcp_wire.specs.Wires.{arrival_of, FitsBuffer};
-ghost use Rattle.vdcp_run.specs.Lapse.{has_lapsed, since_with, Lapses};
+ghost use Rattle.vdcp_run.specs.Lapse.{has_lapsed, since_with, IsNoted, Lapses, LapsesAt};
 
 use crate::settings::RunSettings;
 use crate::stopwatch::{Stopwatch, nanoseconds};
@@ -48,42 +48,23 @@ impl<'a, R: Clock, W: Wire> Lapsing<'a, R, W> {
         }
     }
 
-    // Whether bytes came, and a silence's time has passed since the last command.
-    fn has_lapsed(&mut self) -> bool
-        ensures lapsed { result ≡ has_lapsed self.old.since self.old.silence self.old.sent self.new.stopwatch.now }
-        ensures keeps { self.new ≡ record self.old { stopwatch = self.new.stopwatch } }
-    {
-        let now = self.stopwatch.read();
-        match self.since {
-            Since::Nothing => false,
-            Since::Bytes => self.silence <= now.saturating_sub(self.sent),
-        }
-    }
-
-    // A command went out.
-    fn note_sent(&mut self)
-        ensures sent { self.new.sent ≡ self.new.stopwatch.now }
-        ensures since { self.new.since ≡ Since.Nothing }
-        ensures wire { self.new.wire ≡ self.old.wire }
-    {
-        self.sent = self.stopwatch.read();
-        self.since = Since::Nothing;
-    }
-
     // Listens once, unless a silence is due.
     fn listen_in_time(&mut self, buffer: &mut [u8; PIECE]) -> Result<Came, WireFault>
         requires { W.failures self.old.wire ≡ 0 }
         ensures fits { IfOk result FitsBuffer }
         ensures works { OnOk result (W.failures self.new.wire ≡ 0) }
         ensures failed { OnErr result (W.failures self.new.wire ≡ 1) }
-        ensures brings { IfOk result (λ came. Lapses W.does
-            (has_lapsed self.old.since self.old.silence self.old.sent self.new.stopwatch.now) self.new.since
-            (brings (arrival_of came buffer.new)) self.old.wire self.new.wire) }
+        ensures brings { IfOk result (λ came. LapsesAt W.does
+            (has_lapsed self.old.since self.old.silence self.old.sent self.new.stopwatch.now)
+            (arrival_of came buffer.new) self.old.wire self.new.wire) }
         ensures fails { OnErr result (W.does fails self.old.wire self.new.wire) }
         ensures since { IfOk result (λ came. self.new.since ≡ since_with came self.old.since) }
         ensures sent { self.new.sent ≡ self.old.sent }
     {
-        if self.has_lapsed() {
+        let now = self.stopwatch.read();
+        if let Since::Bytes = self.since
+            && self.silence <= now.saturating_sub(self.sent)
+        {
             self.since = Since::Nothing;
             return Ok(Came::Silence);
         }
@@ -107,8 +88,8 @@ fn since_with(came: Came, since: Since) -> Since
 impl<R: Clock, W: Wire> Wire for Lapsing<'_, R, W> {
     ghost use Rattle.std.specs.Prelude.{None, refl};
 
-    ghost does = { λ act old new. Lapses W.does (has_lapsed old.since old.silence old.sent new.stopwatch.now) new.since act
-        old.wire new.wire };
+    ghost does = { λ act old new. Lapses W.does (has_lapsed old.since old.silence old.sent new.stopwatch.now)
+        (IsNoted new.since new.sent new.stopwatch.now) act old.wire new.wire };
 
     ghost told = { λ _. None };
 
@@ -116,7 +97,8 @@ impl<R: Clock, W: Wire> Wire for Lapsing<'_, R, W> {
 
     fn send(&mut self, bytes: &[u8]) -> Result<(), WireFault> {
         let sent = self.wire.send(bytes);
-        self.note_sent();
+        self.sent = self.stopwatch.read();
+        self.since = Since::Nothing;
         sent
     }
 
