@@ -1,11 +1,14 @@
 -- What is held back: a row that asks for the state, and the bytes of commands.
 use Rattle.std.proofs.Common.{ℕ, ◌≡◌, ◌∙◌, List, [], Bool, ap, if◌then◌else◌, refl, subst, sym, true}
 use Rattle.arrayvec.specs.ArrayVec.{ArrayVec}
-use Rattle.std.specs.Prelude.{IfSome, IsTrue, Option}
+use Rattle.std.specs.Prelude.{IfSome, IsTrue, None, Option, Some}
+use Rattle.vdcp_auto.specs.declared.exchange.Heard.{Heard}
+use Rattle.vdcp_drive.specs.Steps.{end_of}
 use Rattle.vdcp_journal.specs.Rows.{AreBytesOf}
 use Rattle.vdcp_journal.specs.declared.row.Row.{Row}
 use Rattle.vdcp_journal_file.proofs.Chains.{plays_after}
 use Rattle.vdcp_journal.specs.Thinned.{asks_state}
+use Rattle.vdcp_journal_file.specs.Recorded.{Notes, NotesEnd}
 use Rattle.vdcp_journal_file.specs.Recording.{FitHeldRows, MakesSafe, Recording, after_row, ended, is_announced, rows_due, rows_left, says_nothing_new, seen_last, with_play}
 use Rattle.vdcp_journal_file.specs.declared.pending.HeldBytes.{HeldBytes}
 use Rattle.vdcp_journal_file.specs.declared.pending.Pending.{Pending}
@@ -44,3 +47,8 @@ held_back {F} safe old mid new row left last says asks is told same made added =
       rw (asks, told, file) added,
       made ∙ ap (λ (m : Recording F). record m { pending = pending.Asked last row }) same ∙ rw (asks, file, is) refl,
     )
+
+pub notes_end : {F : Type 0} (safe : F → Option (List ℕ)) (heard : Option Heard) (old new : Recording F)
+    → NotesEnd heard old new → Notes safe (end_of heard) old new
+notes_end safe None old new h = h
+notes_end safe (Some x) old new h = h

@@ -2,7 +2,7 @@
 ghost use Rattle.std.specs.Option.{option_copied, option_to_list};
 ghost use Rattle.std.specs.Prelude.{◌≡◌, ◌≤◌, ◌++◌, Err, IfNone, IfOk, IfSome, OnOk, Some, false, true};
 ghost use Rattle.vdcp_journal.specs.Rows.{AreBytesOf, rows_text};
-ghost use Rattle.vdcp_journal_file.specs.Recording.{FitHeldRows, ended, failure_of, is_announced, rows_left, says_nothing_new, seen_before, seen_last, seen_of, is_again, with_play};
+ghost use Rattle.vdcp_journal_file.specs.Recording.{FitHeldRows, end_note, ended, failure_of, is_announced, rows_left, says_nothing_new, seen_before, seen_last, seen_of, is_again, with_play};
 ghost use Rattle.vdcp_journal_file.specs.declared.pending.Pending.TheVariants.{Failed};
 ghost use Rattle.vdcp_journal_file.specs.declared.pending.RecordFault.{RecordFault};
 
@@ -10,7 +10,7 @@ use arrayvec::ArrayVec;
 use std::alloc::{AllocError, Global};
 use thiserror::Error;
 use vdcp_auto::Heard;
-use vdcp_journal::{Note, Row, write_row};
+use vdcp_journal::{Moment, Note, Row, write_row};
 use vdcp_text::Failure;
 use vdcp_words::state::{CUE_DONE, PLAYING};
 use vdcp_words::{Command, LONGEST, Reply};
@@ -54,10 +54,15 @@ pub struct HeldBytes {
 }
 
 impl Pending {
-    /// After the end of an exchange, which is noted in place of another one.
-    pub(crate) fn ended(self, row: Row) -> Pending
-        ensures { result ≡ ended self row }
+    /// After the end of an exchange, in which this was heard or nothing came; it is noted in place of another one.
+    pub(crate) fn ended(self, time: Moment, heard: Option<Heard>) -> Pending
+        ensures { result ≡ ended self (record { time = time; note = end_note heard }) }
     {
+        let note = match heard {
+            Some(heard) => Note::Heard(heard),
+            None => Note::Silence,
+        };
+        let row = Row { time, note };
         match self {
             Pending::Nothing | Pending::End(_) => Pending::End(row),
             Pending::Asked(before, asks) | Pending::Answered(before, asks, _) => {

@@ -10,7 +10,7 @@ ghost use Rattle.vdcp_auto.specs.Plan.{plan_of};
 ghost use Rattle.vdcp_drive.specs.Auto.{auto_of};
 ghost use Rattle.vdcp_drive.specs.Leaves.{RunLeaves};
 ghost use Rattle.vdcp_journal.specs.Thinned.{asks_state};
-ghost use Rattle.vdcp_journal_file.specs.Recorded.{IsRecorded, KeepsRow, Loses, LosesRow, MayHold, Notes, call_note, commands_of_note};
+ghost use Rattle.vdcp_journal_file.specs.Recorded.{IsRecorded, KeepsRow, Loses, LosesRow, MayHold, Notes, call_note};
 ghost use Rattle.vdcp_journal_file.specs.Recording.{Adds, AddsBeginning, FitHeldRows, IsSynced, IsUnwritten, MakesBeginning, MakesSafe, NotesFrom, Recording, after_row, end_note, ended, is_announced, outcome_rows, rows_due, rows_left, with_play};
 ghost use Rattle.vdcp_journal_file.specs.declared.pending.Pending.TheVariants.{Failed, Nothing};
 ghost use Rattle.vdcp_journal_file.specs.declared.pending.RecordFault.{RecordFault};
@@ -161,18 +161,6 @@ impl<'a, 'r, R: Clock + AllocGlobal, F: Disk + Drop> Recorder<'a, 'r, R, F> {
         Ok(())
     }
 
-    // Notes what ended an exchange, or the event that the run begins with, in place of what was pending.
-    fn note(&mut self, note: Note)
-        requires { commands_of_note note ≡ [] }
-        ensures { (time : Moment) × (self.new ≡ record self.old
-            { pending = ended self.old.pending (record { time = time; note = note }) }) }
-    {
-        self.pending = self.pending.ended(Row {
-            time: now(self.rt),
-            note,
-        });
-    }
-
     /// Notes the event that the run begins with, if one is named. It is written with the first command.
     pub(crate) fn note_from(&mut self, event: Option<usize>)
         requires { self.old.pending ≡ Nothing }
@@ -180,7 +168,10 @@ impl<'a, 'r, R: Clock + AllocGlobal, F: Disk + Drop> Recorder<'a, 'r, R, F> {
         ensures rest { self.new ≡ record self.old { pending = self.new.pending } }
     {
         if let Some(event) = event {
-            self.note(Note::From(event));
+            self.pending = Pending::End(Row {
+                time: now(self.rt),
+                note: Note::From(event),
+            });
         }
     }
 
@@ -282,10 +273,7 @@ impl<R: Clock + AllocGlobal, F: Disk + Drop> Keep for Recorder<'_, '_, R, F> {
     }
 
     fn note_end(&mut self, heard: Option<Heard>) {
-        match heard {
-            Some(heard) => self.note(Note::Heard(heard)),
-            None => self.note(Note::Silence),
-        }
+        self.pending = self.pending.ended(now(self.rt), heard);
     }
 
     fn keep_call(&mut self, call: Call) -> Result<(), KeepFault> {

@@ -1,20 +1,20 @@
-use Rattle.std.proofs.Common.{ap, refl, subst, sym}
+use Rattle.std.proofs.Common.{refl, subst, sym}
 use Rattle.vdcp_journal.specs.declared.row.Row.{Row}
-use Rattle.vdcp_journal_file.specs.Recorded.{MayHold, acting}
-use Rattle.vdcp_journal_file.specs.Recording.{FitHeldRows, IsSynced}
+use Rattle.vdcp_journal_file.specs.Recorded.{MayHold}
+use Rattle.vdcp_journal_file.specs.Recording.{FitHeldRows, IsSynced, end_note}
 use Rattle.vdcp_journal_file.specs.declared.pending.Pending.{Pending}
-use Rattle.vdcp_journal_file.proofs.Chains.{ended_may_hold}
+use Rattle.vdcp_journal_file.proofs.Chains.{end_note_no_act, ended_may_hold}
 use Rattle.vdcp_journal_file.proofs.Disking.{synced_at_end}
-use Rattle.vdcp_journal_file.proofs.Held.{held_at_end}
-use Rattle.vdcp_journal_file.proofs.recorder.Recorder.note.Goals as goal
+use Rattle.vdcp_journal_file.proofs.Held.{held_at_end, notes_end}
+use Rattle.vdcp_journal_file.proofs.recorder.RecorderKeep.note_end.Goals as goal
 
 pub invariant_of-self : goal.invariant_of-self
 invariant_of-self g c =
     let before = c.self.inside in
-    let row : Row = record { time = c.now.result; note = c.args.note } in (
+    let row : Row = record { time = c.now.result; note = end_note c.args.heard } in (
       c.self.invariant.0,
       subst (λ (p : Pending). MayHold p) (sym c.ended-self-inside.ensures)
-          (ended_may_hold before.pending row (ap acting c.requires) c.self.invariant.1),
+          (ended_may_hold before.pending row (end_note_no_act c.args.heard c.now.result) c.self.invariant.1),
       subst (λ (p : Pending). IsSynced p (g.F.Disk.safe before.file) (g.F.Disk.written before.file))
           (sym c.ended-self-inside.ensures)
           (synced_at_end before.pending row (g.F.Disk.safe before.file) (g.F.Disk.written before.file) c.self.invariant.2),
@@ -23,4 +23,5 @@ invariant_of-self g c =
     )
 
 pub returns : goal.returns
-returns g c = (c.now.result, rw (← c.self.view_is, c.ended-self-inside.ensures) refl)
+returns g c = notes_end g.F.Disk.safe c.args.heard _ _
+    (c.now.result, rw (← c.self.view_is, c.ended-self-inside.ensures) refl)
