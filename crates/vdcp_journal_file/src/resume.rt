@@ -39,8 +39,8 @@ pub struct Resumption<'a, 'r, R, S: Source, F: Disk = File> {
 
 /// Goes on with the last run of the journal of this name, if it is one of what is wanted: gives its rows to a new
 /// controller of the list, and times out the exchange that was open. If the run was lost, the controller may leave as
-/// many exchanges more unanswered, up to 1,000 in a row in all. A torn last row is cut off, and a torn first one is
-/// written. If it is refused nothing is written.
+/// many exchanges more unanswered, up to 1,000 in a row in all. A torn last row is cut off, a torn first one is
+/// written, and all rows are made safe. If it is refused nothing is written.
 pub fn resume_journal<'a, 'r, 's, R: Files<File = File> + Clock + AllocGlobal, S: Source>(
     rt: &'r R,
     name: &'a str,
