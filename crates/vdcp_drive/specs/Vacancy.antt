@@ -65,7 +65,7 @@ pub record Exchanged : Type 0 where
 abbrev pub heard_of : ℕ → Exchanged → Option Heard
 heard_of unit e = heard_in unit (concat e.pieces)
 
--- by this it leads from its question to what comes next
+-- what is heard in it leads from its question to what comes next
 abbrev pub Leads : ℕ → ℕ → Exchanged → Asking → Asking → Type 0
 Leads unit limit e old new =
     (unanswered : ℕ) × (old ≡ Asks e.question unanswered) × (new ≡ asking_after limit e.question unanswered (heard_of unit e))
@@ -91,7 +91,7 @@ asks question pieces = drops ∷ sends question ∷ comes pieces
 abbrev pub exchange : ℕ → ℕ → Exchanged → List Act
 exchange unit port e = asks (question_bytes unit port e.question) e.pieces ++ brings silence ∷ []
 
--- how the questions stop at one whose burst no silence ended: with this answer, by these last acts
+-- how the questions stop if no silence ends the last burst: the answer and the last acts
 pub data Stops (question : List ℕ) (left : ℕ) (answer : Result Vacancy WireFault) (last : List Act) : Type 0 where
   closed : (pieces : List (List ℕ)) → answer ≡ Ok vacancy.Closed → last ≡ asks question pieces ++ brings close ∷ []
       → Stops question left answer last
@@ -137,14 +137,14 @@ pub record HasAsked {W : Type 0} (does : Act → W → W → Type 0) (unit port 
   pub said : IfOk answer (IsSaid (map (heard_of unit) exchanges))
   pub listened : OnOk answer (length (came_in (flat_map (exchange unit port) exchanges ++ last)) + left ≡ listens)
 
--- how a burst ends of whose bytes this is heard: by these last acts
+-- how a burst ends, by its last acts, if this is heard of its bytes
 abbrev pub EndsBurst : ℕ → Option Heard → List Act → Result Burst WireFault → Type 0
 EndsBurst left heard last (Ok (burst.Ended h)) = (last ≡ brings silence ∷ []) × (h ≡ heard)
 EndsBurst left heard last (Ok burst.Closed) = last ≡ brings close ∷ []
 EndsBurst left heard last (Ok burst.Spent) = (last ≡ []) × (left ≡ 0)
 EndsBurst left heard last (Err fault) = last ≡ fails ∷ []
 
--- it was listened to
+-- a burst was listened to
 pub record HearsBurst {W : Type 0} (does : Act → W → W → Type 0) (unit listens left : ℕ) (wire wire' : W)
     (answer : Result Burst WireFault) : Type 0 where
   pub pieces : List (List ℕ)

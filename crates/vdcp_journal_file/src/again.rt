@@ -54,7 +54,7 @@ pub fn begin_again<'a, 'r, 's, R: Files<File = File> + Clock + AllocGlobal, S: S
     begin_in(rt, name, wanted, source, word, file)
 }
 
-// The same in this file, which has just the lines then that were read.
+// The same in this file, which then has just the lines that were read.
 fn begin_in<'a, 'r, 's, R: Clock + AllocGlobal, S: Source, F: ReadableDisk + Drop>(
     rt: &'r R,
     name: &'a str,

@@ -80,11 +80,11 @@ impl ReadableDisk for File {
     }
 }
 
-// How many bytes are left of a file of `all` bytes, if more follows its whole rows.
-fn size_left(whole: u64, all: u64) -> Option<u64>
-    ensures { result ≡ (if nat_lt whole all then Some whole else None) }
+// How many bytes stay of `all`, if they are more than `size`.
+fn size_left(size: u64, all: u64) -> Option<u64>
+    ensures { result ≡ (if nat_lt size all then Some size else None) }
 {
-    if whole < all { Some(whole) } else { None }
+    if size < all { Some(size) } else { None }
 }
 
 /// Appends bytes and makes them safe, with all before. If it fails, a beginning of them may be there.

@@ -70,7 +70,7 @@ fn is_torn(text: &[u8], row: &[u8]) -> bool
     text.len() < row.len() && begins(text, row)
 }
 
-// Whether a row begins with this text, at any time.
+// Whether a row begins with this text, whatever its time.
 fn begins(text: &[u8], row: &[u8]) -> bool
     requires { length text.now ≤ length row.now }
 {
@@ -120,8 +120,8 @@ pub(crate) fn mend_end<'a, R: Clock + AllocGlobal, S: Source, F: ReadableDisk>(
     }
 }
 
-// The last run of a journal's file, but for a last row that asks for the state, which may have gone out with or without
-// one; and how many bytes the rows are that it has then.
+// The last run of a journal's file, without a last row that asks for the state (its command may have gone out without a
+// row, too), and how many bytes the rows before that are.
 fn replay_kept<'a, 's, S: Source, F: ReadableDisk>(
     alloc: Global,
     name: &'a str,

@@ -40,7 +40,7 @@ pub struct Resumption<'a, 'r, R, S: Source, F: Disk = File> {
 /// Goes on with the last run of the journal of this name, if it is one of what is wanted: gives its rows to a new
 /// controller of the list, and times out the exchange that was open. If the run was lost, the controller may leave as
 /// many exchanges more unanswered, up to 1,000 in a row in all. A torn last row is cut off, a torn first one is
-/// written, and all rows are made safe. If it is refused nothing is written.
+/// written, and all rows are made safe. If a row is refused nothing is written.
 pub fn resume_journal<'a, 'r, 's, R: Files<File = File> + Clock + AllocGlobal, S: Source>(
     rt: &'r R,
     name: &'a str,
@@ -66,7 +66,7 @@ pub fn resume_journal<'a, 'r, 's, R: Files<File = File> + Clock + AllocGlobal, S
     resume_in(rt, name, wanted, source, file)
 }
 
-// The same of the journal in this file, which has just the lines then that were read.
+// The same of the journal in this file, which then has just the lines that were read.
 fn resume_in<'a, 'r, 's, R: Clock + AllocGlobal, S: Source, F: ReadableDisk + Drop>(
     rt: &'r R,
     name: &'a str,

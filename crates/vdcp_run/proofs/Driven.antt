@@ -25,12 +25,11 @@ use Rattle.vdcp_run.proofs.Seen.{Shows, run_seen}
 use Rattle.vdcp_run.specs.Ends.{line_end_of, outcome_in_list}
 use Rattle.vdcp_run.specs.Run.{ComesTo, HasAsrun, IsEndBy}
 use Rattle.vdcp_run.specs.Session.{CallsBy, HasOperated, IsClosed, IsGiven, LastRound, MissesBy, Parts, Playing, Plays, Rounds, Runs, RunsBy, ended, missed, rules_of, run_over, spent, start_of}
-use Rattle.vdcp_run.specs.Waiting.{AsksState, OnlyAsks, alone, asking}
+use Rattle.vdcp_run.specs.Waiting.{AsksState, IsRefused, OnlyAsks, alone, asking}
 use Rattle.vdcp_run.specs.declared.run_end.LineEnd.TheVariants as line_end
 use Rattle.vdcp_run.specs.declared.run_end.RunEnd.{RunEnd}
 use Rattle.vdcp_run.specs.declared.settings.RunSettings.{RunSettings}
 use Rattle.vdcp_value.specs.declared.part.Item.{Item}
-use Rattle.vdcp_words.specs.declared.command.Command.{Command}
 
 ended_with : {S E W K V : Type 0} (items : S → List Item) (rules : Rules W K V) (fold : Fold E) (failures : W → ℕ)
     (listens : ℕ) (old new : Driving S E W) (keep keep' : K) (watch watch' : V) (answer : Result Ran KeptFault)
@@ -100,22 +99,24 @@ kept_shown does safe sees = record {
 
 -- ---- An automation that only asks
 
-pub asks_so : {S E W K V : Type 0} (items : S → List Item) (does : Act → W → W → Type 0) (loses : Command → K → K → Type 0)
-    (sees : State → V → V → Type 0) (fold : Fold E) (failures : W → ℕ) (n listens : ℕ) → n ≡ listens
+pub asks_so : {S E W K V : Type 0} (items : S → List Item) (does : Act → W → W → Type 0) (sees : State → V → V → Type 0)
+    (fold : Fold E) (failures : W → ℕ) (n listens : ℕ) → n ≡ listens
     → (old new : Driving S E W) (keep keep' : K) (watch watch' : V) (answer : Result Ran KeptFault)
-    → RunLeaves items (record { does = does; adds = λ kept _ _. OnlyAsks kept; loses = loses; sees = sees }) fold failures n
+    → RunLeaves items (record
+    { does = does; adds = λ kept _ _. OnlyAsks kept; loses = λ command _ _. IsRefused command; sees = sees }) fold failures n
     old new keep keep' watch watch' answer → failures old.wire ≡ 0
     → AsksState does fold old.ear (plan_of items old.controller) old.unit listens old.controller.state old.wire new.wire
-asks_so items does loses sees fold failures n listens is old new keep keep' watch watch' answer left works = record {
+asks_so items does sees fold failures n listens is old new keep keep' watch watch' answer left works = record {
   left = auto_of new;
   answer = answer;
   ran = subst (λ (m : ℕ). HasRun (asking does) fold (plan_of items old.controller) old.unit m (auto_of old) (auto_of new)
       (alone old.wire) (alone new.wire) answer) is
-      (run_seen (record { does = does; adds = λ kept _ _. OnlyAsks kept; loses = loses; sees = sees }) (asking does)
+      (run_seen (record
+      { does = does; adds = λ kept _ _. OnlyAsks kept; loses = λ command _ _. IsRefused command; sees = sees }) (asking does)
       (λ wire. wire) (λ k. tt {0}) (λ v. tt {0}) (record {
         does = λ a o w h. h;
         adds = λ r o w h. h;
-        loses = λ c o w h. tt;
+        loses = λ c o w h. h;
         sees = λ s o w h. tt;
       }) fold (plan_of items old.controller) old.unit n (auto_of old) (auto_of new)
       (record { wire = old.wire; keep = keep; watch = watch }) (record { wire = new.wire; keep = keep'; watch = watch' })

@@ -1,5 +1,5 @@
 -- A session over a wire, seen at the wire below.
-use Rattle.std.proofs.Common.{◌≡◌, ◌∙◌, ℕ, List, [], ◌∷◌, ◌++◌, ap, inl, inr, refl, sym, subst}
+use Rattle.std.proofs.Common.{◌≡◌, ℕ, List, [], ◌∷◌, ◌++◌, ap, inl, inr, refl, sym, subst}
 use Rattle.std.specs.Prelude.{Bool, true, false, IfOk, OnErr, None, Some, Option, Result, Ok, Err}
 use Rattle.vdcp_auto.specs.Plan.{Plan}
 use Rattle.vdcp_auto.specs.State.{State, Stage}
@@ -9,7 +9,6 @@ use Rattle.vdcp_drive.specs.Hearing as ears
 use Rattle.vdcp_drive.specs.Leaves.{HasRun}
 use Rattle.vdcp_drive.specs.Reading.{holds}
 use Rattle.vdcp_drive.specs.Steps.{Chain, Does, Happens, Rules, Step, World, acts, keeps, looks, misses, steps_of}
-use Rattle.vdcp_drive.specs.Vacancy.{HasAsked}
 use Rattle.vdcp_drive.specs.declared.keep.Kept.{Kept}
 use Rattle.vdcp_drive.specs.declared.keep.KeptFault.{KeptFault}
 use Rattle.vdcp_drive.specs.declared.line.Ran.{Ran}
@@ -257,7 +256,9 @@ awaited_seen does does' safe w acting settings start wire recorder end (went_on 
     wire wire' awaits)
     (tries_seen does does' safe unseen unseen w (λ v. v) acting (λ s old new h. h) settings start
     (over wire' recorder) tt end tries)
-awaited_seen does does' safe w acting settings start wire recorder end (broke waits line) = broke waits line
+awaited_seen does does' safe w acting settings start wire recorder end (broke wire' awaits waits line) = broke (w wire')
+    (awaits_in_seen does does' w acting settings.hearing (waiting_in start.state.stage) settings refl start.plan start.state
+    wire wire' awaits) waits line
 
 -- ---- a silence by the clock
 

@@ -24,12 +24,12 @@ since_with (brings.Bytes (suc n)) before = since.Bytes
 abbrev pub IsNoted : Since → (sent now : ℕ) → Type 0
 IsNoted since' sent now = (since' ≡ since.Nothing) × (sent ≡ now)
 
--- a listen brings a silence by the clock, and the wire below stays as it is; or what that brings
+-- a listen brings a silence by the clock, and the wire below stays as it is; or it brings what the wire below brings
 abbrev pub LapsesAt : {W : Type 0} → (Act → W → W → Type 0) → (lapsed : Bool) → Arrival → W → W → Type 0
 LapsesAt does true what old new = (what ≡ silence) × (new ≡ old)
 LapsesAt does false what old new = does (brings what) old new
 
--- so, and else what the wire below does. A command that is sent is noted
+-- a listen does this, and all else is what the wire below does; a command that is sent is noted
 abbrev pub Lapses : {W : Type 0} → (Act → W → W → Type 0) → (lapsed : Bool) → (noted : Type 0) → Act → W → W → Type 0
 Lapses does lapsed noted (sends bytes) old new = does (sends bytes) old new × noted
 Lapses does lapsed noted (brings what) old new = LapsesAt does lapsed what old new

@@ -10,7 +10,7 @@ abbrev pub poll_of : Hearing → ℕ
 poll_of hears.AtSilences = 0
 poll_of (hears.AtOnce poll) = poll
 
--- a STATUS goes out once it is due
+-- a STATUS goes out once it is due, by the run's own stopwatch, which a sleep sets forward
 abbrev pub Polls : Command → (due now : ℕ) → Type 0
 Polls (command.Status groups) due now = due ≤ now
 Polls other due now = Unit {0}

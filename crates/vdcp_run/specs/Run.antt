@@ -85,7 +85,7 @@ IsUnlisted (Some (journals.New name)) failure = failure ≡ failures.Memory
 IsUnlisted (Some (journals.Older name)) failure = Unit {0}
 IsUnlisted (Some (journals.Again name)) failure = Unit {0}
 
--- the file of this name, if one is named, isn't this other one
+-- this value shows that the file of this name, if there is one, isn't this other file
 abbrev pub IsApart : Option (Bor (List ℕ)) → Bor (List ℕ) → Apart → Type 0
 IsApart name other apart = (apart.name ≡ name) × (apart.other ≡ other)
 
@@ -104,7 +104,7 @@ abbrev pub reported_text : Rate → List Item → (from reported : ℕ) → List
 reported_text rate items from reported =
     events_text rate (has_part items) from (take (reported - from) (drop from items))
 
--- the text that the file gets of a run that reported them: if a journal goes on, all that this shows
+-- the text that the file gets of a run that reported them: if a journal goes on, all that some journal of these items shows
 abbrev pub IsListed : Rate → Option RunJournal → List Item → (from reported : ℕ) → List ℕ → Type 0
 IsListed rate None items from reported text = text ≡ reported_text rate items from reported
 IsListed rate (Some (journals.New name)) items from reported text = text ≡ reported_text rate items from reported
@@ -185,13 +185,13 @@ IsUnkept settings items (Some journal) failure =
     (failure ≡ failures.Memory) ⊎ (IsJournalRefused settings items journal failure
     ⊎ IsPlaceRefused settings.asrun failure)
 
--- the one that isn't kept of a session that came to this: a new one, if nothing was sent
-abbrev pub unsent_journal : Result RunEnd Failure → Option RunJournal → Option (Bor (List ℕ))
-unsent_journal (Ok end) journal = None
-unsent_journal (Err failure) None = None
-unsent_journal (Err failure) (Some (journals.New name)) = Some name
-unsent_journal (Err failure) (Some (journals.Older name)) = None
-unsent_journal (Err failure) (Some (journals.Again name)) = None
+-- the one that isn't kept of a session that came to this: a new one, if the list wasn't begun
+abbrev pub unbegun_journal : Result RunEnd Failure → Option RunJournal → Option (Bor (List ℕ))
+unbegun_journal (Ok end) journal = None
+unbegun_journal (Err failure) None = None
+unbegun_journal (Err failure) (Some (journals.New name)) = Some name
+unbegun_journal (Err failure) (Some (journals.Older name)) = None
+unbegun_journal (Err failure) (Some (journals.Again name)) = None
 
 -- why the journal of this name isn't whole, if it isn't: it can't be written, or memory was refused
 abbrev pub MayBeUnkept : Option (Bor (List ℕ)) → Option Failure → Type 0

@@ -1,5 +1,5 @@
 -- What a session did: it asked the port, if it was to, and ran a driver, with the journal that it has, if it has one.
-use Rattle.std.specs.Prelude.{ℕ, ◌≡◌, ◌≢◌, ◌≤◌, ◌+◌, Bool, true, false, List, [], length, Option, None, Some, IsSome, Result, Ok, Err, IfOk}
+use Rattle.std.specs.Prelude.{ℕ, ◌≡◌, ◌≢◌, ◌≤◌, ◌+◌, Bool, true, false, List, [], length, Option, None, Some, IsSome, Result, Ok, Err}
 use Rattle.vdcp_auto.specs.Plan.{Plan, View, plan_of}
 use Rattle.vdcp_auto.specs.State.{State}
 use Rattle.vdcp_auto.specs.Turn.{given, outcome_of}
@@ -229,13 +229,14 @@ does_by hears.AtSilences does = does
 does_by (hears.AtOnce poll) does = MayLapse does
 
 -- over this wire the clip before was waited for, if that is needed, and then the list was played, if the answer let it be
--- begun; or the wire failed before
+-- begun; or the wire failed while it was waited for
 pub data HasAwaited {W F : Type 0} (does : Act → W → W → Type 0) (safe : F → Option (List ℕ))
     (settings : RunSettings) (start : Start) (wire : W) (recorder : Option (Recording F)) (end : RunEnd) : Type 0 where
   went_on : (wire' : W) → AwaitsClip does settings start.plan start.state wire wire'
       → HasTried does safe unseen settings start (over wire' recorder) tt end
       → HasAwaited does safe settings start wire recorder end
-  broke : IsSome (waiting_in start.state.stage) → end.line ≡ line_end.Failed
+  broke : (wire' : W) → AwaitsClip does settings start.plan start.state wire wire'
+      → IsSome (waiting_in start.state.stage) → end.line ≡ line_end.Failed
       → HasAwaited does safe settings start wire recorder end
 
 -- so over this wire

@@ -17,6 +17,7 @@ use Rattle.vdcp_log.specs.declared.hearing.Hearing.{Hearing}
 use Rattle.vdcp_log.specs.declared.hearing.Hearing.TheVariants as hears
 use Rattle.vdcp_run.specs.declared.settings.RunSettings.{RunSettings}
 use Rattle.vdcp_wire.specs.Acts.{Act}
+use Rattle.vdcp_words.specs.declared.command.Command.{Command}
 use Rattle.vdcp_words.specs.declared.command.Command.TheVariants as command
 
 -- a command that is kept asks for the state
@@ -30,11 +31,16 @@ OnlyAsks kept.Silence = Unit {0}
 abbrev pub alone : {W : Type 0} → W → World W (Unit {0}) (Unit {0})
 alone wire = record { wire = wire; keep = tt; watch = tt }
 
+-- only another command is refused
+abbrev pub IsRefused : Command → Type 0
+IsRefused (command.Status groups) = ⊥
+IsRefused other = Unit {0}
+
 abbrev pub asking : {W : Type 0} → (Act → W → W → Type 0) → Rules W (Unit {0}) (Unit {0})
 asking does = record {
   does = does;
   adds = λ kept _ _. OnlyAsks kept;
-  loses = λ command _ _. Unit {0};
+  loses = λ command _ _. IsRefused command;
   sees = λ state _ _. Unit {0};
 }
 

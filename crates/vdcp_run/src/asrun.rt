@@ -17,7 +17,7 @@ use vdcp_list::{Rest, write_events};
 use vdcp_text::Failure;
 use vdcp_value::Rate;
 
-/// Makes the as-run file of a run that has ended, if one is named, and the port was empty. An older file is there, whole,
+/// Makes the as-run file of a run that has ended, if one is named, unless the port was found not to be empty. An older file is there, whole,
 /// until the new one is; one of other bytes is kept beside, as `NAME.~N~`.
 pub fn save_asrun<'a, R: Files + AllocGlobal, S: Source>(
     rt: &R,

@@ -15,7 +15,7 @@ use vdcp_list::Rest;
 use vdcp_text::Failure;
 
 /// The controller of a run, and the recorder of its journal, if it has one and its controller hasn't ended there. The
-/// as-run list of a run with a journal has to have its place, apart from that. If it is refused no new journal is left.
+/// as-run list of a run with a journal has to have a place, and not the journal's file. If it is refused no new journal is left.
 pub fn begin<'a, 'r, 's, R: Files<File = File> + Clock + AllocGlobal, S: Source>(
     rt: &'r R,
     source: &'s S,

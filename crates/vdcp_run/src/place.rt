@@ -53,7 +53,7 @@ impl Place {
     }
 }
 
-/// The file of a name, if one is named, isn't this other one, which has to stay. Only the test makes one.
+/// Shows that the file of a name, if a name is given, isn't this other file, which has to stay. Only `test` makes an `Apart`.
 #[derive(Clone, Copy)]
 pub struct Apart<'a> {
     name: Option<&'a str>,
@@ -61,7 +61,7 @@ pub struct Apart<'a> {
 }
 
 impl<'a> Apart<'a> {
-    /// Tests it. Err has the name if both are of one file.
+    /// Tests that. Err has the name if both are of one file.
     pub fn test<R: Files>(rt: &R, name: Option<&'a str>, other: &'a str) -> Result<Self, &'a str>
         ensures apart { IfOk result (IsApart name.entry other.entry) }
         ensures same { IfErr result (λ same. name.entry ≡ Some same) }

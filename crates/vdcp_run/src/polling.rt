@@ -19,7 +19,7 @@ pub struct Polling<'a, R: Clock> {
 }
 
 impl<'a, R: Clock> Polling<'a, R> {
-    /// The pace of a run. One that hears at silences waits for nothing else.
+    /// The pace of a run. One that hears at silences doesn't wait.
     pub fn new(clock: &'a R, settings: RunSettings<'_>) -> Self
         ensures least { result.least ≡ poll_of settings.entry.hearing * 1000000 }
         ensures due { result.due ≡ 0 }

@@ -4,7 +4,7 @@ ghost use Rattle.std.specs.Prelude.{◌≡◌, ◌⊎◌, ◌≤◌, IfErr, IfOk
 ghost use Rattle.vdcp_files.specs.Files.{IsWholeList, file};
 ghost use Rattle.vdcp_list.specs.List.{items_of};
 ghost use Rattle.vdcp_list.specs.Playlists.{IsListOf};
-ghost use Rattle.vdcp_run.specs.Run.{IsApart, IsEventRefused, IsListRefused, IsNoEvent, IsNotBegun, IsPlayed, IsRun, IsRunRefused, IsUnplayed, first_event, told_of_list, unsent_journal};
+ghost use Rattle.vdcp_run.specs.Run.{IsApart, IsEventRefused, IsListRefused, IsNoEvent, IsNotBegun, IsPlayed, IsRun, IsRunRefused, IsUnplayed, first_event, told_of_list, unbegun_journal};
 ghost use Rattle.vdcp_text.specs.Failure.{failure_line};
 ghost use Rattle.vdcp_wire.specs.Address.{IsAddress};
 
@@ -154,18 +154,18 @@ fn run_list<
         Err(failure) => return Err(told_of_list(name, failure)),
     };
     let end = play_at(rt, address, begun, settings, showing, hand);
-    if let Some(name) = unsent_journal(&end, settings.journal) {
+    if let Some(name) = unbegun_journal(&end, settings.journal) {
         let _ = fs::remove_file(rt, name);
     }
     end
 }
 
-// The journal that isn't kept of a session that came to this: a new one, if nothing was sent.
-fn unsent_journal<'a>(
+// The journal that isn't kept of a session that came to this: a new one, if the list wasn't begun.
+fn unbegun_journal<'a>(
     end: &Result<RunEnd<'_>, Failure<'_>>,
     journal: Option<RunJournal<'a>>,
 ) -> Option<&'a str>
-    ensures { result ≡ unsent_journal end.now journal.entry }
+    ensures { result ≡ unbegun_journal end.now journal.entry }
 {
     match (end, journal) {
         (Err(_), Some(RunJournal::New(name))) => Some(name),

@@ -17,7 +17,7 @@ pub struct SavedText<'a> {
 }
 
 impl<'a> SavedText<'a> {
-    /// If the file of this name can be read, and has just this text.
+    /// What shows that the file of this name has just this text; None if it hasn't, or can't be read.
     pub fn find<R: Files + AllocGlobal>(rt: &R, name: &'a str, text: &[u8]) -> Option<Self>
         ensures { IfSome result (IsSaved name.entry text.now) }
     {

@@ -72,8 +72,8 @@ pub fn play_at<
     Ok(end)
 }
 
-/// How long the line has to be silent for an answer to be missing.
-pub fn silence_of(settings: RunSettings<'_>) -> Duration
+// How long the line has to be silent for an answer to be missing.
+fn silence_of(settings: RunSettings<'_>) -> Duration
     ensures { as_nanos result ≡ settings.entry.silence * 1000000 }
 {
     Duration::from_millis(u64::from(settings.silence))

@@ -14,8 +14,9 @@ use vdcp_log::Hearing;
 use vdcp_wire::{Wire, WireFault};
 use vdcp_words::Command;
 
-/// The wire, once no clip plays before one that is cued: if the controller asks whether its PLAY was lost, and would send
-/// it again at once, the state is asked over this wire until then. Err if the wire failed.
+/// The wire, once no clip plays before one that is cued, no listen is left, or the other end has closed, which shows later:
+/// if the controller asks whether its PLAY was lost, and would send it again at once, the state is asked over this wire
+/// until then. Err if the wire failed.
 pub fn await_clip<R: Clock, S: Source, W: Wire + Drop>(
     rt: &R,
     controller: &Controller<S>,
@@ -24,7 +25,8 @@ pub fn await_clip<R: Clock, S: Source, W: Wire + Drop>(
 ) -> Result<W, WireFault>
     requires unit { settings.unit ≤ 15 }
     requires works { W.failures wire ≡ 0 }
-    ensures awaits { IfOk result (AwaitsClip W.does settings.entry (plan_of S.items controller.now) controller.now.state wire) }
+    ensures awaits { (left : W) × IfOk result (λ w. w ≡ left)
+        × AwaitsClip W.does settings.entry (plan_of S.items controller.now) controller.now.state wire left }
     ensures works { IfOk result (λ w. W.failures w ≡ 0) }
     ensures fails { OnErr result (IsSome (waiting_in controller.now.state.stage)) }
 {
@@ -49,15 +51,16 @@ pub fn await_clip<R: Clock, S: Source, W: Wire + Drop>(
     }
 }
 
-// The wire of an automation that was run, but sent nothing but what asks for the state.
+// Runs an automation that sends only what asks for the state, and gives its wire.
 fn ask_by<R: Clock, S: Source + Copy, E: Ear + Drop, W: Wire + Drop>(
     rt: &R,
     mut driver: Driver<S, E, W>,
     settings: RunSettings<'_>,
 ) -> Result<W, WireFault>
     requires works { W.failures driver.wire ≡ 0 }
-    ensures asks { IfOk result (AsksState W.does E.fold driver.ear (plan_of S.items driver.controller) driver.unit
-        settings.entry.listens driver.controller.state driver.wire) }
+    ensures asks { (left : W) × IfOk result (λ w. w ≡ left)
+        × AsksState W.does E.fold driver.ear (plan_of S.items driver.controller) driver.unit settings.entry.listens
+        driver.controller.state driver.wire left }
     ensures works { IfOk result (λ w. W.failures w ≡ 0) }
 {
     let listens = u64::from(settings.listens);
@@ -73,9 +76,11 @@ fn ask_by<R: Clock, S: Source + Copy, E: Ear + Drop, W: Wire + Drop>(
 struct OnlyAsks;
 
 impl Keep for OnlyAsks {
-    ghost use Rattle.vdcp_run.specs.Waiting.{OnlyAsks};
+    ghost use Rattle.vdcp_run.specs.Waiting.{IsRefused, OnlyAsks};
 
     ghost adds = { λ kept _ _. OnlyAsks kept };
+
+    ghost loses = { λ command _ _. IsRefused command };
 
     fn keep_sent(&mut self, _unit: u8, command: &Command, _bytes: &[u8]) -> Result<(), KeepFault> {
         match command {

@@ -33,7 +33,7 @@ pub struct Entrance<'a, R: Net + Clock, L: io::Write> {
 
 impl<'a, R: Net + AllocGlobal + Clock, L: io::Write + Drop> Entrance<'a, R, L> {
     /// With this listener. A wait for a connection is no longer than a silence of one, or by the clock than a frame; the
-    /// log is told of each, of its messages and of its end.
+    /// log is told of each connection, of its messages and of its end.
     pub fn new(
         rt: &'a R,
         listener: R::Listener,

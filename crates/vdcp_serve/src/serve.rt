@@ -66,7 +66,7 @@ pub enum ServeEnd {
 }
 
 impl ServeEnd {
-    // By what the server's turns answered, and whether it gave the line up.
+    /// By what the server's turns answered, and whether it gave the line up.
     pub(crate) fn of_turns(ran: Ran, has_given_up: bool) -> ServeEnd
         requires { ran ≢ Ran.Ended }
         ensures { result ≡ end_of ran has_given_up }
@@ -80,7 +80,7 @@ impl ServeEnd {
         }
     }
 
-    // Its word.
+    /// Its word.
     pub(crate) fn word(self) -> &'static str
         ensures { result.now ≡ word_of self }
     {

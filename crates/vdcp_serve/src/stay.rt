@@ -45,7 +45,7 @@ pub trait Connections<W: Wire> {
     /// The address at the other end of the last line, if it is known.
     fn from(&self) -> Option<SocketAddr>;
 
-    /// It is told how the last line ended.
+    /// It is told how the last connection ended, or that it failed to be a line.
     fn tell_end(&mut self, end: Result<ServeEnd, DriveFault>)
         ensures { ends self.new ≡ adds_ends (end ∷ []) (ends self.old) };
 }
