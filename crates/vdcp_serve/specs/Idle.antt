@@ -1,6 +1,6 @@
 -- A line that is given up if nothing comes for too long.
 use Rattle.std.specs.Int.{div_ceil}
-use Rattle.std.specs.Prelude.{ℕ, suc, zero, ◌≡◌, ◌*◌, ◌+◌, ◌-◌, ◌^◌, Bool, true, false, Option, None, Some, max, min, nat_le}
+use Rattle.std.specs.Prelude.{ℕ, suc, zero, ◌≡◌, ◌⊎◌, ◌*◌, ◌+◌, ◌-◌, ◌^◌, Bool, true, false, Option, None, Some, max, min, nat_le}
 use Rattle.vdcp_wire.specs.declared.wire.Came.{Came}
 use Rattle.vdcp_wire.specs.declared.wire.Came.TheVariants as arrives
 use Rattle.vdcp_value.specs.Labels.{frames_per_second}
@@ -75,3 +75,4 @@ IdlingDoes does drops old new =
     does drops old.wire new.wire × (new.patience ≡ old.patience) × (new.listens ≡ old.listens)
 -- (a listen that fails is counted, and a drop isn't)
 IdlingDoes does fails old new = does fails old.wire new.wire × (new.patience ≡ old.patience)
+    × ((new.listens ≡ old.listens) ⊎ (new.listens ≡ listens_with old.patience old.listens))
