@@ -1,5 +1,5 @@
 //! How soon the state is asked again.
-ghost use Rattle.std.specs.Prelude.{◌≡◌, ◌*◌};
+ghost use Rattle.std.specs.Prelude.{◌≡◌, ◌<◌, ◌*◌};
 ghost use Rattle.vdcp_run.specs.Polls.{Polls, due_after, poll_of};
 
 use crate::settings::RunSettings;
@@ -38,11 +38,14 @@ impl<'a, R: Clock> Polling<'a, R> {
 
 impl<R: Clock> Pace for Polling<'_, R> {
     fn wait(&mut self, command: &Command)
-        ensures waits { Polls command.now self.old.due self.new.stopwatch.now }
-        ensures due { self.new.due ≡ due_after command.now self.old.least self.old.due self.new.stopwatch.now }
+        ensures waits { 0 < self.old.least → Polls command.now self.old.due self.new.stopwatch.now }
+        ensures due { 0 < self.old.least →
+            self.new.due ≡ due_after command.now self.old.least self.old.due self.new.stopwatch.now }
         ensures least { self.new.least ≡ self.old.least }
     {
-        if let Command::Status(_) = command {
+        if let Command::Status(_) = command
+            && self.least > 0
+        {
             self.stopwatch.sleep_until(self.due);
             self.due = self.stopwatch.read().saturating_add(self.least);
         }
