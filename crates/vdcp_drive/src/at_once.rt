@@ -47,6 +47,7 @@ impl Ear for AtOnce {
         false
     }
 
+    #[inline]
     fn read(&mut self, unit: u8, piece: &[u8]) -> (usize, Option<Heard>) {
         laws::laws_below();
         let Some(reader) = &mut self.reader else {

@@ -4,7 +4,7 @@ ghost use Rattle.std.specs.Prelude.{◌≡◌, ◌⊎◌, ◌≤◌, IfErr, IfOk
 ghost use Rattle.vdcp_files.specs.Files.{IsWholeList, file};
 ghost use Rattle.vdcp_list.specs.List.{items_of};
 ghost use Rattle.vdcp_list.specs.Playlists.{IsListOf};
-ghost use Rattle.vdcp_run.specs.Run.{IsApart, IsEventRefused, IsListRefused, IsNoEvent, IsNotBegun, IsPlayed, IsRun, IsRunRefused, IsUnplayed, first_event, told_of_list, unbegun_journal};
+ghost use Rattle.vdcp_run.specs.Run.{IsApart, IsEventRefused, IsListRefused, IsNoEvent, IsNotBegun, IsOverList, IsPlayed, IsRun, IsRunRefused, IsUnplayed, first_event, told_of_list, unbegun_journal};
 ghost use Rattle.vdcp_text.specs.Failure.{failure_line};
 ghost use Rattle.vdcp_wire.specs.Address.{IsAddress};
 
@@ -188,8 +188,21 @@ fn read_events<'a, R: Files + AllocGlobal, L: io::Read + Drop>(
     let name = list.name;
     let events = list.read_list(rt.alloc(), settings.rate)?;
     test_event(&events, settings.from)?;
-    match Apart::test(rt, settings.asrun, name) {
-        Ok(apart) => Ok((events, apart)),
+    let apart = test_list(rt, settings.asrun, name)?;
+    Ok((events, apart))
+}
+
+// Tests that the as-run file, if one is wanted, isn't that of the list.
+fn test_list<'a, R: Files>(
+    rt: &R,
+    asrun: Option<&'a str>,
+    list: &'a str,
+) -> Result<Apart<'a>, Failure<'a>>
+    ensures apart { IfOk result (IsApart asrun.entry list.entry) }
+    ensures over { IfErr result (IsOverList asrun.entry) }
+{
+    match Apart::test(rt, asrun, list) {
+        Ok(apart) => Ok(apart),
         Err(asrun) => Err(Failure::IsList(asrun)),
     }
 }
