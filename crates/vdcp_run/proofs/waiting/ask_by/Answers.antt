@@ -1,4 +1,3 @@
-use Rattle.std.proofs.Common.{refl}
 use Rattle.vdcp_run.proofs.Driven.{asks_so}
 use Rattle.vdcp_run.proofs.waiting.ask_by.Goals as goal
 
