@@ -1,14 +1,14 @@
 //! The settings of each subcommand but `run`, from its options.
 ghost use Rattle.std.specs.Prelude.{◌≤◌};
 
-use crate::number::{
-    COPY, CUT, DAMAGE, FORGE, LOSE, LOSSY_SILENCE, SEED, SERVE_SILENCE, WITHIN, cue_frames_of,
-    idle_of, limit_of, number_of, port_of, run_silence_of, turns_of, unit_of,
-};
-use crate::rate::rate_of;
 use clap::ArgMatches;
 use vdcp_auto::Mode;
 use vdcp_journal_file::AsrunSettings;
+use vdcp_line::number::{
+    COPY, CUT, DAMAGE, FORGE, LOSE, LOSSY_SILENCE, SEED, SERVE_SILENCE, WITHIN, cue_frames_of,
+    idle_of, limit_of, number_of, port_of, run_silence_of, turns_of, unit_of,
+};
+use vdcp_line::rate::rate_of;
 use vdcp_lossy::{Chances, LossySettings};
 use vdcp_offline::{JudgeSettings, SimSettings};
 use vdcp_probe::{AskSettings, Only, ProbeSettings};

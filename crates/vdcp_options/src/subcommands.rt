@@ -1,19 +1,17 @@
 //! Subcommands, from the words of the command line to the calls of their libraries.
-use crate::file::open_file;
-use crate::number::unit_of;
-use crate::output::{Output, capture_of};
-use crate::rate::rate_of;
 use crate::settings::{
     ask_settings_of, asrun_settings_of, judge_settings_of, lossy_settings_of, probe_settings_of,
     serve_settings_of, sim_settings_of,
 };
-use crate::system::System;
 use clap::ArgMatches;
 use std::fs::File;
 use std::io::{Read, Write};
 use std::os::unix::fs::MetadataExt;
 use vdcp_files::NamedFile;
 use vdcp_journal_file::{AsrunSettings, do_asrun, do_asrun_by_cues};
+use vdcp_line::number::unit_of;
+use vdcp_line::rate::rate_of;
+use vdcp_line::{Output, System, capture_of, open_file};
 use vdcp_log::{Lines, Screen, Telling};
 use vdcp_lossy::do_lossy;
 use vdcp_offline::{do_check, do_judge, do_sim, do_vectors};

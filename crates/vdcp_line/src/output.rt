@@ -9,13 +9,40 @@ use std::rt::Clock;
 use vdcp_files::{is_same_file, keep_older};
 use vdcp_journal::Moment;
 use vdcp_log::Screen;
-use vdcp_text::Failure;
+use vdcp_text::{Failure, NameText};
 
-/// A writer of a log or a capture.
+/// A writer of a log, a progress line or a capture.
 #[derive(Drop)]
 pub enum Output<'a> {
     Terminal(Screen<Stderr>),
+    Run(Resumable<'a>),
     Capture(Capture<'a>),
+}
+
+/// A terminal that shows a run. Before it shows anything it says how to go on with the journal: a run that is ended by
+/// Ctrl-C can't say it any more.
+#[derive(Drop)]
+pub struct Resumable<'a> {
+    screen: Screen<Stderr>,
+    // Its name, if there is one, and it wasn't told yet.
+    journal: Option<&'a str>,
+}
+
+impl<'a> Resumable<'a> {
+    /// One of a run with this journal, if it has one.
+    pub fn new(screen: Screen<Stderr>, journal: Option<&'a str>) -> Self {
+        Resumable { screen, journal }
+    }
+
+    fn write_after_hint(&mut self, bytes: &[u8]) -> io::Result<usize>
+        ensures { IfOk result (λ count. count ≤ length bytes.now) }
+    {
+        if let Some(name) = self.journal.take() {
+            let name = NameText(name);
+            writeln!(self.screen, "  after Ctrl-C go on with --resume {name}")?;
+        }
+        self.screen.write(bytes)
+    }
 }
 
 /// The file of a capture. Each row begins with the time at which it is written.
@@ -55,6 +82,7 @@ impl Write for Output<'_> {
     fn write(&mut self, bytes: &[u8]) -> io::Result<usize> {
         match self {
             Output::Terminal(screen) => screen.write(bytes),
+            Output::Run(run) => run.write_after_hint(bytes),
             Output::Capture(capture) => capture.write_row(bytes),
         }
     }
@@ -62,6 +90,7 @@ impl Write for Output<'_> {
     fn flush(&mut self) -> io::Result<()> {
         match self {
             Output::Terminal(screen) => screen.flush(),
+            Output::Run(run) => run.screen.flush(),
             Output::Capture(capture) => capture.file.flush(),
         }
     }

@@ -1,7 +1,7 @@
 //! Options that are numbers, each with its range.
 ghost use Rattle.clap.specs.Matches.{found_of};
 ghost use Rattle.std.specs.Prelude.{◌≡◌, ◌≤◌, ℕ, IfSome};
-ghost use Rattle.vdcp_options.specs.Options.{GivesNumber, WritesNumber};
+ghost use Rattle.vdcp_line.specs.Options.{GivesNumber, WritesNumber};
 
 use clap::{Arg, ArgMatches, value_parser};
 use std::alloc::{AllocError, Global};

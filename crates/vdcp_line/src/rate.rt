@@ -1,7 +1,7 @@
 //! The option `--rate`.
 ghost use Rattle.clap.specs.Matches.{found_of};
 ghost use Rattle.std.specs.Prelude.{◌≡◌, ◌≢◌, codes, IfSome, None};
-ghost use Rattle.vdcp_options.specs.Options.{GivesRate, NamesRate};
+ghost use Rattle.vdcp_line.specs.Options.{GivesRate, NamesRate};
 ghost use Rattle.vdcp_value.specs.declared.rate.Rate.{Rate};
 
 use clap::{Arg, ArgMatches};
