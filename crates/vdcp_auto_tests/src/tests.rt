@@ -1,11 +1,7 @@
-//! The worked courses of a controller, over a small source; and the rule book on small logs.
+//! The worked courses of a controller, over a small source.
+mod captured;
 mod clips;
 mod course;
 mod courses;
-mod desk;
-mod ends;
 mod equality;
-mod heard;
-mod judge;
 mod memory;
-mod wishes;

@@ -4,8 +4,4 @@
 #[cfg(test)]
 mod equality_tests;
 #[cfg(test)]
-mod limit_tests;
-#[cfg(test)]
 mod reader_tests;
-#[cfg(test)]
-mod tests;

@@ -153,7 +153,8 @@ fn end(rt: &HostRuntime, name: &str, outcome: Outcome) -> Result<usize, Fail> {
     Ok(settled)
 }
 
-/// A controller begins at an event after the last run of the journal of this name: how many events are left to it.
+/// A controller begins at an event after the last run of the journal of this name, and does nothing: how many events are left
+/// to it.
 fn open_again<'a>(
     rt: &HostRuntime,
     name: &'a str,
@@ -162,11 +163,7 @@ fn open_again<'a>(
     let heading = heading(rt, Mode::Plain)?;
     let list = list(rt)?;
     match begin_again(rt, name, &heading, &list, Some(event)) {
-        Ok(again) => {
-            let mut recorder = again.recorder.ok_or("a recorder")?;
-            recorder.finish(None).ok().ok_or("finished")?;
-            Ok(Ok(again.controller.source().len()))
-        }
+        Ok(again) => Ok(Ok(again.controller.source().len())),
         Err(failure) => Ok(Err(failure)),
     }
 }

@@ -1,10 +1,5 @@
 //! What a journal's bytes are read as.
 
-ghost use Rattle.std.specs.Prelude.{IfErr, IfOk, option_map};
-ghost use Rattle.vdcp_journal.specs.Journals.{AreLinesOf, IsLinesFault};
-ghost use Rattle.vdcp_journal.specs.Reading.{whole_lines};
-ghost use Rattle.vdcp_list.specs.Rows.{HasRows};
-
 use crate::tests::{TableNote, rows_of, time};
 use std::alloc::{AllocError, Global};
 use std::io::{ErrorKind, Read};
@@ -12,7 +7,7 @@ use std::process::Abort;
 use std::test::Fail;
 use vdcp_auto::Outcome;
 use vdcp_journal::{
-    Heading, JournalReadFault, JournalRowFault, JournalRows, Moment, Row, WholeLines, size_of_lines,
+    Heading, JournalReadFault, JournalRows, Moment, Row, WholeLines, size_of_lines,
 };
 use vdcp_testing::{FailingReader, Fails};
 
@@ -44,11 +39,7 @@ struct Journal {
 }
 
 // The journal whose rows these are.
-fn journal_of<R: Read + Drop>(alloc: Global, reader: R) -> Result<Journal, JournalReadFault>
-    ensures rows { IfOk result (λ journal. HasRows (R.remaining reader)
-        (λ lines. AreLinesOf lines journal.time journal.heading journal.rows.items)) }
-    ensures refused { IfErr result (λ fault. HasRows (R.remaining reader) (λ lines. IsLinesFault lines fault)) }
-{
+fn journal_of<R: Read + Drop>(alloc: Global, reader: R) -> Result<Journal, JournalReadFault> {
     let mut journal = JournalRows::begin(alloc, reader)?;
     let mut rows = Vec::new(alloc);
     for _ in 0..usize::MAX {
@@ -68,10 +59,7 @@ fn journal_of<R: Read + Drop>(alloc: Global, reader: R) -> Result<Journal, Journ
 }
 
 // The journal whose rows are the whole lines of these.
-fn journal_in<R: Read + Drop>(alloc: Global, reader: R) -> Result<Journal, JournalReadFault>
-    ensures { IfOk result (λ journal. HasRows (option_map whole_lines (R.remaining reader))
-        (λ lines. AreLinesOf lines journal.time journal.heading journal.rows.items)) }
-{
+fn journal_in<R: Read + Drop>(alloc: Global, reader: R) -> Result<Journal, JournalReadFault> {
     match WholeLines::new(alloc, reader) {
         Ok(mut lines) => journal_of(alloc, &mut lines),
         Err(_) => Err(JournalReadFault::Memory),
@@ -118,17 +106,6 @@ fn pieces(bytes: &[u8], piece: usize, fails: Fails) -> FailingReader<'_> {
     let mut reader = FailingReader::new(bytes, fails);
     reader.piece = piece;
     reader
-}
-
-#[test]
-fn a_journal_comes_in_small_pieces(rt: HostRuntime) -> Result<(), Fail> {
-    let alloc = rt.alloc();
-    let text = format!(in alloc; "{HEADING}{ROWS}{LAST_ROW}2026-11-24T09:3")?;
-    for piece in 1..8 {
-        let reader = pieces(text.as_bytes(), piece, Fails::Before(0));
-        expect_read(&rt, journal_in(alloc, reader))?;
-    }
-    Ok(())
 }
 
 #[test]
@@ -223,85 +200,4 @@ fn a_row_of_a_long_line_is_not_read(rt: HostRuntime) -> Result<(), Fail> {
         );
     }
     Ok(())
-}
-
-// Why these bytes are no journal.
-fn read_fault(alloc: Global, bytes: &[u8]) -> Option<JournalReadFault> {
-    journal_in(alloc, bytes).err()
-}
-
-// Lines that are no row, with why each isn't one.
-static NO_ROWS: [(&str, JournalRowFault); 12] = [
-    ("2026-11-24T09:30:00.125Z,silence,", JournalRowFault::Fields),
-    ("2026-11-24 09:30,silence,,", JournalRowFault::Time),
-    ("2026-11-24T09:30:00.125Z,quiet,,", JournalRowFault::Word),
-    (
-        "2026-11-24T09:30:00.125Z,sent,play,02021001ee",
-        JournalRowFault::Command,
-    ),
-    (
-        "2026-11-24T09:30:00.125Z,sent,stop,02021001ef",
-        JournalRowFault::Command,
-    ),
-    (
-        "2026-11-24T09:30:00.125Z,heard,ack,05",
-        JournalRowFault::Reply,
-    ),
-    (
-        "2026-11-24T09:30:00.125Z,end,missing,03",
-        JournalRowFault::Outcome,
-    ),
-    (
-        "2026-11-24T09:30:00.125Z,silence,,04",
-        JournalRowFault::Detail,
-    ),
-    (
-        "2026-11-24T09:30:00.125Z,take,now,",
-        JournalRowFault::Detail,
-    ),
-    ("2026-11-24T09:30:00.125Z,from,,", JournalRowFault::Event),
-    ("2026-11-24T09:30:00.125Z,from,04,", JournalRowFault::Event),
-    ("2026-11-24T09:30:00.125Z,from,4,4", JournalRowFault::Event),
-];
-
-#[test]
-fn a_line_that_is_no_row_is_refused(rt: HostRuntime) {
-    let alloc = rt.alloc();
-    for (line, fault) in NO_ROWS.iter() {
-        let row = "2026-11-24T09:30:00.125Z,silence,,";
-        let text = format!(in alloc; "{HEADING}{row}\n{line}\n").expect(&rt, "memory");
-        let refused = Some(JournalReadFault::Row(3, *fault));
-        assert_eq!(rt; read_fault(alloc, text.as_bytes()), refused, "{line}");
-    }
-}
-
-#[test]
-fn a_line_that_is_no_heading_is_refused(rt: HostRuntime) {
-    static CASES: [(&str, JournalReadFault); 6] = [
-        ("", JournalReadFault::Empty),
-        ("2026-11-24T09:30:00.125Z,list", JournalReadFault::Empty),
-        (
-            "2026-11-24T09:30:00.125Z,silence,,\n",
-            JournalReadFault::Heading(JournalRowFault::Fields),
-        ),
-        (
-            "2026-11-24T09:30:00.125Z,list,0f,plain,0,1,3\n",
-            JournalReadFault::Heading(JournalRowFault::Digest),
-        ),
-        (
-            "2026-11-24T09:30:00.125Z,list,0f0f0f0f0f0f0f0f0f0f0f0f0f0f0f0f0f0f0f0f0f0f0f0f0f0f0f0f0f0f0f0f,open,0,1,3\n",
-            JournalReadFault::Heading(JournalRowFault::Mode),
-        ),
-        (
-            "2026-11-24T09:30:00.125Z,list,0f0f0f0f0f0f0f0f0f0f0f0f0f0f0f0f0f0f0f0f0f0f0f0f0f0f0f0f0f0f0f0f,plain,16,1,3\n",
-            JournalReadFault::Heading(JournalRowFault::Number),
-        ),
-    ];
-    for (text, fault) in CASES.iter() {
-        assert_eq!(rt;
-            read_fault(rt.alloc(), text.as_bytes()),
-            Some(*fault),
-            "{text}"
-        );
-    }
 }

@@ -2,15 +2,6 @@
 use std::process::Abort;
 use vdcp_testing::FailingWriter;
 
-/// This many copies of a text.
-pub fn copies(rt: &(impl Abort + AllocGlobal), text: &str, count: usize) -> String {
-    let mut all = String::new(rt.alloc());
-    for _ in 0..count {
-        all.push_str(text).expect(rt, "memory");
-    }
-    all
-}
-
 /// What a run gives: the text on `out`, the text on `err`, and the status.
 pub type Run = (Vec<u8>, Vec<u8>, u8);
 

@@ -97,12 +97,7 @@ fn has(text: &[u8], part: &[u8]) -> bool
 }
 
 // A list, a script, and the text that their run gives.
-static PRINTED: [(&[u8], &[u8], &str); 7] = [
-    (
-        b"CLIP0001\nCLIP0002\n",
-        b"good 14\n",
-        "aired 0 CLIP0001\naired 1 CLIP0002\nreported 2\nexchanges 14\noutcome done\n",
-    ),
+static PRINTED: [(&[u8], &[u8], &str); 3] = [
     (
         b"CLIP0001,00:00:02:00,00:00:03:00\nCLIP0002,,\n",
         b"good 14\n",
@@ -117,21 +112,6 @@ static PRINTED: [(&[u8], &[u8], &str); 7] = [
         b"CLIP0001\nCLIP0009\n",
         b"good 20\r\n",
         "aired 0 CLIP0001\nreported 1\nexchanges 8\noutcome missing 1\n",
-    ),
-    (
-        b"CLIP0001\n",
-        b"tick\nlose-down\ntimeout\ntick\nlose-down\ntimeout\ntick\nlose-down\ntimeout\n",
-        "reported 0\nexchanges 3\noutcome lost\n",
-    ),
-    (
-        b"CLIP0001\n",
-        b"good 5\ntick\ndown\nlose-up\nstop\ntimeout\ngood 2\n",
-        "aired 0 CLIP0001\nreported 0\nexchanges 8\noutcome stopped\n",
-    ),
-    (
-        b"CLIP0001\n",
-        b"",
-        "reported 0\nexchanges 0\noutcome open\n",
     ),
 ];
 
@@ -162,262 +142,51 @@ fn exchanges_are_traced(rt: HostRuntime) {
     assert!(rt; has(out.as_slice(), six_and_seven));
 }
 
+// In the other modes and on the other line.
 #[test]
-fn a_cue_takes_its_frames(rt: HostRuntime) {
-    let settings = SimSettings {
-        cue_frames: 3,
-        ..TRACED
-    };
-    let script = b"round 4\nframe 2\nround\nframe\nround 3\nframe 249\nround\nframe\nround 2\n";
-    let text = "1 open 01 01 -> granted\n2 select 01 -> ack\n3 exists CLIP0001 -> present\n\
-        4 cue CLIP0001 -> ack\n5 status 01 -> state 02\n6 status 01 -> state 80\n7 play -> ack\n\
-        8 active -> active CLIP0001\n9 status 01 -> state 04\n10 status 01 -> state 01\n\
-        11 close 01 -> ack\naired 0 CLIP0001\nreported 1\nexchanges 11\noutcome done\n";
-    expect_text(&rt, b"CLIP0001\n", script, settings, text);
-}
-
-#[test]
-fn a_controller_confirms(rt: HostRuntime) {
-    static ROWS: [(&[u8], &[u8], &str); 5] = [
+fn a_clip_airs_in_each_mode(rt: HostRuntime) {
+    static ROWS: [(SimSettings, &[u8], &str); 3] = [
         (
-            b"CLIP0001\n",
+            CONFIRMING,
             b"good 12\n",
             "aired 0 CLIP0001\nreported 1\nexchanges 11\noutcome done\n",
         ),
         (
-            b"CLIP0001\n",
-            b"tick\nstray-nak 01\nalter-up 04\nup\n",
-            "reported 0\nexchanges 0\noutcome open\n",
+            LATE,
+            b"good 9\n",
+            "aired 0 CLIP0001\nreported 1\nexchanges 9\noutcome done\n",
         ),
         (
-            b"CLIP0001\n",
-            b"good 4\ntick\nlose-down\ntimeout\ngood\ntick\nlose-down\ntimeout\ngood\ntick\nlose-down\ntimeout\ngood\n",
-            "reported 0\nexchanges 10\noutcome refused 0\n",
-        ),
-        (
-            b"CLIP0001\n",
-            b"good 4\ntick\nlose-down\ntimeout\ngood\ntick\nlose-down\ntimeout\ngood\n",
-            "reported 0\nexchanges 8\noutcome open\n",
-        ),
-        (
-            b"CLIP0001,00:00:08:00,00:00:03:00\n",
-            b"good 20\n",
-            "reported 0\nexchanges 10\noutcome refused 0\n",
+            LATE_CONFIRMING,
+            b"good 12\n",
+            "aired 0 CLIP0001\nreported 1\nexchanges 11\noutcome done\n",
         ),
     ];
-    for (list, script, text) in ROWS.iter() {
-        expect_text(&rt, list, script, CONFIRMING, text);
-    }
-}
-
-#[test]
-fn a_lost_play_is_asked_after(rt: HostRuntime) {
-    let settings = SimSettings {
-        trace: true,
-        ..CONFIRMING
-    };
-    let script = b"good 6\ntick\nstray-ack\nlose-down\ntimeout\ngood 7\n";
-    let (out, _, _) = ran(
-        rt.alloc(),
-        (b"CLIP0001\n", CLIPS, script.as_slice()),
-        settings,
-    );
-    let seven_and_eight = b"\n7 play -> silence\n8 status 01 -> state 80\n9 ";
-    let end = b"aired 0 CLIP0001\nreported 1\nexchanges 13\noutcome done\n";
-    let seen = (
-        has(out.as_slice(), seven_and_eight),
-        out.as_slice().ends_with(end),
-    );
-    assert_eq!(rt; seen, (true, true));
-}
-
-#[test]
-fn a_late_line_keeps_its_bursts(rt: HostRuntime) {
-    // (the answer to PLAY comes after its time-out, and is heard for the STATUS after it)
-    let script =
-        b"good 5\ntick\ndown\ntimeout\ntick\nup\ntick\ndown\nup\nlose-down\nround\nend\nround 2\n";
-    let text = "1 open 01 01 -> granted\n2 select 01 -> ack\n3 exists CLIP0001 -> present\n\
-        4 cue CLIP0001 -> ack\n5 status 01 -> state 80\n6 play -> silence\n7 status 01 -> ack\n\
-        8 status 01 -> state 04\n9 active -> active CLIP0001\n10 status 01 -> state 01\n\
-        11 close 01 -> ack\naired 0 CLIP0001\nreported 1\nexchanges 11\noutcome done\n";
-    expect_text(&rt, b"CLIP0001\n", script, LATE_TRACED, text);
-}
-
-#[test]
-fn bursts_of_a_late_line_are_copied_lost_altered_and_made_up(rt: HostRuntime) {
-    static ROWS: [(&[u8], &str); 7] = [
-        (
-            b"tick\ntimeout\ntick\nlose-down 2\nlose-down 2\ndown\nup\nround\n",
-            "1 open 01 01 -> silence\n2 open 01 01 -> granted\n3 select 01 -> ack\n\
-             reported 0\nexchanges 3\noutcome open\n",
-        ),
-        (
-            b"tick\ndown-copy\ndown-copy\nlose-up 2\nup\nup\nround\n",
-            "1 open 01 01 -> granted\n2 select 01 -> granted\nreported 0\nexchanges 2\noutcome open\n",
-        ),
-        (
-            b"junk-down ff\nround\n",
-            "1 open 01 01 -> nak 04\nreported 0\nexchanges 1\noutcome open\n",
-        ),
-        (
-            b"tick\njunk-down ff\ndown\nup\n",
-            "1 open 01 01 -> granted\nreported 0\nexchanges 1\noutcome open\n",
-        ),
-        (
-            b"junk-up 0580\nround\n",
-            "1 open 01 01 -> nak 80\nreported 0\nexchanges 1\noutcome open\n",
-        ),
-        (
-            b"alter-up 0580\nalter-down ff\ntick\ndown\nalter-up 0580\nup\n",
-            "1 open 01 01 -> nak 80\nreported 0\nexchanges 1\noutcome open\n",
-        ),
-        (
-            b"tick\njunk-up 04\nstray-ack\nstray-nak 01\nup\n",
-            "reported 0\nexchanges 0\noutcome open\n",
-        ),
-    ];
-    for (script, text) in ROWS.iter() {
-        expect_text(&rt, b"CLIP0001\n", script, LATE_TRACED, text);
-    }
-}
-
-// A script, its settings, and the text that its run gives.
-static STARTED_ANEW: [(&[u8], SimSettings, &str); 8] = [
-    (
-        b"good 9\n",
-        LATE,
-        "aired 0 CLIP0001\nreported 1\nexchanges 9\noutcome done\n",
-    ),
-    (
-        b"good 6\nserver-anew\ngood\n",
-        LATE,
-        "aired 0 CLIP0001\nreported 1\nexchanges 7\noutcome refused 0\n",
-    ),
-    (
-        b"good 5\ntick\ndown\nautomation-anew\nlose-up\ngood 4\n",
-        LATE,
-        "aired 0 CLIP0001\nreported 1\nexchanges 10\noutcome done\n",
-    ),
-    (
-        b"stop\nautomation-anew\ngood 9\n",
-        LATE,
-        "aired 0 CLIP0001\nreported 1\nexchanges 9\noutcome done\n",
-    ),
-    (
-        b"good 12\n",
-        LATE_CONFIRMING,
-        "aired 0 CLIP0001\nreported 1\nexchanges 11\noutcome done\n",
-    ),
-    (
-        b"tick\ntimeout\ntick\ndown\nup\nlose-down\ngood 11\n",
-        LATE_CONFIRMING,
-        "aired 0 CLIP0001\nreported 1\nexchanges 12\noutcome done\n",
-    ),
-    (
-        b"good 7\nserver-anew\ngood 4\n",
-        LATE_CONFIRMING,
-        "aired 0 CLIP0001\nreported 0\nexchanges 10\noutcome lost\n",
-    ),
-    (
-        b"tick\njunk-up 04\nup\nstray-ack\ndown\nup\ngood 6\nautomation-anew\ngood 5\n",
-        LATE_CONFIRMING,
-        "aired 0 CLIP0001\nreported 1\nexchanges 11\noutcome done\n",
-    ),
-];
-
-#[test]
-fn an_end_is_started_anew(rt: HostRuntime) {
-    for (script, settings, text) in STARTED_ANEW.iter() {
+    for (settings, script, text) in ROWS.iter() {
         expect_text(&rt, b"CLIP0001\n", script, *settings, text);
     }
 }
 
-#[test]
-fn a_late_cue_takes_its_frames(rt: HostRuntime) {
-    let settings = SimSettings {
-        cue_frames: 3,
-        ..LATE
-    };
-    let script = b"round 4\nframe 2\nround\nframe\nround 3\nframe 250\nround 2\n";
-    let text = "aired 0 CLIP0001\nreported 1\nexchanges 10\noutcome done\n";
-    expect_text(&rt, b"CLIP0001\n", script, settings, text);
-}
-
-#[test]
-fn a_script_of_a_late_line_is_refused(rt: HostRuntime) {
-    static ROWS: [(&[u8], SimSettings, &str); 9] = [
-        (b"server-anew\n", PLAIN, "vdcp: script.txt: line 1: word\n"),
-        (
-            b"automation-anew\n",
-            CONFIRMING,
-            "vdcp: script.txt: line 1: word\n",
-        ),
-        (
-            b"tick\nlose-down 2\n",
-            PLAIN,
-            "vdcp: script.txt: line 2: word\n",
-        ),
-        (b"lose-up 1\n", PLAIN, "vdcp: script.txt: line 1: word\n"),
-        (b"junk-down ff\n", PLAIN, "vdcp: script.txt: line 1: word\n"),
-        (
-            b"junk-up ff\n",
-            CONFIRMING,
-            "vdcp: script.txt: line 1: word\n",
-        ),
-        (b"server-anew 1\n", LATE, "vdcp: script.txt: line 1: word\n"),
-        (b"lose-down 0\n", LATE, "vdcp: script.txt: line 1: number\n"),
-        (
-            b"junk-down 0\n",
-            LATE_CONFIRMING,
-            "vdcp: script.txt: line 1: hex\n",
-        ),
-    ];
-    for (script, settings, line) in ROWS.iter() {
-        expect_refused(&rt, b"CLIP0001\n", script, *settings, line);
-    }
-}
-
-fn expect_refused(
-    rt: &(impl Abort + AllocGlobal),
-    list: &[u8],
-    script: &[u8],
-    settings: SimSettings,
-    line: &str,
-) {
-    let run = ran(rt.alloc(), (list, CLIPS, script), settings);
+fn expect_refused(rt: &(impl Abort + AllocGlobal), script: &[u8], line: &str) {
+    let run = ran(rt.alloc(), (b"", CLIPS, script), PLAIN);
     expect_run(rt, script, &run, ("", line, 1));
 }
 
 #[test]
 fn refusals_are_told(rt: HostRuntime) {
-    static ROWS: [(&[u8], &[u8], &str); 7] = [
-        (b"", b"tick\n\njump\n", "vdcp: script.txt: line 3: word\n"),
-        (b"", b"round 0\n", "vdcp: script.txt: line 1: number\n"),
+    static ROWS: [(&[u8], &str); 5] = [
+        (b"tick\n\njump\n", "vdcp: script.txt: line 3: word\n"),
+        (b"round 0\n", "vdcp: script.txt: line 1: number\n"),
+        (b"# damage\nalter-up 0\n", "vdcp: script.txt: line 2: hex\n"),
         (
-            b"",
-            b"# damage\nalter-up 0\n",
-            "vdcp: script.txt: line 2: hex\n",
-        ),
-        (
-            b"",
             b"good 10000\ngood 10000\ngood 10000\ngood 10000\ngood 10000\ngood 10000\n\
               good 10000\ngood 10000\ngood 10000\ngood 10000\ngood 10000\n",
             "vdcp: script.txt: too many\n",
         ),
-        (b"", b"tick\n\xff\n", "vdcp: script.txt: text\n"),
-        (
-            b"CLIP0001\n\"\"\n",
-            b"jump\n",
-            "vdcp: list.csv: row 2: id\n",
-        ),
-        (
-            b"CLIP0001\nCLIP0002,,\n",
-            b"\xff",
-            "vdcp: list.csv: row 2: columns\n",
-        ),
+        (b"tick\n\xff\n", "vdcp: script.txt: text\n"),
     ];
-    for (list, script, line) in ROWS.iter() {
-        expect_refused(&rt, list, script, PLAIN, line);
+    for (script, line) in ROWS.iter() {
+        expect_refused(&rt, script, line);
     }
 }
 

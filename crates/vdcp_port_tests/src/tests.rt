@@ -1,14 +1,11 @@
 //! What a port answers to bursts and messages, and what airs.
 
-use arrayvec::ArrayVec;
 use std::alloc::{AllocError, Allocator, Global};
 use std::process::Abort;
 use std::test::Fail;
-use vdcp_frame::{Ended, Message};
-use vdcp_port::{Catalogue, Port, reply_at_end};
+use vdcp_port::{Catalogue, Port};
 use vdcp_testing::two_clips;
-use vdcp_value::{ClipId, Item, Part, Timecode};
-use vdcp_words::{Command, Reply};
+use vdcp_value::{ClipId, Item, Timecode};
 
 /// A catalogue of two clips.
 pub type TwoClips = [(ClipId, Timecode); 2];
@@ -22,11 +19,7 @@ const OPEN: &'static [u8] = &[0x02, 0x04, 0x30, 0x01, 0x01, 0x01, 0xCD];
 
 const SELECT: &'static [u8] = &[0x02, 0x03, 0x20, 0x22, 0x01, 0xBD];
 
-const CLOSE: &'static [u8] = &[0x02, 0x03, 0x20, 0x21, 0x01, 0xBE];
-
 const STATUS: &'static [u8] = &[0x02, 0x03, 0x30, 0x05, 0x01, 0xCA];
-
-const ACTIVE: &'static [u8] = &[0x02, 0x02, 0x30, 0x07, 0xC9];
 
 pub const PLAY: &'static [u8] = &[0x02, 0x02, 0x10, 0x01, 0xEF];
 
@@ -108,56 +101,17 @@ pub fn expect<C: Catalogue>(
     Ok(())
 }
 
-/// Each of this many frames answers this (a cue was done, a clip ended), and the port is then in this state.
-fn expect_frames<C: Catalogue>(
-    rt: &impl Abort,
-    port: &mut Port<C>,
-    count: u32,
-    done_and_ended: (bool, bool),
-    state: u8,
-) {
-    let mut other = None;
-    for frame in 0..count {
-        let answer = port.frame();
-        if other.is_none() && answer != done_and_ended {
-            other = Some((frame, answer));
-        }
-    }
-    assert_eq!(rt;
-        (other, port.status_byte()),
-        (None, state),
-        "in {count} frames that answer {done_and_ended:?}"
-    );
-}
-
-static NEW_PORT: [(&[u8], &[u8]); 15] = [
-    (&[], &[]),
+static NEW_PORT: [(&[u8], &[u8]); 4] = [
     (PLAY, &[0x05, 0x01]),
-    (STOP, &[0x05, 0x01]),
-    (STATUS, &[0x05, 0x01]),
-    (ACTIVE, &[0x05, 0x01]),
-    (CUE_1, &[0x05, 0x01]),
-    (SELECT, &[0x05, 0x01]),
-    (CLOSE, &[0x04]),
-    (&[0x02, 0x03, 0x20, 0x21, 0x02, 0xBD], &[0x05, 0x01]),
     (
         &[0x02, 0x04, 0x30, 0x01, 0x02, 0x01, 0xCC],
         &[0x02, 0x03, 0x30, 0x81, 0x00, 0x4F],
     ),
     (&[0x02, 0x02, 0x11, 0x01, 0xEE], &[]),
     (
-        b"\x02\x0A\x30\x16CLIP0001\xD1",
-        &[0x02, 0x03, 0x30, 0x96, 0x01, 0x39],
-    ),
-    (
-        b"\x02\x0A\x30\x16CLIP0009\xC9",
-        &[0x02, 0x03, 0x30, 0x96, 0x00, 0x3A],
-    ),
-    (
         b"\x02\x0A\x30\x14CLIP0001\xD3",
         &[0x02, 0x06, 0x30, 0x94, 0x00, 0x10, 0x00, 0x00, 0x2C],
     ),
-    (b"\x02\x0A\x30\x14CLIP0009\xCB", &[0x05, 0x01]),
 ];
 
 #[test]
@@ -169,9 +123,8 @@ fn a_new_port_answers_by_its_table(rt: HostRuntime) -> Result<(), Fail> {
     Ok(())
 }
 
-static SELECTED_PORT: [(&[u8], &[u8], u8); 18] = [
+static SELECTED_PORT: [(&[u8], &[u8], u8); 13] = [
     (CUE_1, &[0x04], 0x02),
-    (b"\x02\x0A\x20\x24CLIP0009\xCB", &[0x05, 0x01], 0x01),
     (&[0x02, 0x02, 0x10, 0x01, 0xEE], &[0x05, 0x04], 0x01),
     (&[0x03, 0x04], &[0x05, 0x04], 0x01),
     (&[0x02, 0x01, 0x10, 0xF0], &[0x05, 0x04], 0x01),
@@ -185,18 +138,6 @@ static SELECTED_PORT: [(&[u8], &[u8], u8); 18] = [
     ),
     (&[0x02, 0x02, 0x11, 0x01, 0xEE], &[], 0x01),
     (&[0x02, 0x03, 0x10, 0x01, 0x00, 0xEF], &[0x05, 0x01], 0x01),
-    (
-        &[0x02, 0x03, 0x30, 0x05, 0x02, 0xC9],
-        &[0x02, 0x03, 0x30, 0x85, 0x00, 0x4B],
-        0x01,
-    ),
-    (
-        &[0x02, 0x02, 0x10, 0x01, 0xEF, 0xFF, 0x04],
-        &[0x04, 0x05, 0x04],
-        0x01,
-    ),
-    (&[0x04, 0x05, 0x01], &[], 0x01),
-    (ACTIVE, &[0x02, 0x03, 0x30, 0x87, 0x00, 0x49], 0x01),
     // A part of three seconds from 2, 7 and 8 seconds on.
     (
         b"\x02\x12\x20\x25CLIP0001\x00\x02\x00\x00\x00\x03\x00\x00\xCD",
@@ -287,7 +228,7 @@ const REFUSED: &'static [u8] = &[0x05, 0x01];
 const NOTHING: &'static [u8] = &[];
 
 /// What happens, what goes out for it, the port's state then, and the clip that airs.
-static HAPPENINGS: [(Happening, &[u8], u8, Option<&[u8; 8]>); 14] = [
+static HAPPENINGS: [(Happening, &[u8], u8, Option<&[u8; 8]>); 12] = [
     (Happening::Comes(CUE_1), ACK, 0x02, None),
     (Happening::Comes(PLAY), ACK, 0x02, None),
     (Happening::Ready, NOTHING, 0x80, None),
@@ -297,16 +238,9 @@ static HAPPENINGS: [(Happening, &[u8], u8, Option<&[u8; 8]>); 14] = [
     (Happening::Comes(CUE_9), REFUSED, 0x06, None),
     (Happening::Ready, NOTHING, 0x84, None),
     (Happening::Comes(PLAY), ACK, 0x04, Some(TWO)),
-    (
-        Happening::Comes(ACTIVE),
-        b"\x02\x0B\x30\x87\x01CLIP0002\x5E",
-        0x04,
-        None,
-    ),
     (Happening::Ended, NOTHING, 0x01, None),
     (Happening::Comes(CUE_1), ACK, 0x02, None),
     (Happening::Comes(STOP), ACK, 0x01, None),
-    (Happening::Comes(CLOSE), ACK, 0x01, None),
 ];
 
 #[test]
@@ -340,103 +274,4 @@ fn happens(
         Happening::Ended => port.ended(),
     }
     Ok((Vec::new(alloc), Vec::new(alloc)))
-}
-
-#[test]
-fn a_part_airs_as_a_part(rt: HostRuntime) -> Result<(), Fail> {
-    let id = ClipId::new(*b"CLIP0001");
-    let part = Part {
-        start: [0x00, 0x02, 0x00, 0x00],
-        duration: [0x00, 0x03, 0x00, 0x00],
-    };
-    let mut port = selected_port(rt.alloc())?;
-    let cue = b"\x02\x12\x20\x25CLIP0001\x00\x02\x00\x00\x00\x03\x00\x00\xCD";
-    expect(&rt, &mut port, cue, &[0x04], 0x02)?;
-    port.ready();
-    let (_, aired) = sent(rt.alloc(), &mut port, PLAY)?;
-    let item = Item {
-        id,
-        part: Some(part),
-    };
-    assert_eq!(rt; aired.as_slice(), [item].as_slice());
-    expect_frames(&rt, &mut port, 74, (false, false), 0x04);
-    expect_frames(&rt, &mut port, 1, (false, true), 0x01);
-    Ok(())
-}
-
-#[test]
-fn the_frame_clock_completes_cues_and_ends_clips(rt: HostRuntime) -> Result<(), Fail> {
-    let mut port = Port::with_clock(ten_seconds_each()?, 0, 1, 3);
-    let before = aired_by(rt.alloc(), &mut port, &[OPEN, SELECT, CUE_1])?;
-    expect_frames(&rt, &mut port, 2, (false, false), 0x02);
-    expect_frames(&rt, &mut port, 1, (true, false), 0x80);
-    let (_, aired) = sent(rt.alloc(), &mut port, PLAY)?;
-    assert_eq!(rt; (before.len(), aired.len()), (0, 1));
-    expect_frames(&rt, &mut port, 249, (false, false), 0x04);
-    expect_frames(&rt, &mut port, 1, (false, true), 0x01);
-    expect_frames(&rt, &mut port, 1, (false, false), 0x01);
-    Ok(())
-}
-
-/// The port's answer to a command for this unit. Nothing airs.
-fn expect_reply<C: Catalogue>(
-    rt: &impl Abort,
-    port: &mut Port<C>,
-    unit: u8,
-    command: Command,
-    reply: Option<Reply>,
-) {
-    let mut room = [0; 16];
-    let message = command.to_message(unit.min(15), &mut room);
-    assert_eq!(rt; port.answer(&message), (reply, None));
-}
-
-#[test]
-fn single_messages_are_answered(rt: HostRuntime) -> Result<(), Fail> {
-    let mut port = Port::new(ten_seconds_each()?, 3, 7);
-    let answers = (port.answer(&Message::Ack), port.answer(&Message::Nak(0x01)));
-    assert_eq!(rt; (port.unit(), answers), (3, ((None, None), (None, None))));
-    let open = Command::Open(7, 0x01);
-    expect_reply(&rt, &mut port, 3, open, Some(Reply::Opened(true)));
-    expect_reply(&rt, &mut port, 4, open, None);
-    expect_reply(&rt, &mut port, 3, Command::Select(7), Some(Reply::Ack));
-    let idle = Reply::State(0x01, Some(0x01));
-    expect_reply(&rt, &mut port, 3, Command::Status(0xFF), Some(idle));
-    Ok(())
-}
-
-#[test]
-fn a_burst_is_answered_into_fixed_room(rt: HostRuntime) -> Result<(), Fail> {
-    let mut port = selected_port(rt.alloc())?;
-    aired_by(rt.alloc(), &mut port, &[CUE_1])?;
-    port.ready();
-    let mut out = ArrayVec::<u8, 36>::new();
-    out.push(0xAA);
-    let twice = b"\x02\x02\x10\x01\xEF\x02\x02\x10\x01\xEF\xFF";
-    let airs = port.answer_into(twice, &mut out);
-    assert_eq!(rt; out.as_slice(), b"\xAA\x04\x04\x05\x04".as_slice());
-    assert_eq!(rt;
-        (airs, port.status_byte()),
-        (Some(whole(b"CLIP0001")), 0x04)
-    );
-    let mut out = ArrayVec::<u8, 8>::new();
-    let airs = port.answer_into(&[0x02, 0x02], &mut out);
-    assert_eq!(rt; out.as_slice(), b"\x05\x80".as_slice());
-    assert_eq!(rt; (airs, port.status_byte()), (None, 0x04));
-    Ok(())
-}
-
-/// How a burst ends, and the byte of the NAK to it.
-static ENDS: [(Ended, Option<u8>); 3] = [
-    (Ended::Clean, None),
-    (Ended::Cut(1), Some(0x80)),
-    (Ended::AfterFault, Some(0x04)),
-];
-
-#[test]
-fn the_end_of_a_burst_is_answered(rt: HostRuntime) {
-    for &(ended, byte) in &ENDS {
-        let reply = byte.map(Reply::Nak);
-        assert_eq!(rt; reply_at_end(ended), reply, "to {ended:?}");
-    }
 }

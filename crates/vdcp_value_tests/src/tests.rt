@@ -1,66 +1,27 @@
-//! Worked rows of ids, time codes and parts, and the words of faults.
+//! Worked rows of ids and time codes, and the words of faults.
 use arrayvec::ArrayString;
 use std::alloc::AllocError;
 use std::fmt;
 use std::process::Abort;
-use vdcp_value::{ClipId, Field, IdFault, Part, Rate, TcFault, Timecode, laws};
+use vdcp_value::{ClipId, Field, IdFault, Rate, TcFault, Timecode};
 
-const CLIP0001: [u8; 8] = [0x43, 0x4c, 0x49, 0x50, 0x30, 0x30, 0x30, 0x31];
-
-fn is_shown_as(rt: &impl Abort, bytes: [u8; 8], shown: &str) {
-    let id = ClipId::new(bytes);
+#[test]
+fn eight_spaces_are_shown_and_read_back(rt: HostRuntime) {
+    let id = ClipId::new([0x20; 8]);
     let mut text = ArrayString::new();
     text.push_str("what stood here");
     id.show(&mut text);
-    let read = (ClipId::parse(shown), laws::a_shown_id_is_read_back(&id));
-    assert_eq!(rt;
-        (id.bytes(), text.as_str(), read),
-        (bytes, shown, (Ok(id), Ok(id))),
-        "bytes, text, id and round trip of {shown}"
-    );
+    let read = ClipId::parse("0x2020202020202020");
+    assert_eq!(rt; (text.as_str(), read), ("0x2020202020202020", Ok(id)));
 }
 
-static SHOWN_IDS: [([u8; 8], &str); 7] = [
-    (CLIP0001, "CLIP0001"),
-    ([0x41, 0x2c, 0x42, 0x20, 0x20, 0x20, 0x20, 0x20], "A,B"),
-    ([0x41, 0x20, 0x20, 0x42, 0x20, 0x20, 0x20, 0x20], "A  B"),
-    ([0x20; 8], "0x2020202020202020"),
-    (
-        [0x20, 0x41, 0x20, 0x20, 0x20, 0x20, 0x20, 0x20],
-        "0x2041202020202020",
-    ),
-    (
-        [0x00, 0x01, 0x7e, 0x7f, 0x80, 0xab, 0xcd, 0xef],
-        "0x00017e7f80abcdef",
-    ),
-    (
-        [0x41, 0x42, 0x43, 0x44, 0x45, 0x46, 0x47, 0x00],
-        "0x4142434445464700",
-    ),
-];
-
-#[test]
-fn ids_are_shown_and_read_back(rt: HostRuntime) {
-    for &(bytes, shown) in &SHOWN_IDS {
-        is_shown_as(&rt, bytes, shown);
-    }
-}
-
-static TEXTS_OF_NO_ID: [(&str, IdFault); 14] = [
+static TEXTS_OF_NO_ID: [(&str, IdFault); 6] = [
     ("", IdFault::Empty),
     ("CLIP00001", IdFault::TooLong),
     ("A\tB", IdFault::BadByte(2)),
-    ("ABCDEFG\u{7f}", IdFault::BadByte(8)),
-    (" \u{e9}", IdFault::BadByte(2)),
     (" A", IdFault::EdgeSpace),
-    ("A ", IdFault::EdgeSpace),
-    (" ", IdFault::EdgeSpace),
     ("0x434c495030303031", IdFault::HasPlainForm),
     ("0x434C495030303031", IdFault::BadHex),
-    ("0x000000000000000g", IdFault::BadHex),
-    ("0x00000000000000", IdFault::TooLong),
-    ("0X0000000000000000", IdFault::TooLong),
-    ("0x00000000000000000", IdFault::TooLong),
 ];
 
 #[test]
@@ -68,21 +29,6 @@ fn texts_of_no_id_are_refused(rt: HostRuntime) {
     for &(text, fault) in &TEXTS_OF_NO_ID {
         assert_eq!(rt; ClipId::parse(text), Err(fault), "at {text}");
     }
-}
-
-#[test]
-fn bytes_are_read_as_texts(rt: HostRuntime) {
-    let ids = (
-        ClipId::parse_ascii(b"CLIP0001"),
-        ClipId::parse_ascii(b"A\xff"),
-    );
-    assert_eq!(rt; ids, (Ok(ClipId::new(CLIP0001)), Err(IdFault::BadByte(2))));
-    let times = (
-        Timecode::parse_ascii(Rate::F25, b"00:00:10:00"),
-        Timecode::parse_ascii(Rate::F25, b"00:00:10:0\xff"),
-    );
-    let time = Timecode::parse(Rate::F25, "00:00:10:00");
-    assert_eq!(rt; times, (time, Err(TcFault::Shape)));
 }
 
 static TIME_CODES: [(Rate, &str, u32, [u8; 4]); 8] = [
@@ -106,141 +52,29 @@ static TIME_CODES: [(Rate, &str, u32, [u8; 4]); 8] = [
     ),
 ];
 
-fn is_packed_as(rt: &impl Abort, rate: Rate, number: u32, bytes: [u8; 4]) {
-    let Some(timecode) = Timecode::from_frames(rate, number) else {
-        panic!(rt; "no time code of frame {number}");
-    };
-    let read = (
-        Timecode::from_bcd(rate, bytes),
-        laws::a_packed_time_code_is_read_back(&timecode),
-        laws::a_numbered_time_code_is_read_back(&timecode),
-    );
-    assert_eq!(rt;
-        (timecode.rate(), timecode.frames(), timecode.to_bcd(), read),
-        (
-            rate,
-            number,
-            bytes,
-            (Ok(timecode), Ok(timecode), Some(timecode))
-        ),
-        "rate, number, bytes and round trips of {number}"
-    );
-}
-
-#[test]
-fn time_codes_are_numbered_and_packed(rt: HostRuntime) {
-    for &(rate, _, number, bytes) in &TIME_CODES {
-        is_packed_as(&rt, rate, number, bytes);
-    }
-}
-
-fn reads_back(rt: &impl Abort, rate: Rate, text: &str, number: u32) {
+fn is_time_code(rt: &impl Abort, rate: Rate, text: &str, number: u32, bytes: [u8; 4]) {
     let Ok(timecode) = Timecode::parse(rate, text) else {
         panic!(rt; "no time code {text}");
     };
-    let read = laws::a_shown_time_code_is_read_back(&timecode);
     let mut shown = ArrayString::new();
     shown.push_str("stood here");
     timecode.show(&mut shown);
     assert_eq!(rt;
-        (timecode.frames(), read, shown.as_str()),
-        (number, Ok(timecode), text),
-        "frames, round trip and text of {text}"
+        (timecode.frames(), timecode.to_bcd(), shown.as_str()),
+        (number, bytes, text),
+        "number, bytes and text of {text}"
     );
+    let read = (
+        Timecode::from_frames(rate, number),
+        Timecode::from_bcd(rate, bytes),
+    );
+    assert_eq!(rt; read, (Some(timecode), Ok(timecode)), "at {text}");
 }
 
 #[test]
-fn time_codes_are_shown_and_read_back(rt: HostRuntime) {
-    for &(rate, text, number, _) in &TIME_CODES {
-        reads_back(&rt, rate, text, number);
-    }
-}
-
-fn is_numbered(rt: &impl Abort, rate: Rate, text: &str, number: u32) {
-    let timecode = Timecode::parse(rate, text).ok();
-    assert_eq!(rt;
-        (
-            timecode.map(|timecode| timecode.frames()),
-            Timecode::from_frames(rate, number)
-        ),
-        (Some(number), timecode),
-        "at {text}"
-    );
-}
-
-static BOUNDARIES: [(Rate, &str, u32); 64] = [
-    (Rate::F24, "00:00:00:00", 0),
-    (Rate::F24, "00:00:59:23", 1_439),
-    (Rate::F24, "00:01:00:00", 1_440),
-    (Rate::F24, "00:01:59:23", 2_879),
-    (Rate::F24, "00:02:00:00", 2_880),
-    (Rate::F24, "00:09:59:23", 14_399),
-    (Rate::F24, "00:10:00:00", 14_400),
-    (Rate::F24, "00:10:59:23", 15_839),
-    (Rate::F24, "00:11:00:00", 15_840),
-    (Rate::F24, "00:59:59:23", 86_399),
-    (Rate::F24, "01:00:00:00", 86_400),
-    (Rate::F24, "01:00:59:23", 87_839),
-    (Rate::F24, "01:01:00:00", 87_840),
-    (Rate::F24, "22:59:59:23", 1_987_199),
-    (Rate::F24, "23:00:00:00", 1_987_200),
-    (Rate::F24, "23:59:59:23", 2_073_599),
-    (Rate::F25, "00:00:00:00", 0),
-    (Rate::F25, "00:00:59:24", 1_499),
-    (Rate::F25, "00:01:00:00", 1_500),
-    (Rate::F25, "00:01:59:24", 2_999),
-    (Rate::F25, "00:02:00:00", 3_000),
-    (Rate::F25, "00:09:59:24", 14_999),
-    (Rate::F25, "00:10:00:00", 15_000),
-    (Rate::F25, "00:10:59:24", 16_499),
-    (Rate::F25, "00:11:00:00", 16_500),
-    (Rate::F25, "00:59:59:24", 89_999),
-    (Rate::F25, "01:00:00:00", 90_000),
-    (Rate::F25, "01:00:59:24", 91_499),
-    (Rate::F25, "01:01:00:00", 91_500),
-    (Rate::F25, "22:59:59:24", 2_069_999),
-    (Rate::F25, "23:00:00:00", 2_070_000),
-    (Rate::F25, "23:59:59:24", 2_159_999),
-    (Rate::F30, "00:00:00:00", 0),
-    (Rate::F30, "00:00:59:29", 1_799),
-    (Rate::F30, "00:01:00:00", 1_800),
-    (Rate::F30, "00:01:59:29", 3_599),
-    (Rate::F30, "00:02:00:00", 3_600),
-    (Rate::F30, "00:09:59:29", 17_999),
-    (Rate::F30, "00:10:00:00", 18_000),
-    (Rate::F30, "00:10:59:29", 19_799),
-    (Rate::F30, "00:11:00:00", 19_800),
-    (Rate::F30, "00:59:59:29", 107_999),
-    (Rate::F30, "01:00:00:00", 108_000),
-    (Rate::F30, "01:00:59:29", 109_799),
-    (Rate::F30, "01:01:00:00", 109_800),
-    (Rate::F30, "22:59:59:29", 2_483_999),
-    (Rate::F30, "23:00:00:00", 2_484_000),
-    (Rate::F30, "23:59:59:29", 2_591_999),
-    (Rate::D30, "00:00:00;00", 0),
-    (Rate::D30, "00:00:59;29", 1_799),
-    (Rate::D30, "00:01:00;02", 1_800),
-    (Rate::D30, "00:01:59;29", 3_597),
-    (Rate::D30, "00:02:00;02", 3_598),
-    (Rate::D30, "00:09:59;29", 17_981),
-    (Rate::D30, "00:10:00;00", 17_982),
-    (Rate::D30, "00:10:59;29", 19_781),
-    (Rate::D30, "00:11:00;02", 19_782),
-    (Rate::D30, "00:59:59;29", 107_891),
-    (Rate::D30, "01:00:00;00", 107_892),
-    (Rate::D30, "01:00:59;29", 109_691),
-    (Rate::D30, "01:01:00;02", 109_692),
-    (Rate::D30, "22:59:59;29", 2_481_515),
-    (Rate::D30, "23:00:00;00", 2_481_516),
-    (Rate::D30, "23:59:59;29", 2_589_407),
-];
-
-// The numbers were counted off by a script that goes through the day label by label and leaves out
-// frames 00 and 01 of each minute that isn't divisible by ten (SMPTE ST 12-1).
-#[test]
-fn frames_round_each_boundary(rt: HostRuntime) {
-    for &(rate, text, number) in &BOUNDARIES {
-        is_numbered(&rt, rate, text, number);
+fn time_codes_are_numbered_packed_and_shown(rt: HostRuntime) {
+    for &(rate, text, number, bytes) in &TIME_CODES {
+        is_time_code(&rt, rate, text, number, bytes);
     }
 }
 
@@ -254,186 +88,29 @@ static DAYS: [(Rate, u32); 4] = [
 #[test]
 fn a_day_ends(rt: HostRuntime) {
     for &(rate, frames) in &DAYS {
-        let last = Timecode::from_frames(rate, frames - 1);
-        let behind = (
-            Timecode::from_frames(rate, frames),
-            Timecode::from_frames(rate, u32::MAX),
-        );
-        assert_eq!(rt;
-            (last.is_some(), behind),
-            (true, (None, None)),
-            "at {rate:?}"
-        );
+        let last = Timecode::from_frames(rate, frames - 1).is_some();
+        let behind = Timecode::from_frames(rate, frames);
+        assert_eq!(rt; (last, behind), (true, None), "at {rate:?}");
     }
 }
 
-static BYTES_OF_NO_TIME_CODE: [(Rate, [u8; 4], TcFault); 10] = [
-    (
-        Rate::F25,
-        [0x25, 0x00, 0x00, 0x00],
-        TcFault::OutOfRange(Field::Frames),
-    ),
-    (Rate::F25, [0x25, 0x6a, 0x00, 0x00], TcFault::NotBcd(2)),
-    (Rate::F25, [0x24, 0x00, 0xa0, 0x0b], TcFault::NotBcd(3)),
-    (
-        Rate::F24,
-        [0x24, 0x60, 0x60, 0x24],
-        TcFault::OutOfRange(Field::Frames),
-    ),
-    (
-        Rate::F25,
-        [0x24, 0x60, 0x60, 0x24],
-        TcFault::OutOfRange(Field::Seconds),
-    ),
-    (
-        Rate::F30,
-        [0x29, 0x59, 0x60, 0x24],
-        TcFault::OutOfRange(Field::Minutes),
-    ),
-    (
-        Rate::F30,
-        [0x29, 0x59, 0x59, 0x24],
-        TcFault::OutOfRange(Field::Hours),
-    ),
-    (
-        Rate::D30,
-        [0x01, 0x00, 0x01, 0x24],
-        TcFault::OutOfRange(Field::Hours),
-    ),
-    (Rate::D30, [0x00, 0x00, 0x01, 0x00], TcFault::Dropped),
-    (Rate::D30, [0x01, 0x00, 0x59, 0x23], TcFault::Dropped),
-];
-
 #[test]
-fn bytes_of_no_time_code_are_refused(rt: HostRuntime) {
-    for &(rate, bytes, fault) in &BYTES_OF_NO_TIME_CODE {
-        assert_eq!(rt; Timecode::from_bcd(rate, bytes), Err(fault), "at {bytes:?}");
-    }
-}
-
-static TEXTS_OF_NO_TIME_CODE: [(Rate, &str, TcFault); 13] = [
-    (Rate::F25, "", TcFault::Shape),
-    (Rate::F25, "00:00:10;00", TcFault::Shape),
-    (Rate::D30, "00:00:10:00", TcFault::Shape),
-    (Rate::F25, "00:00:10:0", TcFault::Shape),
-    (Rate::F25, "00:00:10:000", TcFault::Shape),
-    (Rate::F25, "00:0a:10:00", TcFault::Shape),
-    (Rate::F25, "0:00:10:000", TcFault::Shape),
-    (Rate::F25, "00:00:00:25", TcFault::OutOfRange(Field::Frames)),
-    (
-        Rate::F25,
-        "24:60:60:24",
-        TcFault::OutOfRange(Field::Seconds),
-    ),
-    (
-        Rate::F25,
-        "24:60:59:24",
-        TcFault::OutOfRange(Field::Minutes),
-    ),
-    (Rate::F25, "24:59:59:24", TcFault::OutOfRange(Field::Hours)),
-    (Rate::D30, "00:01:00;00", TcFault::Dropped),
-    (Rate::D30, "23:59:00;01", TcFault::Dropped),
-];
-
-#[test]
-fn texts_of_no_time_code_are_refused(rt: HostRuntime) {
-    for &(rate, text, fault) in &TEXTS_OF_NO_TIME_CODE {
-        assert_eq!(rt; Timecode::parse(rate, text), Err(fault), "at {text}");
-    }
-}
-
-static PARTS: [(Rate, u32, [u8; 4], [u8; 4], bool); 11] = [
-    (
-        Rate::F25,
-        250,
-        [0x00, 0x02, 0x00, 0x00],
-        [0x00, 0x03, 0x00, 0x00],
-        true,
-    ),
-    (
-        Rate::F25,
-        250,
-        [0x00, 0x07, 0x00, 0x00],
-        [0x00, 0x03, 0x00, 0x00],
-        true,
-    ),
-    (
-        Rate::F25,
-        250,
-        [0x00, 0x08, 0x00, 0x00],
-        [0x00, 0x03, 0x00, 0x00],
-        false,
-    ),
-    (
-        Rate::F25,
-        250,
-        [0x01, 0x07, 0x00, 0x00],
-        [0x00, 0x03, 0x00, 0x00],
-        false,
-    ),
-    (
-        Rate::F25,
-        250,
-        [0x00, 0x00, 0x00, 0x00],
-        [0x00, 0x10, 0x00, 0x00],
-        true,
-    ),
-    (
-        Rate::F25,
-        250,
-        [0x00, 0x02, 0x00, 0x00],
-        [0x00, 0x00, 0x00, 0x00],
-        false,
-    ),
-    (
-        Rate::F25,
-        250,
-        [0x25, 0x02, 0x00, 0x00],
-        [0x01, 0x00, 0x00, 0x00],
-        false,
-    ),
-    (
-        Rate::F25,
-        250,
-        [0x00, 0x02, 0x00, 0x00],
-        [0x1a, 0x00, 0x00, 0x00],
-        false,
-    ),
-    (
-        Rate::D30,
-        1_801,
-        [0x29, 0x59, 0x00, 0x00],
-        [0x02, 0x00, 0x00, 0x00],
-        true,
-    ),
-    (
-        Rate::D30,
-        1_801,
-        [0x02, 0x00, 0x01, 0x00],
-        [0x01, 0x00, 0x00, 0x00],
-        true,
-    ),
-    (
-        Rate::D30,
-        1_801,
-        [0x00, 0x00, 0x01, 0x00],
-        [0x01, 0x00, 0x00, 0x00],
-        false,
-    ),
-];
-
-// Of a clip of ten seconds at 25, and of one at 30 drop that ends a frame into its second minute.
-#[test]
-fn parts_fit_within_their_clip(rt: HostRuntime) {
-    for &(rate, length, start, duration, fits) in &PARTS {
-        let part = Part { start, duration };
-        let clip = Timecode::from_frames(rate, length);
-        assert_eq!(rt;
-            clip.map(|clip| part.fits(&clip)),
-            Some(fits),
-            "of {part:?}"
-        );
-    }
+fn bytes_and_texts_of_no_time_code_are_refused(rt: HostRuntime) {
+    let bytes = (
+        Timecode::from_bcd(Rate::F25, [0x25, 0x00, 0x00, 0x00]),
+        Timecode::from_bcd(Rate::F25, [0x25, 0x6a, 0x00, 0x00]),
+    );
+    let dropped = Timecode::parse(Rate::D30, "00:01:00;00");
+    assert_eq!(rt;
+        (bytes, dropped),
+        (
+            (
+                Err(TcFault::OutOfRange(Field::Frames)),
+                Err(TcFault::NotBcd(2))
+            ),
+            Err(TcFault::Dropped)
+        )
+    );
 }
 
 /// Each of these faults has its words.

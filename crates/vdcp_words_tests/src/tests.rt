@@ -1,13 +1,9 @@
-//! Tests of commands and replies: written, read, shown and refused.
-ghost use Rattle.std.specs.Prelude.{◌≡◌, ◌≤◌, Ok};
-ghost use Rattle.vdcp_words.specs.Replies.{MatchesBitmap};
-
+//! Tests of commands and replies: written, read and shown.
 use arrayvec::{ArrayString, ArrayVec};
-use std::alloc::Global;
 use std::process::Abort;
 use vdcp_frame::{Message, Step, read_at};
 use vdcp_value::ClipId;
-use vdcp_words::{Command, LONGEST, Reply, WordFault, laws};
+use vdcp_words::{Command, LONGEST, Reply, WordFault};
 
 fn clip(bytes: &[u8; 8]) -> ClipId {
     ClipId::new(*bytes)
@@ -33,17 +29,15 @@ fn read_reply(message: &Message) -> Result<Reply, WordFault> {
     Reply::read(message)
 }
 
-// A command is written to unit 0 as these bytes, is read from them, is shown by this text, and is read back at
-// unit 15.
+// A command is written to unit 0 as these bytes, is read from them, and is shown by this text.
 fn check_command(rt: &impl Abort, command: Command, bytes: &[u8], text: &str) {
     let encoded = encoded_command(command);
     let read = read_command(&message_of(rt, bytes));
-    let read_back = command_read_back(command, 15);
     let mut shown = ArrayString::new();
     command.show(&mut shown);
     assert_eq!(rt;
-        (encoded.as_slice(), read, read_back, shown.as_str()),
-        (bytes, Ok(command), Ok(command), text)
+        (encoded.as_slice(), read, shown.as_str()),
+        (bytes, Ok(command), text)
     );
 }
 
@@ -210,215 +204,6 @@ fn texts_replace_what_the_buffer_holds(rt: HostRuntime) {
     assert_eq!(rt; text.as_str(), "cue 0x2020202020202020");
     Reply::State(0x00, None).show(&mut text);
     assert_eq!(rt; text.as_str(), "state none");
-}
-
-fn message_for<'a>(command: Command, unit: u8, room: &'a mut [u8; 16]) -> Message<'a>
-    requires { unit ≤ 15 }
-{
-    command.to_message(unit, room)
-}
-
-// The type, the code and the data of a message that is framed.
-fn parts_of<'a>(rt: &impl Abort, message: Message<'a>) -> (u8, u8, &'a [u8]) {
-    match message {
-        Message::Framed {
-            kind,
-            code,
-            rest,
-            ..
-        } => (kind, code, rest),
-        _ => panic!(rt; "a command is framed"),
-    }
-}
-
-fn expect_refused(rt: &impl Abort, kind: u8, code: u8, rest: &[u8], fault: WordFault) {
-    assert_eq!(rt; read_data(kind, code, rest), Err(fault), "{kind} {code}");
-}
-
-// The data of a command is refused with one byte more, and with one less if it has any.
-fn check_length(rt: &impl Abort, alloc: Global, command: Command) {
-    let mut room = [0; 16];
-    let (kind, code, rest) = parts_of(rt, message_for(command, 0, &mut room));
-    let mut longer = rest.to_vec(alloc).expect(rt, "memory");
-    longer.push(0x00).expect(rt, "memory");
-    expect_refused(rt, kind, code, longer.as_slice(), WordFault::Length);
-    if let [shorter @ .., _] = rest {
-        expect_refused(rt, kind, code, shorter, WordFault::Length);
-    }
-}
-
-#[test]
-fn commands_with_a_byte_too_many_or_too_few_are_refused(rt: HostRuntime) {
-    let id = clip(b"CLIP0001");
-    let commands = [
-        Command::Stop,
-        Command::Play,
-        Command::Close(0x01),
-        Command::Select(0x01),
-        Command::PlayCue(id),
-        Command::CueData(id, [0x00, 0x02, 0x00, 0x00], [0x00, 0x03, 0x00, 0x00]),
-        Command::Open(0x01, 0x01),
-        Command::Status(0x01),
-        Command::ActiveId,
-        Command::IdRequest(id),
-        Command::IdSize(id),
-    ];
-    for command in commands {
-        check_length(&rt, rt.alloc(), command);
-    }
-}
-
-fn read_data(kind: u8, code: u8, rest: &[u8]) -> Result<Command, WordFault> {
-    Command::read(&Message::Framed {
-        kind,
-        unit: 0,
-        code,
-        rest,
-    })
-}
-
-// The data of an answer of type 3 with this code give this reply or this fault.
-fn check_data(rt: &impl Abort, code: u8, rest: &[u8], outcome: Result<Reply, WordFault>) {
-    let message = Message::Framed {
-        kind: 3,
-        unit: 0,
-        code,
-        rest,
-    };
-    assert_eq!(rt; read_reply(&message), outcome, "{code} {rest:?}");
-}
-
-#[test]
-fn replies_are_read_by_their_named_bytes(rt: HostRuntime) {
-    let rows: [(u8, &[u8], Reply); 11] = [
-        (0x81, &[0x00, 0x01], Reply::Opened(false)),
-        (0x81, &[0xFF, 0x00], Reply::Opened(true)),
-        (0x85, &[0x01, 0x84, 0x02], Reply::State(0x01, Some(0x84))),
-        (0x85, &[0xFF, 0x04], Reply::State(0xFF, Some(0x04))),
-        (0x85, &[0x02, 0x84], Reply::State(0x02, None)),
-        (0x85, &[0x00], Reply::State(0x00, None)),
-        (0x87, b"\x00CLIP0001", Reply::Active(None)),
-        (
-            0x87,
-            b"\x02CLIP0001\x00",
-            Reply::Active(Some(clip(b"CLIP0001"))),
-        ),
-        (
-            0x94,
-            &[0x00, 0x10, 0x00, 0x00, 0x01],
-            Reply::Size([0x00, 0x10, 0x00, 0x00]),
-        ),
-        (0x96, &[0x03, 0x00], Reply::Present(true)),
-        (0x96, &[0xFE], Reply::Present(false)),
-    ];
-    for (code, rest, reply) in rows.iter() {
-        check_data(&rt, *code, rest, Ok(*reply));
-    }
-}
-
-#[test]
-fn other_data_are_no_reply(rt: HostRuntime) {
-    static ROWS: [(u8, &[u8], WordFault); 11] = [
-        (0x81, &[], WordFault::Length),
-        (0x85, &[0x01], WordFault::Length),
-        (0x85, &[], WordFault::Length),
-        (0x87, b"\x01CLIP000", WordFault::Length),
-        (0x87, &[], WordFault::Length),
-        (0x94, &[0x00, 0x10, 0x00], WordFault::Length),
-        (0x96, &[], WordFault::Length),
-        (0x05, &[0x01], WordFault::Unknown),
-        (0x01, &[0x01, 0x01], WordFault::Unknown),
-        (0x00, &[], WordFault::Unknown),
-        (0xFF, &[], WordFault::Unknown),
-    ];
-    for (code, rest, fault) in ROWS.iter() {
-        check_data(&rt, *code, rest, Err(*fault));
-    }
-}
-
-#[test]
-fn other_messages_are_no_words(rt: HostRuntime) {
-    static UNKNOWN: [(u8, u8); 7] = [
-        (0, 0x00),
-        (1, 0x02),
-        (2, 0x01),
-        (2, 0x20),
-        (3, 0x81),
-        (4, 0x01),
-        (7, 0x00),
-    ];
-    for (kind, code) in UNKNOWN.iter() {
-        expect_refused(&rt, *kind, *code, &[], WordFault::Unknown);
-    }
-    let another_type = Message::Framed {
-        kind: 2,
-        unit: 0,
-        code: 0x81,
-        rest: &[0x01],
-    };
-    assert_eq!(rt;
-        (
-            read_command(&Message::Ack),
-            read_command(&Message::Nak(0x01)),
-            read_reply(&another_type)
-        ),
-        (
-            Err(WordFault::NotCommand),
-            Err(WordFault::NotCommand),
-            Err(WordFault::Unknown)
-        )
-    );
-}
-
-#[test]
-fn words_keep_their_unit(rt: HostRuntime) {
-    let mut room = [0; 16];
-    let message = message_for(Command::Play, 15, &mut room);
-    let framed = Message::Framed {
-        kind: 1,
-        unit: 15,
-        code: 0x01,
-        rest: &[],
-    };
-    assert_eq!(rt;
-        (message, read_command(&message)),
-        (framed, Ok(Command::Play))
-    );
-    let mut room = [0; 16];
-    let message = Reply::Present(true).to_message(15, &mut room);
-    let framed = Message::Framed {
-        kind: 3,
-        unit: 15,
-        code: 0x96,
-        rest: &[0x01],
-    };
-    assert_eq!(rt;
-        (message, read_reply(&message)),
-        (framed, Ok(Reply::Present(true)))
-    );
-    let state = Reply::State(0x01, Some(0x84));
-    assert_eq!(rt; reply_read_back(state, 15), Ok(state));
-}
-
-/// Each command is read back from its message.
-fn command_read_back(command: Command, unit: u8) -> Result<Command, WordFault>
-    requires { unit ≤ 15 }
-    ensures { result ≡ Ok command }
-{
-    laws::written_command_is_read();
-    let mut room = [0; 16];
-    Command::read(&command.to_message(unit, &mut room))
-}
-
-/// Each reply is read back that has a state byte exactly if bit 0 of its bitmap asks for one.
-fn reply_read_back(reply: Reply, unit: u8) -> Result<Reply, WordFault>
-    requires unit { unit ≤ 15 }
-    requires state { MatchesBitmap reply }
-    ensures { result ≡ Ok reply }
-{
-    laws::written_reply_is_read();
-    let mut room = [0; 16];
-    Reply::read(&reply.to_message(unit, &mut room))
 }
 
 /// Each of these values equals itself, and none of the others.

@@ -1,5 +1,5 @@
 //! If memory is refused, a rehearsal answers so.
-use super::clips::{Clips, ONE};
+use super::clips::Clips;
 use super::course::inputs_of;
 use linked_list_allocator::LocalHeap;
 use std::alloc::{AllocError, Global};
@@ -12,9 +12,9 @@ static HEAPS: [usize; 6] = [16, 256, 512, 1024, 4096, 65536];
 /// How many exchanges a rehearsal of one clip in this heap has.
 fn rehearsed(heap: &LocalHeap, confirms: bool, inputs: &[Input]) -> Result<usize, AllocError> {
     if confirms {
-        return Ok(rehearse_confirming(heap, Clips::one(ONE), 0x01, 3, inputs)?.len());
+        return Ok(rehearse_confirming(heap, Clips::one(), 0x01, 3, inputs)?.len());
     }
-    Ok(rehearse(heap, Clips::one(ONE), 0x01, 3, inputs)?.len())
+    Ok(rehearse(heap, Clips::one(), 0x01, 3, inputs)?.len())
 }
 
 /// Whether it confirms, and inputs that give nine exchanges.

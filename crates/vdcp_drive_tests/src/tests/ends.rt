@@ -20,34 +20,30 @@ pub fn port(frames: u32) -> Result<Port<Clips>, Fail> {
     Ok(Port::new(clips, 0, 1))
 }
 
-/// A server with a new port of unit 0 and number 1, and clips of this many frames, to which these pieces come.
-pub fn server(alloc: Global, frames: u32, pieces: &[&[u8]]) -> Result<Serving, Fail> {
-    Ok(Server::new(port(frames)?, wire_of(alloc, pieces)?))
+/// A server with a new port of unit 0 and number 1, to which these pieces come.
+pub fn server(alloc: Global, pieces: &[&[u8]]) -> Result<Serving, Fail> {
+    Ok(Server::new(port(250)?, wire_of(alloc, pieces)?))
 }
 
-/// The same over a wire whose call of this number fails after one byte of a send.
+/// The same over a wire whose call of this number fails after two bytes of a send.
 pub fn failing_server(alloc: Global, pieces: &[&[u8]], call: u64) -> Result<Serving, Fail> {
     let mut wire = wire_of(alloc, pieces)?;
-    wire.fail_at(call, 1);
+    wire.fail_at(call, 2);
     Ok(Server::new(port(250)?, wire))
 }
 
 /// An automation of no clips, to which these pieces come.
-pub fn automation(alloc: Global, confirms: bool, pieces: &[&[u8]]) -> Result<Auto, AllocError> {
-    Ok(AutoDriver::new(controller(confirms), 0, wire_of(alloc, pieces)?))
+pub fn automation(alloc: Global, pieces: &[&[u8]]) -> Result<Auto, AllocError> {
+    Ok(AutoDriver::new(controller(), 0, wire_of(alloc, pieces)?))
 }
 
 /// The same over a wire whose call of this number fails after one byte of a send.
 pub fn failing_automation(alloc: Global, pieces: &[&[u8]], call: u64) -> Result<Auto, AllocError> {
     let mut wire = wire_of(alloc, pieces)?;
     wire.fail_at(call, 1);
-    Ok(AutoDriver::new(controller(false), 0, wire))
+    Ok(AutoDriver::new(controller(), 0, wire))
 }
 
-pub fn controller(confirms: bool) -> Controller<Playlist> {
-    if confirms {
-        Controller::confirming(Playlist::of(0), 1, 3)
-    } else {
-        Controller::new(Playlist::of(0), 1, 3)
-    }
+pub fn controller() -> Controller<Playlist> {
+    Controller::new(Playlist::of(0), 1, 3)
 }

@@ -2,7 +2,7 @@
 use super::calls::serve;
 use super::ends::{failing_server, server};
 use super::expecting::expect_row;
-use super::messages::{ACK, CUE_1, GRANTED, IDLE, OPEN, PLAY, SELECT, STATUS, STOP};
+use super::messages::{ACK, GRANTED, IDLE, OPEN, SELECT, STATUS};
 use super::scripts::{SILENCE, spells};
 use std::alloc::Global;
 use std::test::Fail;
@@ -27,30 +27,12 @@ const OPENING: &'static [&'static [u8]] = &[
 ];
 
 // The other end closes after the last piece.
-static ROWS: [Row; 9] = [
+static ROWS: [Row; 4] = [
     Row {
         came: OPENING,
         turns: 100,
         sent: &[GRANTED, ACK, IDLE],
         ran: Ran::Closed,
-    },
-    Row {
-        came: OPENING,
-        turns: 2,
-        sent: &[GRANTED],
-        ran: Ran::Spent,
-    },
-    Row {
-        came: OPENING,
-        turns: 3,
-        sent: &[GRANTED],
-        ran: Ran::Spent,
-    },
-    Row {
-        came: OPENING,
-        turns: 4,
-        sent: &[GRANTED, ACK],
-        ran: Ran::Spent,
     },
     // PLAY and STOP in two pieces
     Row {
@@ -86,29 +68,11 @@ static ROWS: [Row; 9] = [
         sent: &[GRANTED, ACK, ACK],
         ran: Ran::Closed,
     },
-    // half a message, twice
-    Row {
-        came: &[
-            b"\x02\x0A\x20\x24\x43",
-            SILENCE,
-            b"\x02\x0A\x20\x24\x43",
-            SILENCE,
-        ],
-        turns: 4,
-        sent: &[b"\x05\x80", b"\x05\x80"],
-        ran: Ran::Spent,
-    },
-    Row {
-        came: &[OPEN, SELECT, CUE_1, PLAY, STOP, SILENCE],
-        turns: 100,
-        sent: &[GRANTED, ACK, ACK, ACK, ACK],
-        ran: Ran::Closed,
-    },
 ];
 
 /// How a new server's turns end, and whether it sent these messages.
 fn served(alloc: Global, row: &Row) -> Result<(Ran, bool), Fail> {
-    let mut server = server(alloc, 250, row.came)?;
+    let mut server = server(alloc, row.came)?;
     let ran = serve(&mut server, row.turns)?;
     Ok((ran, spells(server.wire().sent(), row.sent)))
 }
@@ -121,7 +85,7 @@ fn what_comes_is_answered(rt: HostRuntime) -> Result<(), Fail> {
     Ok(())
 }
 
-/// A server whose wire's call of this number fails after one byte of a send, and then is used again: whether both
+/// A server whose wire's call of this number fails after two bytes of a send, and then is used again: whether both
 /// fail, and how many bytes were sent.
 fn failed_at(alloc: Global, call: u64) -> Result<(bool, usize), Fail> {
     let mut server = failing_server(alloc, OPENING, call)?;
@@ -130,7 +94,7 @@ fn failed_at(alloc: Global, call: u64) -> Result<(bool, usize), Fail> {
 }
 
 // Eight listens, and a send after the first, the fourth and the sixth of them.
-static SENT: [usize; 11] = [0, 1, 6, 6, 6, 7, 7, 7, 8, 14, 14];
+static SENT: [usize; 11] = [0, 2, 6, 6, 6, 7, 7, 7, 9, 14, 14];
 
 #[test]
 fn each_call_fails_in_turn(rt: HostRuntime) -> Result<(), Fail> {

@@ -7,7 +7,7 @@ use vdcp_auto::Mode;
 use vdcp_files::NamedFile;
 use vdcp_log::{Hearing, Telling};
 use vdcp_operator::Hand;
-use vdcp_run::{RunSettings, Showing, Shown, do_run};
+use vdcp_run::{RunSettings, Showing, do_run};
 use vdcp_testing::{FailingWriter, Fails};
 use vdcp_value::Rate;
 
@@ -18,7 +18,8 @@ const FAULT: &[u8] = b"vdcp: spent\n";
 // Nothing is shown or captured.
 fn nothing() -> Showing<Vec<u8>> {
     Showing {
-        shown: Shown::Lines(Telling::Nothing),
+        terminal: None,
+        telling: Telling::Nothing,
         capture: None,
     }
 }
@@ -127,12 +128,16 @@ fn told<V: Write + Drop>(
 
 // What is shown and captured by this one writer, in one of three ways.
 fn shown_in<V>(way: usize, writer: V) -> Showing<V> {
-    let (shown, capture) = match way {
-        0 => (Shown::Progress(writer), None),
-        1 => (Shown::Lines(Telling::All(writer)), None),
-        _ => (Shown::Lines(Telling::Nothing), Some(writer)),
+    let (terminal, telling, capture) = match way {
+        0 => (Some(writer), Telling::Nothing, None),
+        1 => (None, Telling::All(writer), None),
+        _ => (None, Telling::Nothing, Some(writer)),
     };
-    Showing { shown, capture }
+    Showing {
+        terminal,
+        telling,
+        capture,
+    }
 }
 
 // A terminal, a log or a capture that fails is written to no more, and the run goes on.

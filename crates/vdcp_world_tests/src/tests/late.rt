@@ -1,7 +1,6 @@
 //! Tests of late worlds and of their scripts.
 mod clips;
 mod memory;
-mod ports;
 mod rows;
 mod scripts;
 mod seen;

@@ -1,6 +1,6 @@
 //! Worlds as the tests make them, what happens in them, and what is seen of them then. Nothing here promises
 //! anything: a test looks at what it gets.
-use super::clips::{Clips, Shelf};
+use super::clips::Shelf;
 use std::alloc::{AllocError, Allocator, Global};
 use std::fmt::Debug;
 use std::process::Abort;
@@ -61,19 +61,6 @@ pub fn confirming<S: Source + Copy, A: Allocator + Copy + Drop>(
     source: S,
 ) -> Result<World<S, Shelf, A>, Fail> {
     Ok(World::confirming(alloc, source, Shelf::two_clips()?, 0, 0x01, 3, 1))
-}
-
-/// A new world in confirm mode or in plain mode.
-pub fn new_world(
-    alloc: Global,
-    confirms: bool,
-    clips: Clips,
-) -> Result<World<Clips, Shelf, Global>, Fail> {
-    if confirms {
-        confirming(alloc, clips)
-    } else {
-        plain(alloc, clips)
-    }
 }
 
 /// The events of a script.

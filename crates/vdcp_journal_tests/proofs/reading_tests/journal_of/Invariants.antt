@@ -1,6 +1,6 @@
--- The rows so far were taken.
-use Rattle.vdcp_journal.specs.Journals.{TookRows}
+-- A row can be asked for.
+use Rattle.vdcp_journal.specs.Journals.{IsReading}
 use Rattle.vdcp_journal_tests.proofs.reading_tests.journal_of.Given as goal
 
 abbrev pub invariant-loop : goal.invariant-loop
-invariant-loop g l = TookRows g.R.Read.remaining (g.R.Read.remaining l.fn.reader) l.journal l.rows.items
+invariant-loop g l = IsReading l.journal

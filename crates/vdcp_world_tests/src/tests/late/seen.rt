@@ -5,12 +5,12 @@ use std::alloc::{AllocError, Allocator, Global};
 use std::fmt::Debug;
 use std::process::Abort;
 use std::test::Fail;
-use vdcp_auto::{Exchange, Outcome};
+use vdcp_auto::Outcome;
 use vdcp_port::Port;
 use vdcp_testing::two_clips;
 use vdcp_value::{ClipId, Item, Timecode};
 use vdcp_world::late::{LateEvent, LateWorld};
-use vdcp_world::{Burst, ScriptFault, read_script};
+use vdcp_world::{ScriptFault, read_script};
 
 /// A catalogue of two clips.
 pub type Shelf = [(ClipId, Timecode); 2];
@@ -18,37 +18,24 @@ pub type Shelf = [(ClipId, Timecode); 2];
 /// A late world of two clips.
 pub type Late<A> = LateWorld<TwoClips, Shelf, A>;
 
-/// CLIP0001 and CLIP0002, ten seconds each at 25 frames a second.
-pub fn shelf() -> Result<Shelf, Fail> {
-    Ok(two_clips(250).ok_or("250 frames")?)
-}
-
-/// A new port.
-pub fn new_port() -> Result<Port<Shelf>, Fail> {
-    Ok(Port::new(shelf()?, 0, 0x01))
-}
-
-/// A new world in plain mode, over this port.
-pub fn plain_over<A: Allocator + Copy + Drop>(alloc: A, port: Port<Shelf>) -> Late<A> {
-    LateWorld::new(alloc, TwoClips::new(), port, 3)
+/// A new port, with CLIP0001 and CLIP0002, ten seconds each at 25 frames a second.
+fn new_port() -> Result<Port<Shelf>, Fail> {
+    let shelf = two_clips(250).ok_or("250 frames")?;
+    Ok(Port::new(shelf, 0, 0x01))
 }
 
 /// A new world in plain mode, over a new port.
 pub fn plain<A: Allocator + Copy + Drop>(alloc: A) -> Result<Late<A>, Fail> {
-    Ok(plain_over(alloc, new_port()?))
+    Ok(LateWorld::new(alloc, TwoClips::new(), new_port()?, 3))
 }
 
-/// A new world in confirm mode, over this port; it fails if the port has a clip cued.
-pub fn confirming_over(alloc: Global, port: Port<Shelf>) -> Result<Late<Global>, Fail> {
+/// A new world in confirm mode, over a new port. A port that has a clip cued may have none.
+pub fn confirming(alloc: Global) -> Result<Late<Global>, Fail> {
+    let port = new_port()?;
     if port.status_byte() & 0x82 != 0 {
         return Err(Fail::from("something is cued"));
     }
     Ok(LateWorld::confirming(alloc, TwoClips::new(), port, 3))
-}
-
-/// A new world in confirm mode, over a new port.
-pub fn confirming(alloc: Global) -> Result<Late<Global>, Fail> {
-    confirming_over(alloc, new_port()?)
 }
 
 /// The events of a script.
@@ -88,16 +75,6 @@ pub fn run<A: Allocator + Copy>(
 /// What went to air.
 pub fn aired<A: Allocator + Copy>(world: &Late<A>) -> &[Item] {
     world.aired()
-}
-
-/// The exchanges so far.
-pub fn log<A: Allocator + Copy>(world: &Late<A>) -> &[Exchange] {
-    world.log()
-}
-
-/// A burst of these bytes.
-pub fn burst(alloc: Global, bytes: &[u8]) -> Result<Burst, AllocError> {
-    Ok(Burst::new(Vec::from_slice(alloc, bytes)?))
 }
 
 /// How much went to air, how much of it is reported, how many exchanges there were, and how the controller
