@@ -18,7 +18,7 @@ use vdcp_list::Timed;
 use vdcp_words::state::{CUE_DONE, PLAYING};
 use vdcp_words::{Command, Reply};
 
-/// When an event aired.
+/// When an event aired. A time that no clock gave is written as an empty field.
 #[derive(Clone, Copy, Debug, PartialEq, Eq)]
 pub struct Airing {
     /// The PLAY that aired it went out. Of several, the last.
@@ -30,25 +30,25 @@ pub struct Airing {
 }
 
 impl Timed for Airing {
-    ghost use Rattle.vdcp_journal.specs.Times.{moment_text, moment_text_if};
+    ghost use Rattle.vdcp_journal.specs.Times.{clocked_text, clocked_text_if};
 
-    ghost played = { λ airing. moment_text airing.played };
+    ghost played = { λ airing. clocked_text airing.played };
 
-    ghost known = { λ airing. moment_text airing.known };
+    ghost known = { λ airing. clocked_text airing.known };
 
-    ghost ended = { λ airing. moment_text_if airing.ended };
+    ghost ended = { λ airing. clocked_text_if airing.ended };
 
     fn played(&self) -> &[u8] {
-        self.played.as_bytes()
+        self.played.clocked()
     }
 
     fn known(&self) -> &[u8] {
-        self.known.as_bytes()
+        self.known.clocked()
     }
 
     fn ended(&self) -> &[u8] {
         match &self.ended {
-            Some(ended) => ended.as_bytes(),
+            Some(ended) => ended.clocked(),
             None => &[],
         }
     }

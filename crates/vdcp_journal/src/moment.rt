@@ -19,7 +19,7 @@ pub struct Moment {
 impl Moment {
     ghost use Rattle.jiff.specs.Types.{DateTime};
     ghost use Rattle.vdcp_journal.specs.declared.moment.Moment.{Moment};
-    ghost use Rattle.vdcp_journal.specs.Times.{moment_text};
+    ghost use Rattle.vdcp_journal.specs.Times.{clocked_text, moment_text, no_clock};
 
     /// The moment of this text. None if the text isn't of that form.
     pub fn parse(text: &[u8]) -> Option<Moment>
@@ -45,16 +45,36 @@ impl Moment {
         }
     }
 
+    /// The time of a row that no clock gave.
+    pub fn unclocked() -> Moment
+        ensures { moment_text result ≡ no_clock }
+    {
+        Moment { text: *NO_CLOCK }
+    }
+
     /// Its text.
     pub fn as_bytes(&self) -> &[u8]
         ensures { result.now ≡ moment_text self.now }
     {
         &self.text
     }
+
+    /// Its text, or nothing if no clock gave it.
+    pub fn clocked(&self) -> &[u8]
+        ensures { result.now ≡ clocked_text self.now }
+    {
+        if self.text.as_slice() == NO_CLOCK.as_slice() {
+            return &[];
+        }
+        self.as_bytes()
+    }
 }
 
 /// The form of a moment's text: 0 stands for any digit.
 const FORM: &[u8; 24] = b"0000-00-00T00:00:00.000Z";
+
+/// The time of a row that no clock gave: a clock that fails shows it, too.
+const NO_CLOCK: &[u8; 24] = b"1970-01-01T00:00:00.000Z";
 
 /// The latest time that is shown, in milliseconds after 1970 began: a later one counts as it.
 const LAST: u64 = 253_402_207_200_000;
