@@ -18,7 +18,7 @@ use Rattle.vdcp_journal.specs.Runs.{Run, runs_of}
 use Rattle.vdcp_journal.specs.declared.airings.Airing.{Airing}
 use Rattle.vdcp_journal.specs.declared.row.Heading.{Heading}
 use Rattle.vdcp_journal_file.specs.Resuming.{IsMadeOrRefused, IsResumed, IsRunOn, plan_begun, plan_of_run}
-use Rattle.vdcp_journal_file.specs.Showing.{AreShown, ShowsJournal, ShowRuns, ShowsRun, heading_text, open_text, reported_text}
+use Rattle.vdcp_journal_file.specs.Showing.{AreShown, ShowsJournal, ShowRuns, ShowsRun, heading_text, next_begin, open_text, reported_text, undecided}
 use Rattle.vdcp_journal_file.specs.declared.asrun.AsrunSettings.{AsrunSettings}
 use Rattle.vdcp_journal_file.specs.declared.asrun.Shown.{Shown}
 use Rattle.vdcp_list.specs.Rests.{FromEvent, items_left}
@@ -27,11 +27,17 @@ use Rattle.vdcp_value.specs.declared.part.Item.{Item}
 use Rattle.vdcp_words.specs.declared.command.Command.{Command}
 
 -- a run more
-pub one_run_more : (settings : AsrunSettings) (items : List Item) (heading : Heading) (runs : List Run) (run : Run)
-    (text told more more_told : List ℕ) → ShowRuns settings items heading runs text told
-    → ShowsRun settings items heading run more more_told
-    → ShowRuns settings items heading (runs ++ run ∷ []) (text ++ more) (told ++ more_told)
-one_run_more settings items heading [] run text told more more_told (text_is, told_is) shows = (
+
+next_more : (next : Option ℕ) (runs : List Run) (run : Run)
+    → next_begin (Some run.from) runs ≡ next_begin next (runs ++ run ∷ [])
+next_more next [] run = refl
+next_more next (first ∷ runs) run = refl
+
+pub one_run_more : (settings : AsrunSettings) (items : List Item) (heading : Heading) (next : Option ℕ) (runs : List Run)
+    (run : Run) (text told more more_told : List ℕ) → ShowRuns settings items heading (Some run.from) runs text told
+    → ShowsRun settings items heading next run more more_told
+    → ShowRuns settings items heading next (runs ++ run ∷ []) (text ++ more) (told ++ more_told)
+one_run_more settings items heading next [] run text told more more_told (text_is, told_is) shows = (
   more,
   more_told,
   [],
@@ -41,14 +47,14 @@ one_run_more settings items heading [] run text told more more_told (text_is, to
   ap (λ (l : List ℕ). l ++ more) text_is ∙ sym (append-nil more),
   ap (λ (l : List ℕ). l ++ more_told) told_is ∙ sym (append-nil more_told),
 )
-one_run_more settings items heading (first ∷ runs) run text told more more_told (t, d, rest, rest_told, one, others, text_is, told_is)
-    shows = (
+one_run_more settings items heading next (first ∷ runs) run text told more more_told
+    (t, d, rest, rest_told, one, others, text_is, told_is) shows = (
       t,
       d,
       rest ++ more,
       rest_told ++ more_told,
-      one,
-      one_run_more settings items heading runs run rest rest_told more more_told others shows,
+      subst (λ (n : Option ℕ). ShowsRun settings items heading n first t d) (next_more next runs run) one,
+      one_run_more settings items heading next runs run rest rest_told more more_told others shows,
       ap (λ (l : List ℕ). l ++ more) text_is ∙ append_assoc t rest more,
       ap (λ (l : List ℕ). l ++ more_told) told_is ∙ append_assoc d rest_told more_told,
     )
@@ -85,9 +91,9 @@ pub run_shows_so : (settings : AsrunSettings) (items : List Item) (heading : Hea
     (reported : ℕ) (airings : List Airing) (event : Option ℕ)
     → IsResumed (plan_of_run heading items run) run.rows plan state → AreAirings plan.mode run.rows airings event
     → reported ≡ state.settled → run.from ≤ length items → AllStand (plan_begun heading items run) run.rows
-    → ShowsRun settings items heading run (reported_text settings items run.from reported airings)
-    (open_text run.from event)
-run_shows_so settings items heading run plan state reported airings event resumed are count listed stand = record {
+    → (next : Option ℕ) → ShowsRun settings items heading next run (reported_text settings items run.from reported airings)
+    (open_text (run.begin + 1) (undecided next run.from event))
+run_shows_so settings items heading run plan state reported airings event resumed are count listed stand next = record {
   within = listed;
   stand = stand;
   are_told = resumed.told;
@@ -107,7 +113,8 @@ pub record ShownOf (settings : AsrunSettings) (list : List Item) (heading : Head
   pub one_each : length airings ≡ reported
   pub listed : from + reported ≤ length list
   pub counts : IfSome event (λ k. from + k < 2 ^ 64)
-  pub shows : ShowsRun settings list heading run (reported_text settings list from reported airings) (open_text from event)
+  pub shows : (next : Option ℕ) → ShowsRun settings list heading next run (reported_text settings list from reported airings)
+      (open_text (run.begin + 1) (undecided next from event))
 
 pub shown_of : {S : Type 0} (settings : AsrunSettings) (items : S → List Item) (heading : Heading) (list : List Item) (run : Run)
     (controller : View (FromEvent S)) (asked : Option Command) (from reported : ℕ) (airings : List Airing) (event : Option ℕ)
@@ -128,22 +135,22 @@ shown_of settings items heading list run controller asked from reported airings 
       listed = omega (arith, begin, left, within, on.within);
       counts = subst (λ (n : ℕ). IfSome event (λ k. n + k < 2 ^ 64)) (sym begin)
           (unsettled_counts_in list heading run _ _ reported airings event on.resumes are_so count within on.within few);
-      shows = subst (λ (n : ℕ). ShowsRun settings list heading run (reported_text settings list n reported airings)
-          (open_text n event)) (sym begin)
-          (run_shows_so settings list heading run _ _ reported airings event on.resumes are_so count on.within on.stand);
+      shows = λ next. subst (λ (n : ℕ). ShowsRun settings list heading next run (reported_text settings list n reported airings)
+          (open_text (run.begin + 1) (undecided next n event))) (sym begin)
+          (run_shows_so settings list heading run _ _ reported airings event on.resumes are_so count on.within on.stand next);
     }
 
 -- a run more, of a list with a heading
-pub shown_more : (settings : AsrunSettings) (list : List Item) (heading : Heading) (runs : List Run) (run : Run)
-    (text told more more_told text' told' : List ℕ) → AreShown settings list heading runs text told
-    → ShowsRun settings list heading run more more_told → text' ≡ text ++ more → told' ≡ told ++ more_told
-    → AreShown settings list heading (runs ++ run ∷ []) text' told'
-shown_more settings list heading runs run text told more more_told text' told' before shows text_is told_is =
+pub shown_more : (settings : AsrunSettings) (list : List Item) (heading : Heading) (next : Option ℕ) (runs : List Run) (run : Run)
+    (text told more more_told text' told' : List ℕ) → AreShown settings list heading (Some run.from) runs text told
+    → ShowsRun settings list heading next run more more_told → text' ≡ text ++ more → told' ≡ told ++ more_told
+    → AreShown settings list heading next (runs ++ run ∷ []) text' told'
+shown_more settings list heading next runs run text told more more_told text' told' before shows text_is told_is =
     let above : List ℕ = heading_text settings list in
     record {
       rows = before.rows ++ more;
-      show = subst (λ (t : List ℕ). ShowRuns settings list heading (runs ++ run ∷ []) (before.rows ++ more) t) (sym told_is)
-          (one_run_more settings list heading runs run before.rows told more more_told before.show shows);
+      show = subst (λ (t : List ℕ). ShowRuns settings list heading next (runs ++ run ∷ []) (before.rows ++ more) t) (sym told_is)
+          (one_run_more settings list heading next runs run before.rows told more more_told before.show shows);
       text_is = text_is ∙ ap (λ (l : List ℕ). l ++ more) before.text_is ∙ append_assoc above before.rows more;
     }
 
@@ -170,33 +177,35 @@ shown_by_rows {S} settings items heading list run result made controller asked s
     are (from_is ∙ ap (λ (s : FromEvent S). s.from) source_is) count within few
 
 -- before the first run nothing stands but what is above the rows
-pub first_shown : {E : Type 0} (settings : AsrunSettings) (list : List Item) (heading : Heading) (shown : Result Shown E)
+pub first_shown : {E : Type 0} (settings : AsrunSettings) (list : List Item) (heading : Heading) (next : Option ℕ)
+    (shown : Result Shown E)
     → IfOk shown (λ s. s.text.items ≡ heading_text settings list) → IfOk shown (λ s. s.told.items ≡ [])
-    → IfOk shown (λ s. AreShown settings list heading [] s.text.items s.told.items)
-first_shown settings list heading (Ok s) text told = record {
+    → IfOk shown (λ s. AreShown settings list heading next [] s.text.items s.told.items)
+first_shown settings list heading next (Ok s) text told = record {
   rows = [];
   show = (refl, told);
   text_is = text ∙ sym (append-nil (heading_text settings list));
 }
-first_shown settings list heading (Err e) text told = tt
+first_shown settings list heading next (Err e) text told = tt
 
 -- the runs that ended before a row more
 pub shown_on : {E : Type 0} (settings : AsrunSettings) (list : List Item) (heading : Heading) (shown : Result Shown E)
-    (ended ended' : List Run) → ended' ≡ ended
-    → IfOk shown (λ s. AreShown settings list heading ended s.text.items s.told.items)
-    → IfOk shown (λ s. AreShown settings list heading ended' s.text.items s.told.items)
-shown_on settings list heading shown ended ended' same h =
-    subst (λ (runs : List Run). IfOk shown (λ s. AreShown settings list heading runs s.text.items s.told.items)) (sym same) h
+    (next next' : Option ℕ) (ended ended' : List Run) → next' ≡ next → ended' ≡ ended
+    → IfOk shown (λ s. AreShown settings list heading next ended s.text.items s.told.items)
+    → IfOk shown (λ s. AreShown settings list heading next' ended' s.text.items s.told.items)
+shown_on settings list heading shown next next' ended ended' same_next same h =
+    subst (λ (n : Option ℕ). IfOk shown (λ s. AreShown settings list heading n ended' s.text.items s.told.items)) (sym same_next)
+    (subst (λ (runs : List Run). IfOk shown (λ s. AreShown settings list heading next runs s.text.items s.told.items)) (sym same) h)
 
 -- all runs are shown
 pub shows_journal : (settings : AsrunSettings) (list : List Item) (digest : Option (List ℕ)) (lines : FileBytes)
     (journal : Journal) (heading : Heading) (runs : List Run) (text told : List ℕ) → IsJournal lines journal
     → journal.heading ≡ heading → IfSome digest (λ known. heading.digest ≡ known) → runs_of journal.rows ≡ runs
-    → AreShown settings list heading runs text told → ShowsJournal settings list digest lines text told
+    → AreShown settings list heading None runs text told → ShowsJournal settings list digest lines text told
 shows_journal settings list digest lines journal heading runs text told reads same of_list all shown = record {
   journal = journal;
   reads = reads;
   of_list = subst (λ (h : Heading). IfSome digest (λ known. h.digest ≡ known)) (sym same) of_list;
-  show = subst (λ (h : Heading). AreShown settings list h (runs_of journal.rows) text told) (sym same)
-      (subst (λ (rs : List Run). AreShown settings list heading rs text told) (sym all) shown);
+  show = subst (λ (h : Heading). AreShown settings list h None (runs_of journal.rows) text told) (sym same)
+      (subst (λ (rs : List Run). AreShown settings list heading None rs text told) (sym all) shown);
 }

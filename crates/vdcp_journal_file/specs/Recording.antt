@@ -25,11 +25,13 @@ use Rattle.vdcp_words.specs.declared.command.Command.{Command}
 use Rattle.vdcp_words.specs.declared.command.Command.TheVariants as command
 use Rattle.vdcp_words.specs.declared.reply.Reply.TheVariants as reply
 
--- a recorder: the journal's name, the unit of its server, its file, and what is still to be written
+-- a recorder: the journal's name, the unit of its server, its file, the event with which the run began if one was named
+-- (its row is in the file), and what is still to be written
 pub record Recording (F : Type 0) : Type 0 where
   pub name : Bor (List ℕ)
   pub unit : ℕ
   pub file : F
+  pub from : Option ℕ
   pub pending : Pending
 
 -- the rows that are still to be written
@@ -141,11 +143,10 @@ IsTimedOut None left = left ≡ pending.Nothing
 IsTimedOut (Some command) left =
     (time : Moment) × (left ≡ pending.End (record { time = time; note = note.Silence }))
 
--- the event that a run begins with is still to be written, if one is named
-abbrev pub NotesFrom : Option ℕ → Pending → Type 0
-NotesFrom None left = left ≡ pending.Nothing
-NotesFrom (Some event) left =
-    (time : Moment) × (left ≡ pending.End (record { time = time; note = note.From event }))
+-- the row of the event that a run begins with, if one is named
+abbrev pub from_rows : Moment → Option ℕ → List Row
+from_rows time None = []
+from_rows time (Some event) = record { time = time; note = note.From event } ∷ []
 
 -- the row of how the controller ended, if it has ended
 abbrev pub outcome_rows : Moment → Option Outcome → List Row
@@ -185,3 +186,14 @@ IsUnopened name failure = (failure ≡ failures.Open name)
 abbrev pub IsUnbegun : Bor (List ℕ) → Failure → Type 0
 IsUnbegun name failure = (failure ≡ failures.Exists name)
     ⊎ (IsUnopened name failure ⊎ IsUnwritten name failure)
+
+-- the run began with this event, if one was named, and nothing is left to be written
+abbrev pub BeganWith : {F : Type 0} → Option ℕ → Recording F → Type 0
+BeganWith event recorder = (recorder.from ≡ event) × (recorder.pending ≡ pending.Nothing)
+
+-- the file has just these bytes and then the row of the event that the run began with, and all that it has is safe
+pub record HasBegun {F : Type 0} (safe written : F → Option (List ℕ)) (bytes : Option (List ℕ)) (recorder : Recording F)
+    : Type 0 where
+  pub time : Moment
+  pub begun : Appends bytes (safe recorder.file) (rows_text recorder.unit (from_rows time recorder.from))
+  pub synced : safe recorder.file ≡ written recorder.file

@@ -2,7 +2,7 @@
 use Rattle.csv.specs.Writing.{default_writer, row_text}
 use Rattle.sha2.specs.Sha256.{sha256}
 use Rattle.std.specs.Io.KnownBytes.{Appends, Keeps}
-use Rattle.std.specs.Prelude.{ℕ, ◌≡◌, ◌≤◌, ◌+◌, ◌∷◌, ◌++◌, List, [], Option, None, Some, IfSome, false, codes, decimal, drop, if◌then◌else◌, length, option_map, take}
+use Rattle.std.specs.Prelude.{ℕ, ◌≡◌, ◌≤◌, ◌+◌, ◌∷◌, ◌++◌, List, [], Option, None, Some, IfSome, false, codes, decimal, drop, if◌then◌else◌, length, nat_le, option_map, take}
 use Rattle.vdcp_auto.specs.Law.{IsLawful}
 use Rattle.vdcp_auto.specs.Turn.{start}
 use Rattle.vdcp_files.specs.Files.{File, bytes_of}
@@ -11,7 +11,7 @@ use Rattle.vdcp_journal.specs.Journals.{IsJournal, Journal}
 use Rattle.vdcp_journal.specs.Reading.{whole_lines}
 use Rattle.vdcp_journal.specs.Resume.{AllStand, AreTold, log_of}
 use Rattle.vdcp_journal.specs.Runs.{Run, runs_of}
-use Rattle.vdcp_journal.specs.Times.{moment_text, moment_text_if}
+use Rattle.vdcp_journal.specs.Times.{clocked_text, clocked_text_if}
 use Rattle.vdcp_journal.specs.declared.airings.Airing.{Airing}
 use Rattle.vdcp_journal.specs.declared.row.Heading.{Heading}
 use Rattle.vdcp_list.specs.Asrun.{asrun_text, events_text, has_part}
@@ -34,23 +34,31 @@ digest_of rate items = sha256 (asrun_text rate items (length items))
 abbrev pub reported_text : AsrunSettings → List Item → ℕ → ℕ → List Airing → List ℕ
 reported_text settings items from reported airings =
     if settings.times
-    then timed_rows (times_of (λ airing. moment_text airing.played) (λ airing. moment_text airing.known)
-    (λ airing. moment_text_if airing.ended)) settings.rate (has_part items) from (drop from items) airings
+    then timed_rows (times_of (λ airing. clocked_text airing.played) (λ airing. clocked_text airing.known)
+    (λ airing. clocked_text_if airing.ended)) settings.rate (has_part items) from (drop from items) airings
     else events_text settings.rate (has_part items) from (take reported (drop from items))
 
 -- what stands above them
 abbrev pub heading_text : AsrunSettings → List Item → List ℕ
 heading_text settings items = if settings.times then row_text default_writer (timed_heading (has_part items)) else []
 
--- what is told of the event that may have aired though the run doesn't report it, by its number in the run
+-- what is told of an event that may have aired in the run that begins with this row of the journal
 abbrev pub open_text : ℕ → Option ℕ → List ℕ
-open_text from None = []
-open_text from (Some k) = codes "vdcp: event " ++ decimal (from + k) ++ line (codes " may have aired")
+open_text row None = []
+open_text row (Some event) =
+    codes "vdcp: event " ++ (decimal event ++ (codes " may have aired (run of row " ++ (decimal row ++ line (codes ")"))))
+
+-- the event that may have aired though a run that begins with this one doesn't report it, by its number in the run; and then
+-- in the list, if the next run doesn't say whether it did: by beginning with it (it did not) or behind it (it did)
+abbrev pub undecided : (next : Option ℕ) → ℕ → Option ℕ → Option ℕ
+undecided next from None = None
+undecided None from (Some k) = Some (from + k)
+undecided (Some event) from (Some k) = if nat_le (from + k) event then None else Some (from + k)
 
 -- a run of a journal of these items shows this text, and this is told of it: its rows are those of a controller of the
 -- items from its first event on, and the text is the rows of what that one reports; its count is what the log of the
--- rows shows. The event that may have aired besides is told
-pub record ShowsRun (settings : AsrunSettings) (items : List Item) (heading : Heading) (run : Run)
+-- rows shows. The event that may have aired besides is told, unless the next run, if there is one, begins with it or behind it
+pub record ShowsRun (settings : AsrunSettings) (items : List Item) (heading : Heading) (next : Option ℕ) (run : Run)
     (text told : List ℕ) : Type 0 where
   pub within : run.from ≤ length items
   pub stand : AllStand (plan_begun heading items run) run.rows
@@ -62,20 +70,27 @@ pub record ShowsRun (settings : AsrunSettings) (items : List Item) (heading : He
   pub are_airings : AreAirings heading.mode run.rows airings may_have_aired
   pub text_is : text ≡ reported_text settings items run.from
       (state_after (plan_of_run heading items run) run.rows).settled airings
-  pub told_is : told ≡ open_text run.from may_have_aired
+  pub told_is : told ≡ open_text (run.begin + 1) (undecided next run.from may_have_aired)
 
--- the texts of these runs are one after another this text, and what is told of them is this
-abbrev pub ShowRuns : AsrunSettings → List Item → Heading → List Run → List ℕ → List ℕ → Type 0
-ShowRuns settings items heading [] text told = (text ≡ []) × (told ≡ [])
-ShowRuns settings items heading (run ∷ runs) text told = (first first_told rest rest_told : List ℕ)
-    × ShowsRun settings items heading run first first_told × ShowRuns settings items heading runs rest rest_told
+-- the event with which the first of these runs begins, or else the one after them, if there is one
+abbrev pub next_begin : Option ℕ → List Run → Option ℕ
+next_begin next [] = next
+next_begin next (run ∷ runs) = Some run.from
+
+-- the texts of these runs are one after another this text, and what is told of them is this, if the run after them, if there
+-- is one, begins with this event
+abbrev pub ShowRuns : AsrunSettings → List Item → Heading → Option ℕ → List Run → List ℕ → List ℕ → Type 0
+ShowRuns settings items heading next [] text told = (text ≡ []) × (told ≡ [])
+ShowRuns settings items heading next (run ∷ runs) text told = (first first_told rest rest_told : List ℕ)
+    × ShowsRun settings items heading (next_begin next runs) run first first_told
+    × ShowRuns settings items heading next runs rest rest_told
     × (text ≡ first ++ rest) × (told ≡ first_told ++ rest_told)
 
--- the runs show this, below what stands above the rows
-pub record AreShown (settings : AsrunSettings) (items : List Item) (heading : Heading) (runs : List Run)
+-- the runs show this, below what stands above the rows, if the run after them, if there is one, begins with this event
+pub record AreShown (settings : AsrunSettings) (items : List Item) (heading : Heading) (next : Option ℕ) (runs : List Run)
     (text told : List ℕ) : Type 0 where
   pub rows : List ℕ
-  pub show : ShowRuns settings items heading runs rows told
+  pub show : ShowRuns settings items heading next runs rows told
   pub text_is : text ≡ heading_text settings items ++ rows
 
 -- whole lines are those of a journal, of the list with this digest if one is given, whose rows are those of controllers of
@@ -85,7 +100,7 @@ pub record ShowsJournal (settings : AsrunSettings) (items : List Item) (digest :
   pub journal : Journal
   pub reads : IsJournal lines journal
   pub of_list : IfSome digest (λ known. journal.heading.digest ≡ known)
-  pub show : AreShown settings items journal.heading (runs_of journal.rows) text told
+  pub show : AreShown settings items journal.heading None (runs_of journal.rows) text told
 
 -- the text is the as-run list, without times, of some journal of these items
 pub record IsAsrunOf (rate : Rate) (items : List Item) (text : List ℕ) : Type 0 where

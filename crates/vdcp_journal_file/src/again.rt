@@ -7,8 +7,8 @@ ghost use Rattle.vdcp_journal.specs.Runs.{Run};
 ghost use Rattle.vdcp_journal.specs.declared.row.Heading.{Heading};
 ghost use Rattle.vdcp_list.specs.Rests.{items_left};
 ghost use Rattle.vdcp_list.specs.Rows.{FileBytes};
-ghost use Rattle.vdcp_journal_file.specs.Disks.{BeginsWith, HasJust};
-ghost use Rattle.vdcp_journal_file.specs.Recording.{NotesFrom};
+ghost use Rattle.vdcp_journal_file.specs.Disks.{BeginsWith};
+ghost use Rattle.vdcp_journal_file.specs.Recording.{BeganWith, HasBegun};
 ghost use Rattle.vdcp_journal_file.specs.Resuming.{BeginsAfter, IsNoBeginning, IsOpenedAfter, IsOpenedAgain, IsOver, IsRunOn, IsUnopenedAgain};
 ghost use Rattle.vdcp_text.specs.declared.failure.Failure.TheVariants as failures;
 
@@ -29,8 +29,8 @@ use vdcp_text::Failure;
 /// Begins a new controller after the last run of the journal of this name, if it is one of what is wanted: at the event
 /// of this number, if the operator says one, or else at the first that the run doesn't report. The failure is
 /// `MayHaveAired` if that may have aired, and `NoEvent` if the number is above the list's length. If the operator says
-/// nothing, the end of a run that is done or stopped is told again. The row that says where the controller begins is
-/// written with the first command. If no run begins nothing is written.
+/// nothing, the end of a run that is done or stopped is told again. The row that says where the controller begins is safe
+/// then, before anything is sent. If no run begins nothing is written.
 pub fn begin_again<'a, 'r, 's, R: Files<File = File> + Clock + AllocGlobal, S: Source>(
     rt: &'r R,
     name: &'a str,
@@ -47,14 +47,14 @@ pub fn begin_again<'a, 'r, 's, R: Files<File = File> + Clock + AllocGlobal, S: S
     ensures goes_on { IfOk result (λ r. IsSome r.recorder ↔ (outcome_of r.controller.state.stage ≡ None)) }
     ensures unit { IfOk result (λ r. IfSome r.recorder (λ recorder. recorder.unit ≡ wanted.now.unit)) }
     ensures name { IfOk result (λ r. IfSome r.recorder (λ recorder. recorder.name ≡ name.entry)) }
-    ensures from { IfOk result (λ r. IfSome r.recorder (λ recorder. NotesFrom (Some r.controller.source.from) recorder.pending)) }
+    ensures from { IfOk result (λ r. IfSome r.recorder (BeganWith (Some r.controller.source.from))) }
     ensures unopened { IfErr result (IsUnopenedAgain (S.items source.now) name.entry wanted.now word) }
 {
     let file = open(rt, name)?;
     begin_in(rt, name, wanted, source, word, file)
 }
 
-// The same in this file, which then has just the lines that were read.
+// The same in this file, which then has just the lines that were read, and the row that begins the run.
 fn begin_in<'a, 'r, 's, R: Clock + AllocGlobal, S: Source, F: ReadableDisk + Drop>(
     rt: &'r R,
     name: &'a str,
@@ -68,13 +68,13 @@ fn begin_in<'a, 'r, 's, R: Clock + AllocGlobal, S: Source, F: ReadableDisk + Dro
     requires few { wanted.now.limit ≤ 1000 }
     ensures opened { IfOk result (λ r. (lines : FileBytes) × IsOpenedAfter (S.items source.now) wanted.now lines word
         r.controller.source.from (plan_of (items_left (λ s. S.items s.now)) r.controller) r.controller.state
-        × IfSome r.recorder (λ recorder. HasJust F.safe F.written lines recorder.file)
+        × IfSome r.recorder (HasBegun F.safe F.written lines)
         × BeginsWith (option_map whole_lines (F.written file)) lines) }
     ensures list { IfOk result (λ r. S.items r.controller.source.source.now ≡ S.items source.now) }
     ensures goes_on { IfOk result (λ r. IsSome r.recorder ↔ (outcome_of r.controller.state.stage ≡ None)) }
     ensures unit { IfOk result (λ r. IfSome r.recorder (λ recorder. recorder.unit ≡ wanted.now.unit)) }
     ensures name { IfOk result (λ r. IfSome r.recorder (λ recorder. recorder.name ≡ name.entry)) }
-    ensures from { IfOk result (λ r. IfSome r.recorder (λ recorder. NotesFrom (Some r.controller.source.from) recorder.pending)) }
+    ensures from { IfOk result (λ r. IfSome r.recorder (BeganWith (Some r.controller.source.from))) }
     ensures unopened { IfErr result (IsUnopenedAgain (S.items source.now) name.entry wanted.now word) }
 {
     mend_heading(rt, name, wanted, &mut file)?;
@@ -86,7 +86,7 @@ fn begin_in<'a, 'r, 's, R: Clock + AllocGlobal, S: Source, F: ReadableDisk + Dro
     let event = beginning(source, word, &run)?;
     cut(rt.alloc(), name, &mut file)?;
     let mut recorder = Recorder::after(rt, name, wanted.unit, file, Pending::Nothing);
-    recorder.note_from(Some(event));
+    recorder.keep_from(Some(event))?;
     Ok(Resumption {
         controller: new_controller(source, event, wanted),
         recorder: Some(recorder),
@@ -97,6 +97,7 @@ fn begin_in<'a, 'r, 's, R: Clock + AllocGlobal, S: Source, F: ReadableDisk + Dro
 fn is_told_again<S: Source>(word: Option<usize>, controller: &Controller<S>) -> bool
     ensures unsaid { IsTrue result → word ≡ None }
     ensures is_over { IsTrue result → IsOver (outcome_of controller.now.state.stage) }
+    ensures told { word ≡ None → IsOver (outcome_of controller.now.state.stage) → IsTrue result }
 {
     match word {
         None => is_over(controller),
@@ -106,7 +107,8 @@ fn is_told_again<S: Source>(word: Option<usize>, controller: &Controller<S>) -> 
 
 // Whether nothing is to be sent any more.
 fn is_over<S: Source>(controller: &Controller<S>) -> bool
-    ensures { IsTrue result → IsOver (outcome_of controller.now.state.stage) }
+    ensures over { IsTrue result → IsOver (outcome_of controller.now.state.stage) }
+    ensures told { IsOver (outcome_of controller.now.state.stage) → IsTrue result }
 {
     match controller.outcome() {
         Some(Outcome::Done | Outcome::Stopped) => true,

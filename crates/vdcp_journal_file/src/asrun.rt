@@ -7,10 +7,11 @@ ghost use Rattle.vdcp_journal.specs.Reading.{whole_lines};
 ghost use Rattle.vdcp_journal.specs.Runs.{Run};
 ghost use Rattle.vdcp_journal.specs.declared.row.Heading.{Heading};
 ghost use Rattle.vdcp_journal_file.specs.Resuming.{IsMadeOrRefused};
-ghost use Rattle.vdcp_journal_file.specs.Showing.{AreShown, IsAsrunOf, IsShown, IsShownAndTold, IsToldOnly, ShowsJournal, digest_of, heading_text, open_text, reported_text};
+ghost use Rattle.vdcp_journal_file.specs.Showing.{AreShown, IsAsrunOf, IsShown, IsShownAndTold, IsToldOnly, ShowsJournal, digest_of, heading_text, open_text, reported_text, undecided};
 ghost use Rattle.vdcp_journal_file.specs.declared.reading.Refusal.TheVariants as refusals;
 ghost use Rattle.vdcp_text.specs.Failure.{status_of};
 ghost use Rattle.vdcp_text.specs.declared.failure.Failure.TheVariants as failures;
+ghost use Rattle.vdcp_text.specs.declared.failure.JournalFault.TheVariants as faults;
 
 use crate::named::events_in;
 use crate::reading::{Refusal, begun, followed, read_refusal, refusal_of};
@@ -44,7 +45,7 @@ pub struct AsrunSettings {
 /// The status is 0 if it is printed, 1 if a row of the list or of the journal is refused, or the list isn't the
 /// journal's, and 3 if a file can't be read, memory was refused or a writer failed. The list is read first. If it
 /// isn't 0, `err` gets one line, unless it was a writer that failed. If it is 0, `err` gets a line for each run whose
-/// next event may have aired.
+/// next event may have aired, unless the run after it begins with that event or a later one.
 pub fn do_asrun<J: io::Read + Drop, L: io::Read + Drop, W: io::Write, E: io::Write>(
     alloc: Global,
     journal: NamedFile<'_, J>,
@@ -223,17 +224,22 @@ fn shown_by<S: Source, I: io::Read + Drop>(
     let heading = rows.heading;
     expect(&heading, digest)?;
     let mut shown = heading_shown(alloc, events, settings);
+    let mut begin = 1;
     let mut made = begun(events, &heading, 0, 1);
     let mut airings = AiringsSoFar::new(alloc, events, heading.mode);
     for read in 0..usize::MAX - 1 {
         let row = match rows.next_row() {
             Ok(Some(row)) => row,
-            Ok(None) => return with_run(alloc, shown, made, airings, events, settings),
+            Ok(None) => {
+                return with_run(alloc, shown, made, airings, begin, None, events, settings);
+            }
             Err(fault) => return Err(read_refusal(fault)),
         };
         match begins_at(&row.note) {
             Some(event) => {
-                shown = with_run(alloc, shown, made, airings, events, settings);
+                let next = Some(event);
+                shown = with_run(alloc, shown, made, airings, begin, next, events, settings);
+                begin = read + 2;
                 made = begun(events, &heading, event, read + 2);
                 airings = AiringsSoFar::new(alloc, events, heading.mode);
             }
@@ -251,6 +257,8 @@ fn expect(heading: &Heading, digest: Option<[u8; 32]>) -> Result<(), Refusal>
     ensures some { OnOk result (1 ≤ heading.now.limit) }
     ensures few { OnOk result (heading.now.limit ≤ 1000) }
     ensures digest { OnOk result (IfSome digest (λ digest. heading.now.digest ≡ digest)) }
+    ensures refused { IfErr result (λ why. (why ≡ refusals.Row 1 faults.List)
+        ⊎ ((why ≡ refusals.Row 1 faults.Limit) × ((heading.now.limit < 1) ⊎ (1000 < heading.now.limit)))) }
 {
     match digest {
         Some(digest) if digest != heading.digest => return Err(Refusal::Row(1, JournalFault::List)),
@@ -262,22 +270,26 @@ fn expect(heading: &Heading, digest: Option<[u8; 32]>) -> Result<(), Refusal>
     Ok(())
 }
 
-// Adds what a run shows, once its rows have come to an end.
+// Adds what a run shows that begins with this row of the journal, once its rows have come to an end: there are no more, or the
+// next run begins, with this event.
 fn with_run<'s, S: Source>(
     alloc: Global,
     shown: Result<Shown, Refusal>,
     made: Result<RunSoFar<'s, S>, Refusal>,
     airings: AiringsSoFar<&'s S>,
+    begin: usize,
+    next: Option<usize>,
     events: &'s S,
     settings: AsrunSettings,
 ) -> Result<Shown, Refusal>
     requires { (heading : Heading) × (run : Run) × IsMadeOrRefused (λ s. S.items s.now) heading (S.items events.now) run made
         × FoundSoFar (λ s. S.items s.now) heading.mode run.rows airings }
     ensures { (heading : Heading) (runs : List Run) (run : Run)
-        → IfOk shown (λ s. AreShown settings (S.items events.now) heading runs s.text.items s.told.items)
+        → run.begin + 1 ≡ begin
+        → IfOk shown (λ s. AreShown settings (S.items events.now) heading (Some run.from) runs s.text.items s.told.items)
         → IsMadeOrRefused (λ s. S.items s.now) heading (S.items events.now) run made.entry
         → FoundSoFar (λ s. S.items s.now) heading.mode run.rows airings.entry
-        → IfOk result (λ s. AreShown settings (S.items events.now) heading (runs ++ run ∷ []) s.text.items
+        → IfOk result (λ s. AreShown settings (S.items events.now) heading next (runs ++ run ∷ []) s.text.items
         s.told.items) }
 {
     what_is_told_is_lawful();
@@ -302,7 +314,7 @@ fn with_run<'s, S: Source>(
         settings,
         &mut text,
     )?;
-    add_event(from, unsettled, &mut told)?;
+    add_event(begin, undecided(next, from, unsettled), &mut told)?;
     Ok(Shown { text, told })
 }
 
@@ -367,17 +379,31 @@ fn add_reported<S: Source>(
     }
 }
 
-// Adds what is told of the event that may have aired, if there is one.
-fn add_event(from: usize, event: Option<usize>, told: &mut Vec<u8>) -> Result<(), Refusal>
+// The number in the list of the event that may have aired in a run, unless the next one begins with it or a later one: the
+// operator has said then whether it did.
+fn undecided(next: Option<usize>, from: usize, event: Option<usize>) -> Option<usize>
     requires { IfSome event (λ k. from + k < 2 ^ 64) }
-    ensures told { OnOk result (told.new.items ≡ told.old.items ++ open_text from event) }
+    ensures { result ≡ undecided next from event }
+{
+    let event = from + event?;
+    match next {
+        Some(next) if event <= next => None,
+        _ => Some(event),
+    }
+}
+
+// Adds what is told of the event that may have aired, if there is one, in the run that begins with this row of the journal.
+fn add_event(begin: usize, event: Option<usize>, told: &mut Vec<u8>) -> Result<(), Refusal>
+    ensures told { OnOk result (told.new.items ≡ told.old.items ++ open_text begin event) }
     ensures memory { IfErr result (λ f. f ≡ refusals.Memory) }
 {
-    let Some(k) = event else {
+    let Some(event) = event else {
         return Ok(());
     };
-    let event = from + k;
-    match writeln!(told, "vdcp: event {event} may have aired") {
+    match writeln!(
+        told,
+        "vdcp: event {event} may have aired (run of row {begin})"
+    ) {
         Ok(()) => Ok(()),
         Err(_) => Err(Refusal::Memory),
     }

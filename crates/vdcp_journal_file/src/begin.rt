@@ -1,7 +1,11 @@
 //! How a new journal is begun.
-ghost use Rattle.std.specs.Prelude.{◌≡◌, ◌≤◌, IfErr, IfOk};
-ghost use Rattle.vdcp_journal_file.specs.Recording.{IsUnbegun, NotesFrom};
+ghost use Rattle.std.specs.Io.KnownBytes.{Appends};
+ghost use Rattle.std.specs.Prelude.{◌≡◌, ◌≤◌, ◌++◌, IfErr, IfOk};
+ghost use Rattle.vdcp_journal.specs.Rows.{fields_text, heading_fields, rows_text};
+ghost use Rattle.vdcp_journal.specs.declared.moment.Moment.{Moment};
+ghost use Rattle.vdcp_journal_file.specs.Recording.{BeganWith, IsUnbegun, IsUnwritten, from_rows};
 
+use crate::disk::Disk;
 use crate::file::{make, sync_folder};
 use crate::recorder::Recorder;
 use std::fs::{self, File};
@@ -9,8 +13,8 @@ use std::rt::{Clock, Files};
 use vdcp_journal::Heading;
 use vdcp_text::Failure;
 
-/// Makes a journal: its file, with the first row. Both are safe then, if the system can say that of a folder. The event
-/// that the run begins with, if one is named, is written with the first command.
+/// Makes a journal: its file, with the first row, and that of the event that the run begins with, if one is named. All are
+/// safe then, if the system can say that of a folder.
 /// The failure is `Exists` if there is a file of this name, which stays as it is; else `Open`, `InUse`, `Write` or
 /// `Memory`.
 pub fn begin_journal<'a, 'r, R: Files<File = File> + Clock + AllocGlobal>(
@@ -21,14 +25,13 @@ pub fn begin_journal<'a, 'r, R: Files<File = File> + Clock + AllocGlobal>(
 ) -> Result<Recorder<'a, 'r, R, File>, Failure<'a>>
     requires { heading.now.unit ≤ 15 }
     ensures begun { IfOk result (λ r. (r.name ≡ name.entry) × (r.unit ≡ heading.now.unit)) }
-    ensures from { IfOk result (λ r. NotesFrom from r.pending) }
+    ensures from { IfOk result (BeganWith from) }
     ensures unbegun { IfErr result (IsUnbegun name.entry) }
 {
     let file = make(rt, name)?;
-    match Recorder::begin(rt, name, heading, file) {
-        Ok(mut recorder) => {
+    match begin_in(rt, name, heading, from, file) {
+        Ok(recorder) => {
             sync_folder(rt, name);
-            recorder.note_from(from);
             Ok(recorder)
         }
         Err(failure) => {
@@ -36,4 +39,24 @@ pub fn begin_journal<'a, 'r, R: Files<File = File> + Clock + AllocGlobal>(
             Err(failure)
         }
     }
+}
+
+// Writes the first row, and that of the event that the run begins with, if one is named, to an empty file.
+fn begin_in<'a, 'r, R: Clock + AllocGlobal, F: Disk + Drop>(
+    rt: &'r R,
+    name: &'a str,
+    heading: &Heading,
+    from: Option<usize>,
+    file: F,
+) -> Result<Recorder<'a, 'r, R, F>, Failure<'a>>
+    requires { heading.now.unit ≤ 15 }
+    ensures begun { IfOk result (λ r. (first time : Moment) × Appends (F.written file) (F.safe r.file)
+        (fields_text (heading_fields first heading.now) ++ rows_text heading.now.unit (from_rows time from))) }
+    ensures named { IfOk result (λ r. (r.name ≡ name.entry) × (r.unit ≡ heading.now.unit)) }
+    ensures from { IfOk result (BeganWith from) }
+    ensures unwritten { IfErr result (IsUnwritten name.entry) }
+{
+    let mut recorder = Recorder::begin(rt, name, heading, file)?;
+    recorder.keep_from(from)?;
+    Ok(recorder)
 }

@@ -7,6 +7,7 @@ ghost use Rattle.vdcp_journal_file.specs.Disks.{HasJust, Spills};
 
 use std::fs::{File, OpenFile};
 use std::io::{self, ErrorKind, Read, Seek, SeekFrom, Write};
+use std::os::unix::fs::MetadataExt;
 
 /// A file that grows. What is written to it is safe, also when the power fails, once it was synced; before that a beginning
 /// of it may be.
@@ -35,6 +36,10 @@ pub trait Disk {
         ensures bytes { Keeps (written self.old) (written self.new) }
         ensures synced { OnOk result (safe self.new ≡ written self.new) }
         ensures spills { OnErr result (Spills (safe self.old) (safe self.new) (written self.new)) };
+
+    /// Whether it has a name still. If it hasn't, since it was removed or another file took the name, nobody finds what is
+    /// written.
+    fn is_named(&self) -> bool;
 }
 
 impl<F: Write + OpenFile> Disk for F {
@@ -44,6 +49,14 @@ impl<F: Write + OpenFile> Disk for F {
 
     fn sync(&mut self) -> io::Result<()> {
         self.sync_data()
+    }
+
+    fn is_named(&self) -> bool {
+        match self.metadata() {
+            // (what isn't on a system's disk has neither)
+            Ok(found) => found.nlink() > 0 || found.ino() == 0,
+            Err(_) => true,
+        }
     }
 }
 

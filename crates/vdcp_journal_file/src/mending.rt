@@ -2,20 +2,24 @@
 ghost use Rattle.std.specs.Io.KnownBytes.{Appends};
 ghost use Rattle.std.specs.Prelude.{◌≡◌, ◌<◌, ◌≤◌, ◌⊎◌, [], IfErr, IfOk, IfSome, IsTrue, OnOk, length, option_map, take};
 ghost use Rattle.vdcp_journal.specs.Reading.{whole_lines};
-ghost use Rattle.vdcp_journal_file.specs.Disks.{AreLines, BeginsWith, KeepsLines};
+ghost use Rattle.vdcp_auto.specs.Plan.{plan_of};
+ghost use Rattle.vdcp_auto.specs.Turn.{given, outcome_of};
+ghost use Rattle.vdcp_list.specs.Rests.{items_left};
+ghost use Rattle.vdcp_journal_file.specs.Disks.{AreLines, BeginsWith, KeepsLines, lines_before_last};
+ghost use Rattle.vdcp_journal_file.specs.Mending.{announced_state, asks_state_if, is_loss_unsaid, loss_notes, next_unkept, unkept_notes};
 ghost use Rattle.vdcp_journal_file.specs.Recording.{IsUnwritten};
 ghost use Rattle.vdcp_journal_file.specs.Resuming.{IsUnread, IsUnresumed};
 
 use crate::disk::{ReadableDisk, append_safely};
 use crate::pending::RecordFault;
 use crate::reading::{LastRun, is_end, replay};
-use crate::recorder::{heading_text, now};
+use crate::recorder::heading_text;
 use crate::resume::{reader_of, replay_file, size_read, whole_size};
 use std::alloc::Global;
 use std::io::{self, ErrorKind, Read};
 use std::rt::Clock;
 use vdcp_auto::{Heard, Outcome, Phase, Source, Standing};
-use vdcp_journal::{Heading, Note, Row, write_row};
+use vdcp_journal::{Heading, Moment, Note, Row, write_row};
 use vdcp_text::Failure;
 use vdcp_words::state::{CUE_DONE, PLAYING};
 use vdcp_words::{Command, Reply};
@@ -106,14 +110,13 @@ pub(crate) fn mend_end<'a, R: Clock + AllocGlobal, S: Source, F: ReadableDisk>(
     if first.is_some() {
         run.controller.timeout();
     }
-    let (silence, lost) = if is_loss_unsaid(&run) {
-        let open = first.is_some() || run.open.is_some();
-        let silence = if open { Some(Note::Silence) } else { None };
-        (silence, Some(Note::End(Outcome::Lost)))
-    } else {
-        (None, None)
-    };
-    match text_of(rt, wanted.unit, [first, second, third, silence, lost]) {
+    let asked = first.is_some() || run.open.is_some();
+    let [silence, lost] = loss_of(is_loss_unsaid(&run), asked);
+    match text_of(
+        rt.alloc(),
+        wanted.unit,
+        [first, second, third, silence, lost],
+    ) {
         Ok(rows) if rows.is_empty() => Ok(()),
         Ok(rows) => Ok(replace_from(name, size, rows.as_slice(), file)?),
         Err(fault) => Err(fault.failure(name)),
@@ -132,6 +135,8 @@ fn replay_kept<'a, 's, S: Source, F: ReadableDisk>(
     requires some { 1 ≤ wanted.now.limit }
     requires few { wanted.now.limit ≤ 1000 }
     ensures size { IfOk result (λ r. IfSome (F.written file.now) (λ text. AreLines text r.1)) }
+    ensures left_out { IfOk result (λ r. IsTrue (asks_state_if r.0.«open») →
+        IfSome (F.written file.now) (λ text. r.1 ≡ length (lines_before_last text))) }
     ensures unresumed { IfErr result (IsUnresumed (S.items source.now) name.entry wanted.now) }
 {
     let run = replay_file(alloc, name, wanted, source, file)?;
@@ -148,7 +153,11 @@ fn replay_kept<'a, 's, S: Source, F: ReadableDisk>(
 
 // What may have been sent and heard since the last row: the next command, if it asks for the state, or is a PLAY; and,
 // if the last state announces a PLAY, that, with a state before it that lets it go out.
-fn unkept<S: Source>(run: &LastRun<'_, S>) -> [Option<Note>; 3] {
+fn unkept<S: Source>(run: &LastRun<'_, S>) -> [Option<Note>; 3]
+    ensures { result ≡ unkept_notes (next_unkept run.now.«open»
+        (given (plan_of (items_left (λ s. S.items s.now)) run.now.controller) run.now.controller.state))
+        (announced_state run.now.last_note run.now.controller.state.stage) }
+{
     let next = match (run.open, run.controller.to_send()) {
         (None, Some(command @ (Command::Status(_) | Command::Play))) => Some(Note::Sent(command)),
         _ => None,
@@ -165,7 +174,9 @@ fn unkept<S: Source>(run: &LastRun<'_, S>) -> [Option<Note>; 3] {
 
 // The state that a PLAY goes out after, if the controller waits for the clip before to end, and the last row announces
 // the PLAY: what that row says, but that nothing plays.
-fn announcing<S: Source>(run: &LastRun<'_, S>) -> Option<Heard> {
+fn announcing<S: Source>(run: &LastRun<'_, S>) -> Option<Heard>
+    ensures { result ≡ announced_state run.now.last_note run.now.controller.state.stage }
+{
     let waits = matches!(
         run.controller.snapshot().standing,
         Standing::Ready(Phase::Wait(_))
@@ -190,30 +201,39 @@ fn give<S: Source>(run: &mut LastRun<'_, S>, note: Option<Note>) {
     }
 }
 
-// The text of rows of now with these notes.
-fn text_of<R: Clock + AllocGlobal>(
-    rt: &R,
-    unit: u8,
-    notes: [Option<Note>; 5],
-) -> Result<Vec<u8>, RecordFault>
+// The text of rows with these notes. No clock gives their time: what they say was inferred, not seen.
+fn text_of(alloc: Global, unit: u8, notes: [Option<Note>; 5]) -> Result<Vec<u8>, RecordFault>
     requires { unit ≤ 15 }
 {
-    let mut text = Vec::new(rt.alloc());
+    let mut text = Vec::new(alloc);
     for note in notes {
         if let Some(note) = note {
             let row = Row {
-                time: now(rt),
+                time: Moment::unclocked(),
                 note,
             };
-            write_row(rt.alloc(), unit, &row, None, &mut text)?;
+            write_row(alloc, unit, &row, None, &mut text)?;
         }
     }
     Ok(text)
 }
 
 // Whether the controller has ended Lost, and none of the rows says so.
-fn is_loss_unsaid<S: Source>(run: &LastRun<'_, S>) -> bool {
+fn is_loss_unsaid<S: Source>(run: &LastRun<'_, S>) -> bool
+    ensures { result ≡ is_loss_unsaid (outcome_of run.now.controller.state.stage) run.now.last_note }
+{
     run.controller.outcome() == Some(Outcome::Lost) && !is_end(run.last_note)
+}
+
+// What says that the controller was lost, if that is unsaid: nothing came for the command that is open, if one is, and the end.
+fn loss_of(unsaid: bool, asked: bool) -> [Option<Note>; 2]
+    ensures { result ≡ loss_notes unsaid asked }
+{
+    match (unsaid, asked) {
+        (false, _) => [None, None],
+        (true, false) => [None, Some(Note::End(Outcome::Lost))],
+        (true, true) => [Some(Note::Silence), Some(Note::End(Outcome::Lost))],
+    }
 }
 
 // Keeps the first bytes of a file, as many as this, and writes a text after them; what followed is gone.

@@ -1,6 +1,7 @@
 //! The events that a journal's own rows name.
 ghost use Rattle.std.proofs.Props.{props};
-ghost use Rattle.std.specs.Prelude.{◌<◌, All, IfSome, length};
+ghost use Rattle.std.specs.Prelude.{◌<◌, ◌≡◌, All, IfSome, length};
+ghost use Rattle.vdcp_journal_file.specs.Places.{checked_after, event_after};
 ghost use Rattle.vdcp_value.specs.Parts.{IsItem, IsPart};
 
 use crate::reading::{Refusal, read_refusal, refusal_of};
@@ -147,7 +148,11 @@ struct Place {
 }
 
 impl Place {
-    fn follow(&mut self, note: &Note) {
+    // Follows a note more.
+    fn follow(&mut self, note: &Note)
+        ensures event { self.new.event ≡ event_after self.old.event self.old.is_checked note.now }
+        ensures checked { self.new.is_checked ≡ checked_after self.old.is_checked note.now }
+    {
         match note {
             Note::From(event) => {
                 *self = Place {

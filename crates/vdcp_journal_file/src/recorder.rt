@@ -2,7 +2,7 @@
 ghost use Rattle.std.specs.Duration.{as_nanos};
 ghost use Rattle.std.specs.Io.KnownBytes.{Appends};
 ghost use Rattle.std.specs.Option.{option_copied, option_to_list};
-ghost use Rattle.std.specs.Prelude.{◌≡◌, ◌≢◌, ◌≤◌, ◌/◌, ◌∷◌, [], ◌++◌, Err, IfErr, IfOk, IfSome, IsFalse, IsTrue, OnErr, OnOk, false, min, true};
+ghost use Rattle.std.specs.Prelude.{◌≡◌, ◌≢◌, ◌≤◌, ◌/◌, ◌∷◌, [], ◌++◌, Err, IfErr, IfOk, IfSome, IsFalse, IsTrue, None, OnErr, OnOk, false, min, true};
 ghost use Rattle.vdcp_list.specs.Asrun.{AppendsBeginning};
 ghost use Rattle.vdcp_journal.specs.Rows.{AreBytesOf, fields_text, heading_fields, rows_text};
 ghost use Rattle.vdcp_journal.specs.declared.moment.Moment.{Moment};
@@ -11,7 +11,7 @@ ghost use Rattle.vdcp_drive.specs.Auto.{auto_of};
 ghost use Rattle.vdcp_drive.specs.Leaves.{RunLeaves};
 ghost use Rattle.vdcp_journal.specs.Thinned.{asks_state};
 ghost use Rattle.vdcp_journal_file.specs.Recorded.{IsRecorded, KeepsRow, Loses, LosesRow, MayHold, Notes, call_note};
-ghost use Rattle.vdcp_journal_file.specs.Recording.{Adds, AddsBeginning, FitHeldRows, IsSynced, IsUnwritten, MakesBeginning, MakesSafe, NotesFrom, Recording, after_row, end_note, ended, is_announced, outcome_rows, rows_due, rows_left, with_play};
+ghost use Rattle.vdcp_journal_file.specs.Recording.{Adds, AddsBeginning, FitHeldRows, IsSynced, IsUnwritten, MakesBeginning, MakesSafe, Recording, after_row, end_note, ended, from_rows, is_announced, outcome_rows, rows_due, rows_left, with_play};
 ghost use Rattle.vdcp_journal_file.specs.declared.pending.Pending.TheVariants.{Failed, Nothing};
 ghost use Rattle.vdcp_journal_file.specs.declared.pending.RecordFault.{RecordFault};
 
@@ -42,6 +42,8 @@ pub struct Recorder<'a, 'r, R, F: Disk> {
     name: &'a str,
     unit: u8,
     file: F,
+    // The event with which the run began, if one was named. Its row is in the file.
+    from: Option<usize>,
     pending: Pending,
     held: HeldBytes,
 }
@@ -53,7 +55,7 @@ impl<'a, 'r, R, F: Disk> Model for Recorder<'a, 'r, R, F> {
 
     ghost Value = { Recording F };
 
-    ghost view = { λ r. record { name = r.name; unit = r.unit; file = r.file; pending = r.pending } };
+    ghost view = { λ r. record { name = r.name; unit = r.unit; file = r.file; from = r.from; pending = r.pending } };
 
     ghost invariant = { λ r. (r.unit ≤ 15) × MayHold r.pending
         × IsSynced r.pending (F.safe r.file) (F.written r.file) × FitHeldRows r.unit r.held r.pending };
@@ -71,7 +73,7 @@ impl<'a, 'r, R: Clock + AllocGlobal, F: Disk + Drop> Recorder<'a, 'r, R, F> {
         ensures begun { IfOk result (λ r. (time : Moment) × Appends (F.written file) (F.safe r.file)
             (fields_text (heading_fields time heading.now))) }
         ensures new { IfOk result (λ r. r ≡ record
-            { name = name.entry; unit = heading.now.unit; file = r.file; pending = Nothing }) }
+            { name = name.entry; unit = heading.now.unit; file = r.file; from = None; pending = Nothing }) }
         ensures unwritten { IfErr result (IsUnwritten name.entry) }
     {
         match write_first(rt.alloc(), &now(rt), heading, &mut file) {
@@ -91,13 +93,14 @@ impl<'a, 'r, R: Clock + AllocGlobal, F: Disk + Drop> Recorder<'a, 'r, R, F> {
         requires unit { unit ≤ 15 }
         requires ends { MayHold pending }
         requires synced { F.safe file ≡ F.written file }
-        ensures { result ≡ record { name = name.entry; unit = unit; file = file; pending = pending } }
+        ensures { result ≡ record { name = name.entry; unit = unit; file = file; from = None; pending = pending } }
     {
         Recorder {
             rt,
             name,
             unit,
             file,
+            from: None,
             pending,
             held: HeldBytes {
                 asks: None,
@@ -161,18 +164,20 @@ impl<'a, 'r, R: Clock + AllocGlobal, F: Disk + Drop> Recorder<'a, 'r, R, F> {
         Ok(())
     }
 
-    /// Notes the event that the run begins with, if one is named. It is written with the first command.
-    pub(crate) fn note_from(&mut self, event: Option<usize>)
+    /// Makes safe the row of the event that the run begins with, if one is named: from then on the journal tells of this run.
+    pub(crate) fn keep_from(&mut self, event: Option<usize>) -> Result<(), Failure<'a>>
         requires { self.old.pending ≡ Nothing }
-        ensures noted { NotesFrom event self.new.pending }
-        ensures rest { self.new ≡ record self.old { pending = self.new.pending } }
+        ensures safe { OnOk result ((time : Moment) × MakesSafe F.safe self.old self.new (from_rows time event)) }
+        ensures synced { OnOk result (F.safe self.new.file ≡ F.written self.new.file) }
+        ensures rest { OnOk result (self.new ≡ record self.old { file = self.new.file; from = event }) }
+        ensures failure { IfErr result (IsUnwritten self.old.name) }
     {
-        if let Some(event) = event {
-            self.pending = Pending::End(Row {
-                time: now(self.rt),
-                note: Note::From(event),
-            });
+        let time = now(self.rt);
+        if let Err(fault) = self.write(from_row(time, event), None) {
+            return Err(fault.failure(self.name));
         }
+        self.from = event;
+        Ok(())
     }
 
     /// Writes what is pending, and how the controller ended, if it has ended. The failure is that of the first row
@@ -284,6 +289,19 @@ impl<R: Clock + AllocGlobal, F: Disk + Drop> Keep for Recorder<'_, '_, R, F> {
     }
 }
 
+// The row of the event that a run begins with, if one is named.
+fn from_row(time: Moment, event: Option<usize>) -> Option<Row>
+    ensures { option_to_list result ≡ from_rows time event }
+{
+    match event {
+        Some(event) => Some(Row {
+            time,
+            note: Note::From(event),
+        }),
+        None => None,
+    }
+}
+
 // The row of how the controller ended, if it has ended.
 fn outcome_row(time: Moment, outcome: Option<Outcome>) -> Option<Row>
     ensures { option_to_list result ≡ outcome_rows time outcome }
@@ -367,7 +385,7 @@ fn first_text(alloc: Global, time: &Moment, heading: &Heading) -> Result<Vec<u8>
     Ok(text)
 }
 
-// Writes what is left, and then a row, if there is one, in one, and makes that safe.
+// Writes what is left, and then a row, if there is one, in one, and makes that safe. A file that has lost its name fails.
 fn write_rows<F: Disk>(
     alloc: Global,
     unit: u8,
@@ -395,6 +413,9 @@ fn write_rows<F: Disk>(
     }
     if text.is_empty() {
         return Ok(());
+    }
+    if !file.is_named() {
+        return Err(RecordFault::Device);
     }
     match append_safely(file, text.as_slice()) {
         Ok(()) => Ok(()),

@@ -17,13 +17,13 @@ use crate::file::open;
 use crate::mending::{mend_end, mend_heading, not_read};
 use crate::pending::Pending;
 use crate::reading::{LastRun, is_end, replay};
-use crate::recorder::{Recorder, now};
+use crate::recorder::Recorder;
 use std::alloc::Global;
 use std::fs::File;
 use std::io::Read;
 use std::rt::{Clock, Files};
 use vdcp_auto::{Controller, Outcome, Source};
-use vdcp_journal::{Heading, Note, Row, size_of_lines};
+use vdcp_journal::{Heading, Moment, Note, Row, size_of_lines};
 use vdcp_list::Rest;
 use vdcp_text::Failure;
 use vdcp_words::Command;
@@ -198,7 +198,7 @@ pub(crate) fn go_on<'a, 'r, 's, R: Clock + AllocGlobal, S: Source, F: Disk + Dro
         last_note,
         ..
     } = run;
-    let mut recorder = Recorder::after(rt, name, unit, file, pending_after(rt, open));
+    let mut recorder = Recorder::after(rt, name, unit, file, pending_after(open));
     if let Some(outcome) = controller.outcome() {
         finish(&mut recorder, outcome, last_note)?;
         return Ok(Resumption {
@@ -229,14 +229,14 @@ fn finish<'a, R: Clock + AllocGlobal, F: Disk + Drop>(
     recorder.finish(Some(outcome))
 }
 
-// What is still to be written if this command's exchange was timed out, if one was.
-fn pending_after<R: Clock>(rt: &R, open: Option<Command>) -> Pending
+// What is still to be written if this command's exchange was timed out, if one was. No clock gives its time.
+fn pending_after(open: Option<Command>) -> Pending
     ensures pending { IsTimedOut «open» result }
     ensures ends { MayHold result }
 {
     match open {
         Some(_) => Pending::End(Row {
-            time: now(rt),
+            time: Moment::unclocked(),
             note: Note::Silence,
         }),
         None => Pending::Nothing,

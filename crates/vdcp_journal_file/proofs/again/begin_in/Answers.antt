@@ -1,11 +1,13 @@
-use Rattle.std.proofs.Common.{refl}
-use Rattle.std.proofs.lemmas.Option.{IfSome_then}
+use Rattle.std.proofs.Common.{ap, refl}
 use Rattle.std.proofs.lemmas.Result.{IfOk-weaker, err_from_is_err_and}
-use Rattle.std.specs.Prelude.{option_map}
+use Rattle.std.specs.Prelude.{Some, option_map}
+use Rattle.vdcp_auto.specs.Turn.{outcome_of}
 use Rattle.vdcp_journal.specs.Reading.{whole_lines}
+use Rattle.vdcp_journal_file.proofs.Began.{began_with, has_begun, unrecorded}
 use Rattle.vdcp_journal_file.proofs.Mended.{lines_begin}
 use Rattle.vdcp_journal_file.proofs.OpenedAgain.{both, not_begun, replayed_of}
 use Rattle.vdcp_journal_file.proofs.again.begin_in.Goals as goal
+use Rattle.vdcp_journal_file.specs.Recording.{Recording}
 use Rattle.vdcp_journal_file.specs.Resuming.{begins, is_over, unresumed}
 
 pub returns-in_err-run-clause-unopened : goal.returns-in_err-run-clause-unopened
@@ -22,15 +24,16 @@ returns-in_err-event-clause-unopened g c =
 pub returns-then-is_told_again-clause-opened : goal.returns-then-is_told_again-clause-opened
 returns-then-is_told_again-clause-opened g c =
     let replayed = c.in_ok-run.ensures.replayed in
+    let ended = c.is_told_again.ensures.is_over c.if-is_told_again.true in
     let over = is_over (c.is_told_again.ensures.unsaid c.if-is_told_again.true) replayed.run
-    (replayed_of _ _ _ _ _ _ _ _ replayed) replayed.on.from_is (c.is_told_again.ensures.is_over c.if-is_told_again.true) in
+    (replayed_of _ _ _ _ _ _ _ _ replayed) replayed.on.from_is ended in
     IfOk-weaker c.go_on.result _ _ (λ r p. (
       option_map whole_lines (g.F.Disk.written c.mend_heading.new.file),
       rw p.0 over,
-      IfSome_then r.recorder p.1 (λ recorder is. rw is c.in_ok-cut.ensures.whole),
+      unrecorded r.recorder _ _ _ (ap (λ controller. outcome_of controller.state.stage) p.0) ended p.1,
       lines_begin (g.F.Disk.written c.args.file) (g.F.Disk.written c.mend_heading.new.file)
           c.in_ok-mend_heading.ensures.kept,
-    )) (both c.go_on.result _ _ c.go_on.ensures.controller c.go_on.ensures.file)
+    )) (both c.go_on.result _ _ c.go_on.ensures.controller c.go_on.ensures.goes_on)
 
 pub returns-clause-opened : goal.returns-clause-opened
 returns-clause-opened g c =
@@ -39,13 +42,17 @@ returns-clause-opened g c =
       option_map whole_lines (g.F.Disk.written c.mend_heading.new.file),
       rw c.new_controller.ensures
           (begins replayed.run _ _ (replayed_of _ _ _ _ _ _ _ _ replayed) event.1 event.0 refl refl),
-      rw (c.note_from.ensures.rest, c.after-recorder.ensures) c.in_ok-cut-2.ensures.whole,
+      has_begun g.F.Disk.safe g.F.Disk.written _ c.after-recorder.result c.keep_from.new.self (Some c.in_ok-event.event)
+          (rw c.after-recorder.ensures c.in_ok-cut-2.ensures.whole) c.in_ok-keep_from.ensures.safe
+          c.in_ok-keep_from.ensures.synced c.in_ok-keep_from.ensures.rest,
       lines_begin (g.F.Disk.written c.args.file) (g.F.Disk.written c.mend_heading.new.file)
           c.in_ok-mend_heading.ensures.kept,
     )
 
 pub returns-clause-from : goal.returns-clause-from
-returns-clause-from g c = rw c.new_controller.ensures c.note_from.ensures.noted
+returns-clause-from g c =
+    rw c.new_controller.ensures (began_with c.after-recorder.result c.keep_from.new.self (Some c.in_ok-event.event)
+    (ap (λ (r : Recording _). r.pending) c.after-recorder.ensures) c.in_ok-keep_from.ensures.rest)
 
 pub returns-then-is_told_again-clause-list : goal.returns-then-is_told_again-clause-list
 returns-then-is_told_again-clause-list g c =

@@ -1,6 +1,6 @@
 use Rattle.std.proofs.Common.{ℕ, ap, append-nil, ◌≡◌, ◌+◌, ◌<◌, ◌^◌, List, [], ◌∷◌, ◌++◌, arith, length, length-append, refl, sym, ◌∙◌}
 use Rattle.std.proofs.lemmas.Result.{IfOk-weaker}
-use Rattle.std.specs.Prelude.{Option, Some}
+use Rattle.std.specs.Prelude.{None, Option, Some}
 use Rattle.vdcp_journal.specs.Journals.{IsJournal, Journal}
 use Rattle.vdcp_journal.specs.Runs.{Run, ended_in, ended_runs, last_run, run_after}
 use Rattle.vdcp_journal.specs.declared.row.Row.{Row}
@@ -15,8 +15,9 @@ loop-read-init g c = (
   refl,
   c.in-Ok.ensures.begun,
   record { is = c.begun-made.ensures (last_run []) refl refl refl; found = c.new-airings.ensures },
-  first_shown c.args.settings (g.S.Source.items c.args.events.now) c.in-Ok.rows.heading _
+  first_shown c.args.settings (g.S.Source.items c.args.events.now) c.in-Ok.rows.heading (Some 0) _
       c.heading_shown-shown.ensures.text c.heading_shown-shown.ensures.told,
+  refl,
   refl,
 )
 
@@ -29,7 +30,7 @@ returns-in-Ok-None g c =
     IfOk-weaker c.with_run.result _ _ (λ shown are. shows_journal c.args.settings (g.S.Source.items c.args.events.now)
     c.args.digest (g.I.Read.remaining c.args.lines) journal c.in-Ok.rows.heading _ _ _ reads c.loop-read.invariant.5
     c.in_ok-expect.ensures.digest (c.runs_follow_one_another.ensures.all rows) are)
-    (c.with_run.ensures c.in-Ok.rows.heading (ended_in rows) (last_run rows) c.loop-read.invariant.4
+    (c.with_run.ensures c.in-Ok.rows.heading (ended_in rows) (last_run rows) c.loop-read.invariant.6 c.loop-read.invariant.4
     c.loop-read.invariant.3.is c.loop-read.invariant.3.found)
 
 pub loop-read-preserved : goal.loop-read-preserved
@@ -54,16 +55,34 @@ loop-read-preserved g c =
             (w.in_ok-add-in-None.ensures c.in-Ok.rows.heading.mode run.rows c.loop-read.invariant.3.found (omega (arith, count, few))))
       ],
       elim c.match-begins_at.branch [
-        | in-Some w ↦ rw w.shown-is (shown_on c.args.settings _ c.in-Ok.rows.heading _ _ _
+        | in-Some w ↦
+            let run_is : last_run (rows ++ row ∷ []) ≡ run_after (Some w.in-Some.event) row run =
+            next ∙ ap (λ (o : Option ℕ). run_after o row run) (sym c.begins_at.ensures ∙ w.in-Some.is) in
+            rw w.shown-is (shown_on c.args.settings _ c.in-Ok.rows.heading _ _ _ _ _
+            (ap (λ (r : Run). Some r.from) run_is)
             (c.runs_follow_one_another.ensures.ends rows row
             ∙ ap (λ (o : Option ℕ). ended_in rows ++ ended_runs o run) (sym c.begins_at.ensures ∙ w.in-Some.is))
-            (w.with_run-shown.ensures c.in-Ok.rows.heading (ended_in rows) run c.loop-read.invariant.4
+            (w.with_run-shown.ensures c.in-Ok.rows.heading (ended_in rows) run c.loop-read.invariant.6 c.loop-read.invariant.4
             c.loop-read.invariant.3.is c.loop-read.invariant.3.found))
-        | in-None+in_ok-add-in-None w ↦ rw w.shown-is (shown_on c.args.settings _ c.in-Ok.rows.heading _ _ _
+        | in-None+in_ok-add-in-None w ↦
+            let run_is : last_run (rows ++ row ∷ []) ≡ run_after None row run =
+            next ∙ ap (λ (o : Option ℕ). run_after o row run) (sym c.begins_at.ensures ∙ w.in-None.is) in
+            rw w.shown-is (shown_on c.args.settings _ c.in-Ok.rows.heading _ _ _ _ _
+            (ap (λ (r : Run). Some r.from) run_is)
             (c.runs_follow_one_another.ensures.ends rows row
             ∙ ap (λ (o : Option ℕ). ended_in rows ++ ended_runs o run) (sym c.begins_at.ensures ∙ w.in-None.is)
             ∙ append-nil (ended_in rows))
             c.loop-read.invariant.4)
       ],
       c.next_row.ensures.heading ∙ c.loop-read.invariant.5,
+      elim c.match-begins_at.branch [
+        | in-Some w ↦
+            let run_is : last_run (rows ++ row ∷ []) ≡ run_after (Some w.in-Some.event) row run =
+            next ∙ ap (λ (o : Option ℕ). run_after o row run) (sym c.begins_at.ensures ∙ w.in-Some.is) in
+            rw w.begin-is (omega (arith, ap (λ (r : Run). r.begin) run_is, count))
+        | in-None+in_ok-add-in-None w ↦
+            let run_is : last_run (rows ++ row ∷ []) ≡ run_after None row run =
+            next ∙ ap (λ (o : Option ℕ). run_after o row run) (sym c.begins_at.ensures ∙ w.in-None.is) in
+            rw w.begin-is (ap (λ (r : Run). r.begin + 1) run_is ∙ c.loop-read.invariant.6)
+      ],
     )

@@ -44,11 +44,13 @@ returns-in-Some-clause-kept g c =
     let held = c.in-Some.ensures.held in
     let row : Row = record { time = c.now.result; note = c.args.note } in
     let before = c.self.inside in
-    let new : Recording _ = record { name = before.name; unit = before.unit; file = before.file; pending = c.in-Some.pending } in
+    let new : Recording _ =
+    record { name = before.name; unit = before.unit; file = before.file; from = before.from; pending = c.in-Some.pending } in
     play_kept g.F.Disk.safe c.args.note row c.args.self.now new refl
     (subst (λ (r : Recording _). is_announced r.pending row.note ≡ true) c.self.view_is held.1)
     (subst (λ (r : Recording _). new ≡ record r { pending = with_play r.pending row }) c.self.view_is
-    (ap {B = Recording _} (λ (p : Pending). record { name = before.name; unit = before.unit; file = before.file; pending = p }) held.0))
+    (ap {B = Recording _}
+    (λ (p : Pending). record { name = before.name; unit = before.unit; file = before.file; from = before.from; pending = p }) held.0))
 
 pub returns-clause-kept : goal.returns-clause-kept
 returns-clause-kept g c =
