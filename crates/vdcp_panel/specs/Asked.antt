@@ -1,8 +1,8 @@
 -- Which requests are let in, what a request is shown, and which call it asks for.
-use Rattle.std.specs.Prelude.{ℕ, Bool, true, false, ◌&&◌, ◌||◌, List, codes, decimal, Option, None, Some, bytes_eq, if◌then◌else◌}
+use Rattle.std.specs.Prelude.{ℕ, Bool, true, false, ◌&&◌, ◌||◌, List, [], ◌∷◌, codes, decimal, Option, None, Some, bytes_eq, if◌then◌else◌}
 use Rattle.http.specs.FieldValue.{FieldValue}
-use Rattle.http.specs.HeaderMap.{get}
-use Rattle.http.specs.Uri.{uri_path}
+use Rattle.http.specs.HeaderMap.{get, get_all}
+use Rattle.http.specs.Uri.{uri_authority, uri_path}
 use Rattle.http.specs.declared.request.Request.{Request}
 use Rattle.http.specs.Request.{head_of}
 use Rattle.vdcp_panel.specs.declared.call.Call.{Call}
@@ -19,16 +19,23 @@ abbrev pub is_text : Option FieldValue → List ℕ → Bool
 is_text None text = false
 is_text (Some v) text = bytes_eq v.bytes text
 
--- the value is this text, or there is none
-abbrev pub may_be_text : Option FieldValue → List ℕ → Bool
-may_be_text None text = true
-may_be_text (Some v) text = bytes_eq v.bytes text
+-- there is no value, or one, which is this text
+abbrev pub may_be_text : List FieldValue → List ℕ → Bool
+may_be_text [] text = true
+may_be_text (v ∷ []) text = bytes_eq v.bytes text
+may_be_text (v ∷ w ∷ values) text = false
+
+-- the target has this host, or none
+abbrev pub may_be_at : Option (List ℕ) → List ℕ → Bool
+may_be_at None host = true
+may_be_at (Some target) host = bytes_eq target host
 
 -- the request is to this name, and from no page of another one
 abbrev pub is_of : Name → Request (List ℕ) → Bool
 is_of name r =
     is_text (get (head_of r).headers (codes "host")) name.host.now
-    && may_be_text (get (head_of r).headers (codes "origin")) name.origin.now
+    && (may_be_at (uri_authority (head_of r).uri) name.host.now
+    && may_be_text (get_all (head_of r).headers (codes "origin")) name.origin.now)
 
 abbrev pub is_let_in : Gate → Request (List ℕ) → Bool
 is_let_in g r = is_of g.address r || is_of g.local r
@@ -36,6 +43,10 @@ is_let_in g r = is_of g.address r || is_of g.local r
 -- it has the token
 abbrev pub has_token : Gate → Request (List ℕ) → Bool
 has_token g r = is_text (get (head_of r).headers (codes "x-panel-token")) g.token.now
+
+-- it is let in, and has the token
+abbrev pub shows_token : Gate → Request (List ℕ) → Bool
+shows_token g r = is_let_in g r && has_token g r
 
 -- it names this event
 abbrev pub is_about : Option ℕ → Request (List ℕ) → Bool

@@ -1,9 +1,10 @@
 -- What is to be seen, and what a panel's requests are answered with.
-use Rattle.std.specs.Prelude.{ℕ, ◌≡◌, ◌⊎◌, List, Option, string_bytes}
+use Rattle.std.specs.Prelude.{ℕ, ◌≡◌, ◌⊎◌, ◌||◌, List, Option, string_bytes}
 use Rattle.http.specs.declared.request.Request.{Request}
 use Rattle.http_server.specs.declared.response.Response.{Response}
 use Rattle.mio.specs.declared.net.stream.TcpStream.{TcpStream}
 use Rattle.vdcp_panel.specs.Answered.{IsAnswered}
+use Rattle.vdcp_panel.specs.Asked.{shows_token}
 use Rattle.vdcp_panel.specs.Turned.{HaveTurned}
 use Rattle.vdcp_panel.specs.declared.call.Call.{Call}
 use Rattle.vdcp_panel.specs.declared.desk.Desk.{Desk}
@@ -11,11 +12,13 @@ use Rattle.vdcp_panel.specs.declared.gate.Gate.{Gate}
 use Rattle.vdcp_panel.specs.declared.panel.Names.{Names}
 use Rattle.vdcp_panel.specs.declared.peer.Peer.{Peer}
 
--- a request was answered at a desk, of whose view these are the page, the state and the event that a call is about
+-- a request was answered at a desk, of whose view these are the page, the state and the event that a call is about; with
+-- the token it makes its connection known
 abbrev pub AnswersAtDesk : {V : Type 0} → (page state : V → List ℕ) → (about : V → Option ℕ)
     → Desk V → Request (List ℕ) → Response → Desk V → Type 0
 AnswersAtDesk page state about old r response new =
-    (new ≡ record old { calls = new.calls })
+    (new ≡ record old { calls = new.calls; is_known = new.is_known })
+    × (new.is_known ≡ (old.is_known || shows_token old.gate r))
     × IsAnswered old.gate (page old.view.now) (state old.view.now) (about old.view.now) old.calls.items r response new.calls.items
 
 -- the gate has these texts

@@ -1,6 +1,9 @@
 //! How a request is answered.
-ghost use Rattle.std.specs.Prelude.{◌≡◌, ◌≢◌, [], IsOk, OnErr, OnOk, Some};
-ghost use Rattle.vdcp_panel.specs.Answered.{IsHeld, body_of, calls_after};
+ghost use Rattle.std.specs.Prelude.{◌≡◌, ◌≢◌, ◌++◌, [], ◌∷◌, IsOk, IsTrue, List, OnErr, OnOk, Some};
+ghost use Rattle.http1.specs.Fields.{Header};
+ghost use Rattle.http.specs.FieldValue.{is_visible_text};
+ghost use Rattle.http_server.specs.Response.{fields_of};
+ghost use Rattle.vdcp_panel.specs.Answered.{IsHeld, body_of, calls_after, guards};
 ghost use Rattle.vdcp_panel.specs.Wishes.{shown_by, wish_call};
 
 use crate::call::{Call, Calls};
@@ -23,15 +26,19 @@ pub struct Desk<'a, V: View> {
     pub gate: Gate<'a>,
     pub view: &'a V,
     pub calls: Calls,
+    /// A request that came by the connection whose turn it is had the token.
+    pub is_known: bool,
 }
 
 impl<V: View> Desk<'_, V> {
     fn answer(&mut self, wish: Wish, response: &mut Response) -> Result<(), AllocError>
         requires fresh { response.old.status ≡ 200 }
         requires empty { response.old.body.items ≡ [] }
+        requires bare { fields_of response.old ≡ [] }
         ensures stays { self.new ≡ record self.old { calls = self.new.calls } }
         ensures body { OnOk result (response.new.body.items
             ≡ body_of (shown_by (V.page_bytes self.old.view.now) (V.state_bytes self.old.view.now) wish)) }
+        ensures guarded { OnOk result ((more : List Header) × (fields_of response.new ≡ guards ++ more)) }
         ensures held { OnOk result (self.new.calls.items ≡ calls_after self.old.calls.items (wish_call wish)) }
         ensures accepted { OnOk result (response.new.status ≡ 204 → IsHeld self.old.calls.items self.new.calls.items) }
         ensures refused { OnOk result (response.new.status ≢ 204 → self.new.calls.items ≡ self.old.calls.items) }
@@ -79,6 +86,7 @@ impl<V: View> Desk<'_, V> {
 fn refuse(response: &mut Response, status: StatusCode) -> Result<(), AllocError>
     ensures status { response.new.status ≡ status }
     ensures body { response.new.body ≡ response.old.body }
+    ensures headers { fields_of response.new ≡ fields_of response.old }
     ensures done { IsOk result }
 {
     response.status = status;
@@ -89,22 +97,25 @@ fn refuse(response: &mut Response, status: StatusCode) -> Result<(), AllocError>
 fn add_guards(response: &mut Response) -> Result<(), AllocError>
     ensures status { response.new.status ≡ response.old.status }
     ensures body { response.new.body ≡ response.old.body }
+    ensures headers { OnOk result (fields_of response.new ≡ fields_of response.old ++ guards) }
 {
     add(response, header::CACHE_CONTROL, "no-store")?;
     add(response, header::X_CONTENT_TYPE_OPTIONS, "nosniff")?;
     add(response, header::REFERRER_POLICY, "no-referrer")?;
     add(response, header::CONTENT_SECURITY_POLICY, POLICY)?;
-    add(response, header::X_FRAME_OPTIONS, "DENY")
+    add(response, header::X_FRAME_OPTIONS, "DENY")?;
+    let policy = HeaderName::from_static("cross-origin-resource-policy");
+    add(response, policy, "same-origin")?;
+    Ok(())
 }
 
 fn add(response: &mut Response, name: HeaderName, value: &'static str) -> Result<(), AllocError>
+    requires visible { IsTrue (is_visible_text value.now) }
     ensures status { response.new.status ≡ response.old.status }
     ensures body { response.new.body ≡ response.old.body }
+    ensures headers { OnOk result (fields_of response.new ≡ fields_of response.old ++ (name, value.now) ∷ []) }
 {
-    let Ok(value) = HeaderValue::from_shared(Bytes::from_static(value.as_bytes())) else {
-        return Ok(());
-    };
-    response.add_header(name, value)
+    response.add_header(name, HeaderValue::from_static(value))
 }
 
 impl<V: View> Service for Desk<'_, V> {
@@ -117,7 +128,10 @@ impl<V: View> Service for Desk<'_, V> {
         request: &Request<Bytes>,
         response: &mut Response,
     ) -> Result<(), AllocError> {
+        let shows_token = self.gate.shows_token(request);
         let wish = Wish::of(&self.gate, self.view.event(), request);
-        self.answer(wish, response)
+        self.answer(wish, response)?;
+        self.is_known |= shows_token;
+        Ok(())
     }
 }

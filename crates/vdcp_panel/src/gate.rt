@@ -1,8 +1,10 @@
 //! Which requests are let in, and which may make calls.
 ghost use Rattle.std.specs.Prelude.{◌≡◌, option_copied};
-ghost use Rattle.vdcp_panel.specs.Asked.{has_token, is_let_in, is_of, is_text, may_be_text};
+ghost use Rattle.vdcp_panel.specs.Asked.{has_token, is_let_in, is_of, is_text, may_be_at, may_be_text, shows_token};
 
 use bytes::Bytes;
+use http::header::GetAll;
+use http::uri::Authority;
 use http::{HeaderValue, Request};
 
 /// A name of the server.
@@ -28,7 +30,9 @@ impl Name<'_> {
         ensures { result ≡ is_of self.now request.now }
     {
         let headers = request.headers();
-        is_text(headers.get("host"), self.host) && may_be_text(headers.get("origin"), self.origin)
+        is_text(headers.get("host"), self.host)
+            && may_be_at(request.uri().authority(), self.host)
+            && may_be_text(headers.get_all("origin"), self.origin)
     }
 }
 
@@ -46,6 +50,13 @@ impl Gate<'_> {
     {
         is_text(request.headers().get("x-panel-token"), self.token)
     }
+
+    /// The request is let in, and has the token.
+    pub fn shows_token(&self, request: &Request<Bytes>) -> bool
+        ensures { result ≡ shows_token self.now request.now }
+    {
+        self.lets_in(request) && self.has_token(request)
+    }
 }
 
 /// Whether a header is there, and has this text.
@@ -58,12 +69,23 @@ pub fn is_text(value: Option<&HeaderValue>, text: &str) -> bool
     }
 }
 
-// Whether a header has this text, if it is there.
-fn may_be_text(value: Option<&HeaderValue>, text: &str) -> bool
-    ensures { result ≡ may_be_text (option_copied value.entry) text.now }
+// Whether the target has this host, if it has one.
+fn may_be_at(target: Option<&Authority>, host: &str) -> bool
+    ensures { result ≡ may_be_at (option_copied target.entry) host.now }
 {
-    match value {
-        Some(value) => value.as_bytes() == text.as_bytes(),
+    match target {
+        Some(target) => target.as_str() == host,
         None => true,
     }
+}
+
+// Whether a header has this text, and stands once, if it is there.
+fn may_be_text(values: GetAll<'_, HeaderValue>, text: &str) -> bool
+    ensures { result ≡ may_be_text values.entry text.now }
+{
+    let mut values = values.iter();
+    let Some(value) = values.next() else {
+        return true;
+    };
+    values.next().is_none() && value.as_bytes() == text.as_bytes()
 }

@@ -1,6 +1,7 @@
 //! How a panel is opened at the address that a text writes.
 ghost use Rattle.std.specs.Io.KnownBytes.{Appends};
-ghost use Rattle.std.specs.Prelude.{◌≤◌, IfErr, IfOk, OnOk};
+ghost use Rattle.std.specs.Net.Addr.{IsLoopbackV4};
+ghost use Rattle.std.specs.Prelude.{◌≤◌, IfErr, IfOk, IfSome, OnOk};
 ghost use Rattle.vdcp_panel.specs.Opened.{page_line};
 
 use crate::panel::Panel;
@@ -58,7 +59,9 @@ fn told(line: io::Result<()>, status: u8) -> u8
 }
 
 // The address that a text writes, if it is one that this machine alone reaches.
-fn loopback_address(text: &str) -> Option<SocketAddrV4> {
+fn loopback_address(text: &str) -> Option<SocketAddrV4>
+    ensures { IfSome result (λ address. IsLoopbackV4 address.ip) }
+{
     match SocketAddrV4::parse_ascii(text.as_bytes()) {
         Ok(address) if address.ip().is_loopback() => Some(address),
         Ok(_) | Err(_) => None,

@@ -1,5 +1,6 @@
 //! The panel: it listens, and serves those that ask, without waiting.
-ghost use Rattle.std.specs.Prelude.{◌≡◌, string_bytes};
+ghost use Rattle.hex.specs.Hex.{encode_lower};
+ghost use Rattle.std.specs.Prelude.{◌≡◌, IfOk, length, string_bytes};
 ghost use Rattle.vdcp_panel.specs.Seen.{IsGateOf, ServesSome};
 
 use crate::call::Calls;
@@ -9,8 +10,7 @@ use crate::peers::{MOST_PEERS, Peers};
 use crate::view::View;
 use mio::net::{TcpListener, TcpStream};
 use mio::{Events, Interest, Poll, Token};
-use std::alloc::Global;
-use std::fmt::Write;
+use std::alloc::{AllocError, Global};
 use std::hash::RandomState;
 use std::net::{Net, SocketAddr, SocketAddrV4};
 use std::random::RandomSource;
@@ -18,8 +18,8 @@ use std::rt::Clock;
 use std::time::{Duration, Instant};
 use std::{io, mem};
 
-/// Most connections that one call takes.
-const MOST_NEW: usize = 2;
+/// Most connections that one call takes. Only a flood has as many, and of one only the last are answered.
+const MOST_NEW: usize = 256;
 
 /// How many times as long as a call took the next ones do nothing: so a panel has a twentieth of the time at most.
 const REST: u64 = 19;
@@ -60,7 +60,9 @@ impl Panel {
     pub fn bind<R: Net + AllocGlobal + RandomSource + Clock>(
         rt: &R,
         address: SocketAddrV4,
-    ) -> io::Result<Panel> {
+    ) -> io::Result<Panel>
+        ensures token { IfOk result (λ panel. length (string_bytes panel.names.token) ≡ 32) }
+    {
         let began = Instant::now(rt)?;
         let peers = Peers::new(rt.alloc(), RandomState::new(rt)?)?;
         let events = Events::with_capacity(rt.alloc(), MOST_PEERS)?;
@@ -94,7 +96,7 @@ impl Panel {
         self.names.token.as_str()
     }
 
-    /// Shows this, as far as that can be done without waiting: takes two connections at most, and of each one
+    /// Shows this, as far as that can be done without waiting: takes up to 256 connections, and of each one
     /// makes a write, a read, an answer and a write. The calls gain those that were asked for. After a call that took some
     /// time nothing is done for nineteen times as long. (By a clock that can't be read no time passes.)
     pub fn serve_some<R: Clock, V: View>(&mut self, clock: &R, view: &V, calls: &mut Calls)
@@ -181,7 +183,9 @@ fn listen_at<R: Net>(rt: &R, address: SocketAddrV4) -> io::Result<(TcpListener, 
 }
 
 impl Names {
-    fn new<R: AllocGlobal + RandomSource>(rt: &R, address: SocketAddr) -> io::Result<Names> {
+    fn new<R: AllocGlobal + RandomSource>(rt: &R, address: SocketAddr) -> io::Result<Names>
+        ensures token { IfOk result (λ names. length (string_bytes names.token) ≡ 32) }
+    {
         let alloc = rt.alloc();
         let port = address.port();
         Ok(Names {
@@ -189,7 +193,7 @@ impl Names {
             address_origin: format!(in alloc; "http://{address}")?,
             local: format!(in alloc; "localhost:{port}")?,
             local_origin: format!(in alloc; "http://localhost:{port}")?,
-            token: token(rt)?,
+            token: token_text(alloc, &draw(rt)?)?,
         })
     }
 
@@ -221,16 +225,22 @@ fn desk_over<'a, V: View>(alloc: Global, names: &'a Names, view: &'a V, calls: C
         gate,
         view,
         calls,
+        is_known: false,
     }
 }
 
-// A text that nobody guesses.
-fn token<R: AllocGlobal + RandomSource>(rt: &R) -> io::Result<String> {
+// Bytes that nobody guesses.
+fn draw<R: RandomSource>(rt: &R) -> io::Result<[u8; TOKEN]> {
     let mut bytes = [0; TOKEN];
     rt.fill_bytes(&mut bytes)?;
-    let mut text = String::new(rt.alloc());
-    for byte in bytes.as_slice() {
-        write!(text, "{byte:02x}")?;
-    }
+    Ok(bytes)
+}
+
+// Their text.
+fn token_text(alloc: Global, bytes: &[u8; TOKEN]) -> Result<String, AllocError>
+    ensures hex { IfOk result (λ text. string_bytes text ≡ encode_lower bytes.now) }
+    ensures long { IfOk result (λ text. length (string_bytes text) ≡ 32) }
+{
+    let text = hex::encode(alloc, bytes)?;
     Ok(text)
 }

@@ -1,9 +1,12 @@
 //! One connection, and what is done in its turn.
-ghost use Rattle.std.specs.Prelude.{◌≡◌};
+ghost use Rattle.std.specs.Prelude.{◌≡◌, false};
 ghost use Rattle.http_server.specs.Connection.{history};
 ghost use Rattle.http_server.specs.Exchange.{Calls};
-ghost use Rattle.vdcp_panel.specs.Turned.{calls_at};
+ghost use Rattle.vdcp_panel.specs.Seen.{AnswersAtDesk};
+ghost use Rattle.vdcp_panel.specs.Turned.{HasTurned, calls_at};
 
+use crate::desk::Desk;
+use crate::view::View;
 use http_server::{Connection, Service};
 use std::io::{self, ErrorKind, Read, Write};
 
@@ -16,6 +19,8 @@ const PATIENCE: u64 = 10_000;
 pub struct Peer<T: Read + Write> {
     /// What HTTP makes of it.
     pub connection: Connection,
+    /// Whether a request that came by it had the token.
+    pub is_known: bool,
     stream: T,
     // Each request that came was answered, and the answers went out.
     is_rested: bool,
@@ -38,10 +43,12 @@ enum Stay {
 impl<T: Read + Write> Peer<T> {
     /// A connection that was taken then.
     pub fn new(stream: T, connection: Connection, now: u64) -> Self
-        ensures { result.connection ≡ connection }
+        ensures connection { result.connection ≡ connection }
+        ensures unknown { result.is_known ≡ false }
     {
         Peer {
             connection,
+            is_known: false,
             stream,
             is_rested: true,
             stay: Stay::Active,
@@ -72,10 +79,12 @@ impl<T: Read + Write> Peer<T> {
     }
 
     /// Does what can be done now: a write, a read, a request and a write.
-    pub fn turn<S: Service>(&mut self, service: &mut S, now: u64)
-        ensures { Calls S.answers service.old service.new (calls_at self.old) (calls_at self.new) }
+    pub fn turn<V: View>(&mut self, desk: &mut Desk<'_, V>, now: u64)
+        ensures { HasTurned (AnswersAtDesk V.page_bytes V.state_bytes V.about) desk.old self.old self.new desk.new }
     {
-        self.stay = self.step(service, now);
+        desk.is_known = self.is_known;
+        self.stay = self.step(desk, now);
+        self.is_known = desk.is_known;
         if let Stay::Active = self.stay {
             self.active = now;
         }

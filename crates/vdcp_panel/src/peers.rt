@@ -1,9 +1,12 @@
 //! The connections of a panel, which take turns.
-ghost use Rattle.std.specs.Prelude.{◌≡◌, [], IfOk};
-ghost use Rattle.vdcp_panel.specs.Turned.{HaveTurned};
+ghost use Rattle.std.specs.Prelude.{◌≡◌, ◌⊎◌, ◌<◌, [], IfOk, IfSome, None, Some, length};
+ghost use Rattle.vdcp_panel.specs.Seen.{AnswersAtDesk};
+ghost use Rattle.vdcp_panel.specs.Turned.{HaveTurned, IsKnownAt, IsNoneBefore, known_of};
 
+use crate::desk::Desk;
 use crate::peer::Peer;
-use http_server::{Config, Connection, Service};
+use crate::view::View;
+use http_server::{Config, Connection};
 use http1::Limits;
 use std::alloc::{AllocError, Global};
 use std::hash::RandomState;
@@ -41,8 +44,12 @@ impl<T: Read + Write + Drop> Peers<T> {
         Ok(Peers { peers, alloc, keys })
     }
 
-    /// Adds a connection that was taken then. If there are eight, that at which nothing moved for longest is closed.
-    pub fn add(&mut self, stream: T, now: u64) {
+    /// Adds a connection that was taken then. If there are eight, of those that aren't known that at which nothing moved
+    /// for longest is closed, or if all are known, of them.
+    pub fn add(&mut self, stream: T, now: u64)
+        ensures known { length (known_of self.old.peers.items) < 8 →
+            known_of self.new.peers.items ≡ known_of self.old.peers.items }
+    {
         if self.peers.len() >= MOST_PEERS {
             self.drop_idlest();
         }
@@ -50,28 +57,40 @@ impl<T: Read + Write + Drop> Peers<T> {
         drop(self.peers.push(Peer::new(stream, connection, now)));
     }
 
-    fn drop_idlest(&mut self) {
-        let mut idlest = 0;
-        let mut least = u64::MAX;
-        for place in 0..self.peers.len() {
-            let active = self.peers[place].active();
-            if active < least {
-                least = active;
-                idlest = place;
-            }
-        }
-        if idlest < self.peers.len() {
-            drop(self.peers.remove(idlest));
+    // Closes that at which nothing moved for longest, a known one only if all are.
+    fn drop_idlest(&mut self)
+        ensures known { length (known_of self.old.peers.items) < length self.old.peers.items →
+            known_of self.new.peers.items ≡ known_of self.old.peers.items }
+    {
+        if let Some((place, _)) = self.idlest(false) {
+            drop(self.peers.remove(place));
+        } else if let Some((place, _)) = self.idlest(true) {
+            drop(self.peers.remove(place));
         }
     }
 
+    // Where nothing moved for longest, of those that are known or of those that aren't, and when it did.
+    fn idlest(&self, is_known: bool) -> Option<(usize, u64)>
+        ensures there { IfSome result (λ found. IsKnownAt self.now.peers.items found.0 is_known) }
+        ensures none { result ≡ None → IsNoneBefore self.now.peers.items (length self.now.peers.items) is_known }
+    {
+        let mut idlest = None;
+        'places: for place in 0..self.peers.len() {
+            let peer = &self.peers[place];
+            if peer.is_known == is_known {
+                idlest = Some(idler(idlest, (place, peer.active())));
+            }
+        }
+        idlest
+    }
+
     /// Each connection has its turn, one after another.
-    pub fn turn_each<S: Service>(&mut self, service: &mut S, now: u64)
-        ensures { HaveTurned S.answers service.old self.old.peers.items self.new.peers.items service.new }
+    pub fn turn_each<V: View>(&mut self, desk: &mut Desk<'_, V>, now: u64)
+        ensures { HaveTurned (AnswersAtDesk V.page_bytes V.state_bytes V.about) desk.old self.old.peers.items self.new.peers.items desk.new }
     {
         let mut k = 0;
         'turns: while k < self.peers.len() {
-            self.peers[k].turn(service, now);
+            self.peers[k].turn(desk, now);
             k += 1;
         }
     }
@@ -97,5 +116,15 @@ impl<T: Read + Write + Drop> Peers<T> {
             due = due.min(self.peers[place].due());
         }
         due
+    }
+}
+
+// Of a place that was found before, and another one, each with when bytes moved there last: the one where that is longer ago.
+fn idler(found: Option<(usize, u64)>, other: (usize, u64)) -> (usize, u64)
+    ensures { (result ≡ other) ⊎ (found ≡ Some result) }
+{
+    match found {
+        Some(found) if found.1 <= other.1 => found,
+        Some(_) | None => other,
     }
 }

@@ -6,7 +6,7 @@ use Rattle.vdcp_panel.proofs.panel.Panel.serve_some.Goals as goal
 pub returns : goal.returns
 returns g c = inr (record {
   old = c.desk_over-desk.result;
-  new = c.turn_each.new.service;
+  new = c.turn_each.new.desk;
   gate =
       subst (λ (n : Names). IsGateOf n c.desk_over-desk.result.gate) (c.take_some-took.ensures ∙ c.has_work.ensures)
       c.desk_over-desk.ensures.gate;
