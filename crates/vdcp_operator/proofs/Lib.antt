@@ -1,3 +1,4 @@
 -- The lemmas, file by file.
+pub mod Rounds
 pub mod Showing
 pub mod Typing

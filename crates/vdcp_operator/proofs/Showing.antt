@@ -1,9 +1,17 @@
--- No number that a page is told has a fraction.
-use Rattle.std.proofs.Common.{ℕ, ◌≡◌, false, List, [], ◌∷◌, map, refl}
+-- No number that a page is told has a fraction; and what was shown is of the controller.
+use Rattle.std.proofs.Common.{ℕ, ◌≡◌, false, List, [], ◌∷◌, map, refl, subst, sym}
 use Rattle.std.specs.Prelude.{Option, None, Some}
+use Rattle.vdcp_auto.specs.Plan.{View}
+use Rattle.vdcp_auto.specs.Snapshots.{view_of}
+use Rattle.vdcp_list.specs.Rests.{FromEvent}
+use Rattle.vdcp_panel.specs.Seen.{ServesSome}
+use Rattle.vdcp_panel.specs.declared.call.Call.{Call}
+use Rattle.vdcp_panel.specs.declared.panel.Names.{Names}
+use Rattle.vdcp_operator.specs.declared.seen.RunNames.{RunNames}
+use Rattle.vdcp_value.specs.declared.part.Item.{Item}
 use Rattle.serde_json.specs.View.{items_of}
 use Rattle.serde_json.specs.Written.{has_float, items_have_float}
-use Rattle.vdcp_operator.specs.Seen.{length_by, number_data, row_data, seen_data}
+use Rattle.vdcp_operator.specs.Seen.{AreRound, ShowsRun, about, event_of, length_by, number_data, page_bytes, row_data, seen_data, state_bytes}
 use Rattle.vdcp_operator.specs.declared.seen.EventSeen.{EventSeen}
 use Rattle.vdcp_operator.specs.declared.seen.RunSeen.{RunSeen}
 use Rattle.vdcp_value.specs.declared.clip_id.ClipId.{ClipId}
@@ -22,3 +30,23 @@ rows_whole rate clips (e ∷ events) =
 
 pub seen_whole : (v : RunSeen) → has_float (seen_data v) ≡ false
 seen_whole v = rw (rows_whole v.rate v.clips.now v.rows.now, number_whole v.start) refl
+
+pub shows : {S : Type 0} (items : S → List Item) (c : View (FromEvent S)) (names : RunNames)
+    (clips : Option (List (ClipId × Timecode))) (panel panel' : Names) (calls calls' calls'' : List Call) (view : RunSeen)
+    (rows : List EventSeen)
+    → view.names.now ≡ names → view.clips.now ≡ clips → c ≡ view_of c.source view.snapshot → view.from ≡ c.source.from
+    → view.event ≡ event_of c → view.rows.now ≡ rows → AreRound (items c.source.source) (event_of c) rows
+    → panel' ≡ panel → calls' ≡ calls → ServesSome page_bytes state_bytes about panel' view calls' calls''
+    → ShowsRun items c names clips panel calls calls''
+shows items c names clips panel panel' calls calls' calls'' view rows n l all f e r round p k served = record {
+  view = view;
+  names_are = n;
+  clips_are = l;
+  all = all;
+  from = f;
+  event = e;
+  rows = subst (AreRound (items c.source.source) (event_of c)) (sym r) round;
+  served =
+      subst (λ (it : Names). ServesSome page_bytes state_bytes about it view calls calls'') p
+      (subst (λ (it : List Call). ServesSome page_bytes state_bytes about panel' view it calls'') k served);
+}

@@ -2,7 +2,9 @@
 use Rattle.std.specs.Duration.{as_nanos}
 use Rattle.std.specs.Option.{option_to_list}
 use Rattle.std.specs.Prelude.{ℕ, ◌≡◌, ◌-◌, Option, None, Some, List, ◌++◌}
+use Rattle.std.specs.Time.{instant_nanos}
 use Rattle.std.specs.declared.time.Duration.{Duration}
+use Rattle.std.specs.declared.time.Instant.{Instant}
 use Rattle.vdcp_auto.specs.Plan.{View}
 use Rattle.vdcp_drive.specs.declared.operator.Call.{Call}
 use Rattle.vdcp_drive.specs.declared.operator.Call.TheVariants.{Take, Stop}
@@ -15,6 +17,7 @@ use Rattle.vdcp_operator.specs.declared.typed.Said.TheVariants as said
 use Rattle.vdcp_operator.specs.declared.typed.Typed.{Typed}
 use Rattle.vdcp_panel.specs.declared.call.Call.{Call as Asked}
 use Rattle.vdcp_panel.specs.declared.call.Call.TheVariants as asked
+use Rattle.vdcp_value.specs.declared.part.Item.{Item}
 use Rattle.vdcp_words.specs.declared.command.Command.{Command}
 use Rattle.vdcp_words.specs.declared.command.Command.TheVariants as command
 
@@ -25,12 +28,12 @@ as_call asked.Stop = Stop
 
 -- a page, if there is one, was shown, and of the calls that it held then the first is this, if it held one; the others it
 -- holds still
-abbrev pub PageCalls : {S : Type 0} → View (FromEvent S) → Option RunPage → Option Asked → Option RunPage → Type 0
-PageCalls c None call None = call ≡ None
-PageCalls c None call (Some page') = ⊥
-PageCalls c (Some page) call None = ⊥
-PageCalls c (Some page) call (Some page') = (shown : List Asked)
-    × ShowsRun c page.clips page.panel.names page.calls.items shown
+abbrev pub PageCalls : {S : Type 0} → (S → List Item) → View (FromEvent S) → Option RunPage → Option Asked → Option RunPage → Type 0
+PageCalls items c None call None = call ≡ None
+PageCalls items c None call (Some page') = ⊥
+PageCalls items c (Some page) call None = ⊥
+PageCalls items c (Some page) call (Some page') = (shown : List Asked)
+    × ShowsRun items c page.names page.clips page.panel.names page.calls.items shown
     × (shown ≡ option_to_list call ++ page'.calls.items)
 
 abbrev pub called_by : Option Said → Option Call
@@ -53,22 +56,28 @@ abbrev pub FollowsPage : {I : Type 0} → (I → Option (List ℕ)) → Option A
 FollowsPage remaining (Some first) typed call typed' = (call ≡ Some (as_call first)) × (typed' ≡ typed)
 FollowsPage remaining None typed call typed' = TypedCalls remaining typed call typed'
 
-abbrev pub IsNext : {S I : Type 0} → (I → Option (List ℕ)) → View (FromEvent S) → Option RunPage → Option (Typed I)
+abbrev pub IsNext : {S I : Type 0} → (S → List Item) → (I → Option (List ℕ)) → View (FromEvent S) → Option RunPage → Option (Typed I)
     → Option Call → Option RunPage → Option (Typed I) → Type 0
-IsNext remaining c page typed call page' typed' = (first : Option Asked) × PageCalls c page first page'
+IsNext items remaining c page typed call page' typed' = (first : Option Asked) × PageCalls items c page first page'
     × FollowsPage remaining first typed call typed'
 
 -- they were asked again and again, up to this call or none
-pub data Asks {S I : Type 0} (remaining : I → Option (List ℕ)) (c : View (FromEvent S)) (page : Option RunPage)
+pub data Asks {S I : Type 0} (items : S → List Item) (remaining : I → Option (List ℕ)) (c : View (FromEvent S)) (page : Option RunPage)
     (typed : Option (Typed I)) : Option Call → Option RunPage → Option (Typed I) → Type 0 where
-  unasked : Asks remaining c page typed None page typed
+  unasked : Asks items remaining c page typed None page typed
   once_more : {page' page'' : Option RunPage} {typed' typed'' : Option (Typed I)} {call : Option Call}
-      → Asks remaining c page typed None page' typed' → IsNext remaining c page' typed' call page'' typed''
-      → Asks remaining c page typed call page'' typed''
+      → Asks items remaining c page typed None page' typed' → IsNext items remaining c page' typed' call page'' typed''
+      → Asks items remaining c page typed call page'' typed''
 
--- how long a command waits, in nanoseconds, by the time since 1970 and that since the last STATUS: PLAY up to the start, if
--- one is said, and STATUS as long as the port isn't to be asked
-abbrev pub wait_nanos : Option Command → (start now : Option Duration) → (poll : Duration) → (since : Option Duration) → ℕ
-wait_nanos (Some command.Play) (Some start) (Some now) poll since = as_nanos start - as_nanos now
-wait_nanos (Some (command.Status groups)) start now poll (Some since) = as_nanos poll - as_nanos since
-wait_nanos _ _ _ _ _ = 0
+-- how long a command waits, in nanoseconds, by the time since 1970, when the last STATUS went out and this moment: PLAY up to
+-- the start, if one is said, and STATUS as long as the port isn't to be asked
+abbrev pub wait_nanos : Option Command → (start now : Option Duration) → (poll : Duration) → (last moment : Option Instant) → ℕ
+wait_nanos (Some command.Play) (Some start) (Some now) poll last moment = as_nanos start - as_nanos now
+wait_nanos (Some (command.Status groups)) start now poll (Some last) (Some moment) =
+    as_nanos poll - (instant_nanos moment - instant_nanos last)
+wait_nanos _ _ _ _ _ _ = 0
+
+-- how long it is, in nanoseconds, until the connection is made for a start: two seconds before it
+abbrev pub lead_nanos : (start now : Option Duration) → ℕ
+lead_nanos (Some start) (Some now) = as_nanos start - 2000000000 - as_nanos now
+lead_nanos _ _ = 0

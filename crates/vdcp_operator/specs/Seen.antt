@@ -1,5 +1,5 @@
 -- What the page of a run shows.
-use Rattle.std.specs.Prelude.{ℕ, ◌≡◌, ◌+◌, ◌*◌, ◌-◌, ◌/◌, ◌^◌, min, List, codes, map, Option, None, Some, if◌then◌else◌}
+use Rattle.std.specs.Prelude.{ℕ, ◌≡◌, ◌≤◌, ◌+◌, ◌-◌, ◌^◌, min, List, [], ◌∷◌, codes, drop, map, string_bytes, take, Option, None, Some, if◌then◌else◌}
 use Rattle.serde_json.specs.Data.{Data, array, boolean, member, no_members, null, number, object, string, unsigned}
 use Rattle.serde_json.specs.View.{items_of}
 use Rattle.serde_json.specs.Written.{compact_text}
@@ -11,6 +11,7 @@ use Rattle.vdcp_auto.specs.declared.snapshot.Standing.{Standing}
 use Rattle.vdcp_auto.specs.declared.snapshot.Standing.TheVariants as standing
 use Rattle.vdcp_list.specs.Rests.{FromEvent}
 use Rattle.vdcp_operator.specs.declared.seen.EventSeen.{EventSeen}
+use Rattle.vdcp_operator.specs.declared.seen.RunNames.{RunNames}
 use Rattle.vdcp_operator.specs.declared.seen.RunSeen.{RunSeen}
 use Rattle.vdcp_panel.specs.Seen.{ServesSome}
 use Rattle.vdcp_panel.specs.declared.call.Call.{Call}
@@ -20,6 +21,7 @@ use Rattle.vdcp_text.specs.Items.{item_text}
 use Rattle.vdcp_text.specs.Outcome.{outcome_text}
 use Rattle.vdcp_value.specs.Bcd.{frames_in, is_time}
 use Rattle.vdcp_value.specs.Clock.{millis_of}
+use Rattle.vdcp_value.specs.Labels.{frames_per_second}
 use Rattle.vdcp_value.specs.Timecodes.{frames_of, rate_of}
 use Rattle.vdcp_value.specs.declared.clip_id.ClipId.{ClipId}
 use Rattle.vdcp_value.specs.declared.part.Item.{Item}
@@ -71,18 +73,30 @@ row_data rate clips e =
     (member (codes "length") (number_data (length_by clips e.item))
     (member (codes "number") (number (unsigned e.number)) no_members))))
 
+-- what stays of a run, and how its line is
+abbrev pub run_data : RunSeen → Data
+run_data v =
+    object (member (codes "commands") (number (unsigned v.commands))
+    (member (codes "from") (number (unsigned v.from))
+    (member (codes "journal") (string (string_bytes v.names.now.journal))
+    (member (codes "list") (string (string_bytes v.names.now.list))
+    (member (codes "over") (boolean v.is_over)
+    (member (codes "rate") (number (unsigned (frames_per_second v.rate)))
+    (member (codes "server") (string (string_bytes v.names.now.server))
+    (member (codes "unanswered") (number (unsigned v.snapshot.unanswered)) no_members))))))))
+
 abbrev pub seen_data : RunSeen → Data
 seen_data v =
-    object (member (codes "commands") (number (unsigned v.commands))
-    (member (codes "event") (number (unsigned v.event))
+    object (member (codes "event") (number (unsigned v.event))
     (member (codes "events") (number (unsigned v.events))
+    (member (codes "now") (number (unsigned v.clock))
     (member (codes "outcome") (string (outcome_text v.outcome))
     (member (codes "rows") (array (items_of (map (row_data v.rate v.clips.now) v.rows.now)))
+    (member (codes "run") (run_data v)
     (member (codes "stage") (string (stage_text v.snapshot.standing))
     (member (codes "start") (number_data v.start)
     (member (codes "stop") (boolean v.snapshot.stop)
-    (member (codes "take") (boolean v.snapshot.take)
-    (member (codes "unanswered") (number (unsigned v.snapshot.unanswered)) no_members))))))))))
+    (member (codes "take") (boolean v.snapshot.take) no_members))))))))))
 
 abbrev pub page_bytes : RunSeen → List ℕ
 page_bytes v = v.page.now
@@ -98,12 +112,29 @@ about v = Some v.event
 abbrev pub event_of : {S : Type 0} → View (FromEvent S) → ℕ
 event_of c = min (c.source.from + c.state.settled) (2 ^ 64 - 1)
 
--- requests were answered by the controller as it is and by these clips, and a call that is held is about the event that
--- is next
-pub record ShowsRun {S : Type 0} (c : View (FromEvent S)) (clips : Option (List (ClipId × Timecode))) (names : Names)
-    (calls calls' : List Call) : Type 0 where
+-- events of a list, each with its number from this one on
+abbrev pub numbered : ℕ → List Item → List (ℕ × Item)
+numbered k [] = []
+numbered k (item ∷ items) = (k, item) ∷ numbered (k + 1) items
+
+abbrev pub with_number : EventSeen → ℕ × Item
+with_number row = (row.number, row.item)
+
+-- these rows are those of the list's events from the twentieth before this one on, in order: all sixty, or the first ones
+pub record AreRound (items : List Item) (event : ℕ) (rows : List EventSeen) : Type 0 where
+  pub count : ℕ
+  pub few : count ≤ 60
+  pub are : map with_number rows ≡ take count (numbered (event - 20) (drop (event - 20) items))
+
+-- requests were answered by the controller as it is, by these names and clips and by the events round the one that is next,
+-- and a call that is held is about that event
+pub record ShowsRun {S : Type 0} (items : S → List Item) (c : View (FromEvent S)) (names : RunNames)
+    (clips : Option (List (ClipId × Timecode))) (panel : Names) (calls calls' : List Call) : Type 0 where
   pub view : RunSeen
+  pub names_are : view.names.now ≡ names
   pub clips_are : view.clips.now ≡ clips
   pub all : c ≡ view_of c.source view.snapshot
+  pub from : view.from ≡ c.source.from
   pub event : view.event ≡ event_of c
-  pub served : ServesSome page_bytes state_bytes about names view calls calls'
+  pub rows : AreRound (items c.source.source) (event_of c) view.rows.now
+  pub served : ServesSome page_bytes state_bytes about panel view calls calls'

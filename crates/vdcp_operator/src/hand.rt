@@ -1,8 +1,12 @@
 //! The operator in a driver's turns: calls are taken, and commands wait.
 ghost use Rattle.std.specs.Duration.{as_nanos};
-ghost use Rattle.std.specs.Prelude.{◌≡◌, ◌≢◌, IsSome, None, Some};
+ghost use Rattle.std.specs.Prelude.{◌≡◌, ◌≢◌, ◌↔◌, ◌-◌, min, IsSome, None, Some, ℕ};
+ghost use Rattle.vdcp_auto.specs.Plan.{plan_of};
+ghost use Rattle.vdcp_auto.specs.Turn.{given};
 ghost use Rattle.vdcp_drive.specs.declared.operator.Call.{Call};
-ghost use Rattle.vdcp_operator.specs.Hands.{Asks, IsNext, PageCalls, TypedCalls, as_call, wait_nanos};
+ghost use Rattle.vdcp_list.specs.Rests.{items_left};
+ghost use Rattle.vdcp_operator.specs.Hands.{Asks, IsNext, PageCalls, TypedCalls, as_call, lead_nanos, wait_nanos};
+ghost use Rattle.vdcp_operator.specs.declared.hand.Until.{Until};
 ghost use Rattle.vdcp_words.specs.declared.command.Command.{Command};
 
 use crate::shown::RunPage;
@@ -38,9 +42,21 @@ pub struct Hand<'a, R: Clock, I: Read, E: Write> {
     // From one STATUS to the next at least, and when the last one went out.
     poll: Duration,
     last: Option<Instant>,
+    // What the clock showed when it was read last, since 1970 and since its start. (None if it can't be read.)
+    time: Option<Duration>,
+    moment: Option<Instant>,
     commands: u64,
     // A call that was made before the driver asked for it.
     held: Option<Call>,
+}
+
+/// Until when calls are asked for.
+#[derive(Clone, Copy)]
+enum Until {
+    /// The connection is to be made.
+    Lead,
+    /// The command that is to be sent may go out.
+    Command,
 }
 
 impl<'a, R: Clock, I: Read + Drop, E: Write> Hand<'a, R, I, E> {
@@ -53,7 +69,12 @@ impl<'a, R: Clock, I: Read + Drop, E: Write> Hand<'a, R, I, E> {
         page: Option<RunPage>,
         start: Option<Duration>,
         hearing: Hearing,
-    ) -> Self {
+    ) -> Self
+        ensures page { result.page ≡ page }
+        ensures start { result.start ≡ start }
+        ensures typed { IsSome result.typed ↔ IsSome typed }
+        ensures held { result.held ≡ None }
+    {
         let poll = match hearing {
             Hearing::AtSilences => 0,
             Hearing::AtOnce(poll) => poll,
@@ -69,6 +90,8 @@ impl<'a, R: Clock, I: Read + Drop, E: Write> Hand<'a, R, I, E> {
             start,
             poll: Duration::from_millis(u64::from(poll)),
             last: None,
+            time: None,
+            moment: None,
             commands: 0,
             held: None,
         }
@@ -77,14 +100,13 @@ impl<'a, R: Clock, I: Read + Drop, E: Write> Hand<'a, R, I, E> {
     /// Waits until it is time to connect: two seconds before the start, if one is set, or at a call, which is held.
     pub fn await_lead<S: Source>(&mut self, controller: &Controller<Rest<S>>)
         ensures asks { self.old.held ≡ None →
-            Asks I.remaining controller.now self.old.page self.old.typed self.new.held self.new.page self.new.typed }
+            Asks S.items I.remaining controller.now self.old.page self.old.typed self.new.held self.new.page self.new.typed }
         ensures holds { (call : Call) → self.old.held ≡ Some call → self.new ≡ self.old }
     {
-        let (Some(start), None) = (self.start, self.held) else {
+        let (Some(_), None) = (self.start, self.held) else {
             return;
         };
-        let lead = start.saturating_sub(Duration::from_millis(LEAD));
-        self.held = self.ask_until(controller, Some(lead));
+        self.held = self.ask_until(controller, Until::Lead);
     }
 
     /// Shows how the run ended, for a second.
@@ -97,18 +119,18 @@ impl<'a, R: Clock, I: Read + Drop, E: Write> Hand<'a, R, I, E> {
             return;
         };
         for _ in 0..LINGER {
-            page.show(self.clock, controller, outcome, self.commands, None);
+            page.show(self.clock, controller, Some(outcome), self.commands, None);
             self.clock.sleep(Duration::from_millis(PIECE));
         }
     }
 
-    // The next call, if one is made before this time since 1970, or else before the command that is to be sent may go out.
+    // The next call, if one is made before that.
     fn ask_until<S: Source>(
         &mut self,
         controller: &Controller<Rest<S>>,
-        time: Option<Duration>,
+        until: Until,
     ) -> Option<Call>
-        ensures asks { Asks I.remaining controller.now self.old.page self.old.typed result self.new.page self.new.typed }
+        ensures asks { Asks S.items I.remaining controller.now self.old.page self.old.typed result self.new.page self.new.typed }
         ensures held { self.new.held ≡ self.old.held }
     {
         'asks: for _ in 0..u64::MAX {
@@ -116,21 +138,18 @@ impl<'a, R: Clock, I: Read + Drop, E: Write> Hand<'a, R, I, E> {
                 Some(call) => return Some(call),
                 None => {}
             }
-            let left = match time {
-                Some(time) => self.until(time),
-                None => self.left(controller),
-            };
+            let left = self.left(controller, until);
             if left.is_zero() {
                 return None;
             }
-            self.sleep(left);
+            self.clock.sleep(piece_of(left));
         }
         None
     }
 
     // The next call that was made, if there is one. Requests for the page are answered.
     fn next<S: Source>(&mut self, controller: &Controller<Rest<S>>) -> Option<Call>
-        ensures next { IsNext I.remaining controller.now self.old.page self.old.typed result self.new.page self.new.typed }
+        ensures next { IsNext S.items I.remaining controller.now self.old.page self.old.typed result self.new.page self.new.typed }
         ensures held { self.new.held ≡ self.old.held }
         ensures start { self.new.start ≡ self.old.start }
     {
@@ -142,7 +161,7 @@ impl<'a, R: Clock, I: Read + Drop, E: Write> Hand<'a, R, I, E> {
 
     // The next call from the page, which is shown first.
     fn page_call<S: Source>(&mut self, controller: &Controller<Rest<S>>) -> Option<panel::Call>
-        ensures page { PageCalls controller.now self.old.page result self.new.page }
+        ensures page { PageCalls S.items controller.now self.old.page result self.new.page }
         ensures rest { self.new ≡ record self.old { page = self.new.page } }
     {
         let start = millis_of(self.start);
@@ -172,27 +191,36 @@ impl<'a, R: Clock, I: Read + Drop, E: Write> Hand<'a, R, I, E> {
         }
     }
 
-    // How long the command that is to be sent has to wait.
-    fn left<S: Source>(&self, controller: &Controller<Rest<S>>) -> Duration {
-        let now = self.clock.since_1970().ok();
-        let since = match self.last {
-            Some(last) => last.elapsed(self.clock).ok(),
-            None => None,
-        };
-        wait_for(controller.to_send(), self.start, now, self.poll, since)
-    }
-
-    // How long it is until this time since 1970. (By a clock that can't be read it is that time.)
-    fn until(&self, time: Duration) -> Duration {
-        match self.clock.since_1970() {
-            Ok(now) => time.saturating_sub(now),
-            Err(_) => Duration::ZERO,
+    // How long it is until then.
+    fn left<S: Source>(&mut self, controller: &Controller<Rest<S>>, until: Until) -> Duration
+        ensures waits { until ≡ Until.Command → as_nanos result ≡ wait_nanos
+            (given (plan_of (items_left S.items) controller.now) controller.now.state)
+            self.old.start self.new.time self.old.poll self.old.last self.new.moment }
+        ensures leads { until ≡ Until.Lead → as_nanos result ≡ lead_nanos self.old.start self.new.time }
+        ensures page { self.new.page ≡ self.old.page }
+        ensures typed { self.new.typed ≡ self.old.typed }
+        ensures held { self.new.held ≡ self.old.held }
+    {
+        self.look();
+        match until {
+            Until::Lead => lead_for(self.start, self.time),
+            Until::Command => wait_for(
+                controller.to_send(),
+                self.start,
+                self.time,
+                self.poll,
+                self.last,
+                self.moment,
+            ),
         }
     }
 
-    // Sleeps for this time, or for a piece of it.
-    fn sleep(&self, left: Duration) {
-        self.clock.sleep(left.min(Duration::from_millis(PIECE)));
+    // Reads the clock.
+    fn look(&mut self)
+        ensures { self.new ≡ record self.old { time = self.new.time; moment = self.new.moment } }
+    {
+        self.time = self.clock.since_1970().ok();
+        self.moment = Instant::now(self.clock).ok();
     }
 
     // A call is made now.
@@ -212,31 +240,63 @@ impl<'a, R: Clock, I: Read + Drop, E: Write> Hand<'a, R, I, E> {
         ensures held { self.new.held ≡ self.old.held }
         ensures play { command ≡ Command.Play → self.new.start ≡ None }
         ensures other { command ≢ Command.Play → self.new.start ≡ self.old.start }
+        ensures state { (groups : ℕ) → command ≡ Command.Status groups → self.new.last ≡ self.new.moment }
     {
         self.commands = self.commands.saturating_add(1);
         match command {
             Command::Play => self.start = None,
-            Command::Status(_) => self.last = Instant::now(self.clock).ok(),
+            Command::Status(_) => {
+                self.look();
+                self.last = self.moment;
+            }
             _ => {}
         }
     }
 }
 
-// How long a command waits, by the time since 1970 and that since the last STATUS. For a time that isn't known none waits.
+// How long a command waits, by the time since 1970, when the last STATUS went out and this moment. For a time that isn't
+// known none waits.
 fn wait_for(
     command: Option<Command>,
     start: Option<Duration>,
     now: Option<Duration>,
     poll: Duration,
-    since: Option<Duration>,
+    last: Option<Instant>,
+    moment: Option<Instant>,
 ) -> Duration
-    ensures { as_nanos result ≡ wait_nanos command start now poll since }
+    ensures { as_nanos result ≡ wait_nanos command start now poll last moment }
 {
-    match (command, start, now, since) {
-        (Some(Command::Play), Some(start), Some(now), _) => start.saturating_sub(now),
-        (Some(Command::Status(_)), _, _, Some(since)) => poll.saturating_sub(since),
+    match (command, start, now, last, moment) {
+        (Some(Command::Play), Some(start), Some(now), _, _) => start.saturating_sub(now),
+        (Some(Command::Status(_)), _, _, Some(last), Some(moment)) => {
+            poll.saturating_sub(moment.duration_since(last))
+        }
         _ => Duration::ZERO,
     }
+}
+
+// How long is slept at once of what is left.
+fn piece_of(left: Duration) -> Duration
+    ensures { as_nanos result ≡ min (as_nanos left) 20000000 }
+{
+    left.min(Duration::from_millis(PIECE))
+}
+
+// How long it is until the connection is made for a start, by the time since 1970. (By a clock that can't be read it is made at once.)
+fn lead_for(start: Option<Duration>, now: Option<Duration>) -> Duration
+    ensures { as_nanos result ≡ lead_nanos start now }
+{
+    match (start, now) {
+        (Some(start), Some(now)) => lead_of(start).saturating_sub(now),
+        _ => Duration::ZERO,
+    }
+}
+
+// When the connection is made for a start.
+fn lead_of(start: Duration) -> Duration
+    ensures { as_nanos result ≡ as_nanos start - 2000000000 }
+{
+    start.saturating_sub(Duration::from_millis(LEAD))
 }
 
 // A time in milliseconds.
@@ -260,15 +320,22 @@ impl<S: Source, R: Clock, I: Read + Drop, E: Write> Operator<Rest<S>> for Hand<'
         ensures held { (call : Call) → self.old.held ≡ Some call →
             (result ≡ Some call) × (self.new.page ≡ self.old.page) × (self.new.typed ≡ self.old.typed) }
         ensures asks { self.old.held ≡ None →
-            Asks I.remaining controller.now self.old.page self.old.typed result self.new.page self.new.typed }
+            Asks S.items I.remaining controller.now self.old.page self.old.typed result self.new.page self.new.typed }
         ensures once { self.new.held ≡ None }
         ensures start { IsSome result → self.new.start ≡ None }
+        // Those after a PLAY have no start.
+        ensures sent { result ≡ None →
+            given (plan_of (items_left S.items) controller.now) controller.now.state ≡ Some Command.Play → self.new.start ≡ None }
+        // When a STATUS goes out is noted.
+        ensures state { (groups : ℕ) → result ≡ None →
+            given (plan_of (items_left S.items) controller.now) controller.now.state ≡ Some (Command.Status groups)
+            → self.new.last ≡ self.new.moment }
     {
         if let Some(call) = self.held.take() {
             self.note_call(controller);
             return Some(call);
         }
-        if let Some(call) = self.ask_until(controller, None) {
+        if let Some(call) = self.ask_until(controller, Until::Command) {
             self.note_call(controller);
             return Some(call);
         }

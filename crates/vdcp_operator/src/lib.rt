@@ -19,7 +19,7 @@ mod typed;
 pub use hand::Hand;
 pub use keys::Keys;
 pub use progress::{Glances, Progress, ShownWire};
-pub use seen::{EventSeen, RunSeen};
+pub use seen::{EventSeen, RunNames, RunSeen};
 pub use shown::RunPage;
 pub use start::{StartFault, start_of};
 pub use typed::{Said, Typed};

@@ -2,66 +2,117 @@
 
 use vdcp_panel::page;
 
-/// It asks for `/state` four times a second.
+/// It asks for `/state` four times a second, and counts frames by itself.
 pub const PAGE: &'static str = page!(
     "VDCP run",
     r#".stale #list, .stale #air, .stale #next { opacity: .75; }
+h1, #clock, dd { font-variant-numeric: tabular-nums; }
+h1, dd { overflow-wrap: anywhere; }
+#clock { margin: 0 0 0 auto; font-weight: 700; }
+#health { margin: 0; }
+#after { border-color: var(--air); }
+#step { margin: 0; font-weight: 600; overflow-wrap: anywhere; }
 .calls { display: flex; flex-wrap: wrap; gap: 12px; align-items: center; }
 button { font: 700 20px/1 system-ui, "DejaVu Sans", sans-serif; padding: 16px 28px; border: 2px solid var(--line); border-radius: 10px; background: var(--card); color: var(--text); cursor: pointer; }
 #take { border-color: var(--cue); color: var(--cue); }
 #stop { border-color: var(--air); color: var(--air); }
+#take.asked { background: var(--cue); color: var(--on); }
 #stop.asked { background: var(--air); color: var(--on); }
-button:disabled { border-color: var(--line) !important; color: var(--dim) !important; background: var(--ground) !important; cursor: default; }
+button:disabled, button[aria-disabled=true] { border-color: var(--line) !important; color: var(--dim) !important; background: var(--ground) !important; cursor: default; }
 button:focus-visible { outline: 3px solid var(--cue); outline-offset: 2px; }
-#told { margin: 0; color: var(--dim); }
-dd { font-variant-numeric: tabular-nums; }
+#told, #count { margin: 0; color: var(--dim); }
+thead th { position: sticky; top: 0; background: var(--card); }
+tr.past td, td.plan { color: var(--dim); }
 tr.air td { color: var(--air); font-weight: 700; }
 tr.ready td { color: var(--cue); font-weight: 700; }
+@media (max-width: 700px) { td { font-size: 14px; padding-right: 8px; } td.id { min-width: 11ch; } }
 "#,
-    r#"<header><h1>VDCP run</h1><p id="health" class="idle" role="status">connecting</p></header>
+    r#"<header><h1 id="name">VDCP run</h1><p id="clock"></p><p id="health" class="idle" role="status">connecting</p></header>
 <main>
+<section class="wide" id="after" aria-labelledby="after-title" hidden><h2 id="after-title">What now</h2><p id="step" role="alert"></p></section>
 <section id="air" aria-labelledby="air-title"><h2 id="air-title">On air</h2><p class="item" id="air-item">nothing</p><p class="time" id="air-time"></p></section>
 <section id="next" aria-labelledby="next-title"><h2 id="next-title">Next</h2><p class="item" id="next-item">nothing</p><p class="time" id="next-time"></p></section>
 <section class="wide" aria-labelledby="calls-title"><h2 id="calls-title">Calls</h2>
 <div class="calls"><button id="take" type="button" disabled>Take (T)</button><button id="stop" type="button" disabled>Stop (S)</button><p id="told" role="status"></p></div></section>
 <section class="wide" aria-labelledby="line-title"><h2 id="line-title">Line</h2>
-<dl><div><dt>Controller</dt><dd id="stage"></dd></div><div><dt>Commands</dt><dd id="commands"></dd></div><div><dt>Commands a second</dt><dd id="pace"></dd></div><div><dt>Unanswered in a row</dt><dd id="unanswered"></dd></div><div><dt>Outcome</dt><dd id="outcome"></dd></div></dl></section>
+<dl><div><dt>Server</dt><dd id="server"></dd></div><div><dt>Journal</dt><dd id="journal"></dd></div><div><dt>Controller</dt><dd id="stage"></dd></div><div><dt>Unanswered in a row</dt><dd id="unanswered"></dd></div><div><dt>Left of the list</dt><dd id="left"></dd></div></dl></section>
 <section class="wide" id="list" aria-labelledby="list-title"><h2 id="list-title">List</h2>
+<p id="count">no event yet</p>
 <div class="scroll" id="scroll" tabindex="0" role="region" aria-labelledby="list-title">
-<table><caption id="count">no event yet</caption><thead><tr><th scope="col">#</th><th scope="col">Event</th><th scope="col">State</th><th scope="col">At</th></tr></thead><tbody id="rows"></tbody></table></div></section>
+<table><thead><tr><th scope="col">#</th><th scope="col">Event</th><th scope="col">State</th><th scope="col">At</th></tr></thead><tbody id="rows"></tbody></table></div></section>
 "#,
-    r#"const token = location.hash.slice(1);
-let seen = null, asked = 0, sending = false, before = null;
+    r#"// for so many milliseconds Take is locked after it was made, a press waits for the second one, and the list stays where it was scrolled to
+const LOCKED = 500, ASKED = 3000, SCROLLED = 8000;
+const token = location.hash.slice(1), keys = { take: 'T', stop: 'S' };
+let seen = null, busy = '', sending = false, locked = 0, asked = { name: '', word: '', at: 0 }, scrolled = -SCROLLED, ahead = 0;
+
+// by the clock of the run's machine: an answer comes late, so the largest difference is the nearest
+function compare(theirs) {
+  const now = theirs - Date.now();
+  ahead = seen === null || Math.abs(now - ahead) > 1000 ? now : Math.max(now, ahead);
+}
+const now = () => Date.now() + ahead;
 
 function time(ms) {
   const s = Math.max(0, Math.floor(ms / 1000));
   return two(Math.floor(s / 3600)) + ':' + two(Math.floor(s / 60) % 60) + ':' + two(s % 60);
 }
+const frames = (ms, rate) => time(ms) + ':' + two(Math.floor(Math.max(0, ms) % 1000 * rate / 1000));
 
-function slot(name, item, text, kind) {
-  put(name + '-item', item === null ? 'nothing' : item);
-  put(name + '-time', text);
-  $(name).className = item === null ? '' : kind;
+function clock(ms) {
+  const day = new Date(ms);
+  return two(day.getHours()) + ':' + two(day.getMinutes()) + ':' + two(day.getSeconds());
 }
 
-// For how long it has been on air, and how long it goes on, if its length is known.
-function played(row) {
-  if (!row || row.at === null) return '';
-  const on = Date.now() - row.at;
-  return 'for ' + time(on) + (row.length === null ? '' : ', ' + time(row.length - on + 999) + ' left');
-}
+const named = item => item.replace(/ (\d\d:\d\d:\d\d[:;]\d\d) (\d\d:\d\d:\d\d[:;]\d\d)$/, ' from $1 for $2');
+const file = path => path.split('/').pop();
 
 const isCued = run => run.stage === 'waiting' || run.stage === 'starting';
-const isOver = run => run.stage === 'ended' || run.outcome !== 'open';
+const isOver = run => run.over || run.stage === 'ended' || run.outcome !== 'open';
+const isWell = run => run.outcome === 'done' || run.outcome === 'stopped';
+const ended = run => 'the run has ended: ' + (run.outcome === 'open' ? 'the line failed' : run.outcome);
+const waits = () => seen !== null && seen.start !== null;
+const find = (run, number) => run.rows.find(r => r.number === number);
+// the last event that went to air in this run
+const last = run => run.event > run.from ? find(run, run.event - 1) : undefined;
+const onAir = run => isOver(run) || run.stage === 'closing' || run.stage === 'stopping' ? undefined : last(run);
 
-function state(run, row) {
-  if (row.number < run.event - 1) return ['aired', ''];
-  if (row.number === run.event - 1) return isOver(run) || run.stage === 'closing' || run.stage === 'stopping' ? ['aired', ''] : ['on air', 'air'];
-  if (row.number === run.event) return isOver(run) ? ['', ''] : isCued(run) ? ['cued', 'ready'] : ['next', ''];
-  return ['', ''];
+// Of a clip that the next one followed a second or more before its length was over: for how long it was on air.
+function aired(run, row) {
+  const next = find(run, row.number + 1);
+  const on = next && next.at !== null && row.at !== null ? next.at - row.at : null;
+  return on !== null && row.length !== null && on + 1000 < row.length ? 'aired for ' + time(on) : 'aired';
 }
 
-function rows(run) {
+function state(run, row) {
+  if (row.number < run.from) return ['before this run', 'past'];
+  if (row.number < run.event - 1) return [aired(run, row), 'past'];
+  if (row.number === run.event - 1) return onAir(run) ? ['on air', 'air'] : [run.outcome === 'stopped' ? 'stopped' : isOver(run) && !isWell(run) ? 'last seen' : 'aired', 'past'];
+  if (row.number > run.event) return ['', ''];
+  if (isOver(run)) return [busy === 'starting' && !isWell(run) ? 'may have aired' : '', ''];
+  return isCued(run) ? ['cued', 'ready'] : ['next', ''];
+}
+
+// When what comes goes to air, by its number, as far as lengths are known, and the end of all that is known.
+function plan(run) {
+  const air = onAir(run), times = new Map();
+  let at = isOver(run) ? null : run.start !== null ? run.start : air && air.at !== null && air.length !== null ? Math.max(air.at + air.length, now()) : null;
+  let end = null, whole = false;
+  for (let row = find(run, run.event); at !== null; row = find(run, row.number + 1)) {
+    [end, whole] = [at, row === undefined && run.rows.length !== 0 && run.event <= run.events && run.rows[run.rows.length - 1].number + 1 >= run.events];
+    if (row === undefined) break;
+    times.set(row.number, at);
+    at = row.length === null ? null : at + row.length;
+  }
+  return { times, end, whole };
+}
+
+function slot(name, text, kind) {
+  put(name + '-item', text);
+  if ($(name).className !== kind) $(name).className = kind;
+}
+
+function rows(run, times) {
   const body = $('rows');
   while (body.children.length > run.rows.length) body.lastChild.remove();
   run.rows.forEach((r, i) => {
@@ -71,85 +122,151 @@ function rows(run) {
       for (const c of ['', 'id', '', '']) { const cell = document.createElement('td'); cell.className = c; row.append(cell); }
       body.append(row);
     }
-    const [word, kind] = state(run, r);
+    const [word, kind] = state(run, r), planned = r.at === null && times.has(r.number);
     if (row.className !== kind) row.className = kind;
-    [String(r.number), r.item, word, r.at === null ? '' : new Date(r.at).toLocaleTimeString()].forEach((t, k) => {
+    row.children[3].className = planned ? 'plan' : '';
+    [String(r.number), named(r.item), word, planned ? '~' + clock(times.get(r.number)) : r.at === null ? '' : clock(r.at)].forEach((t, k) => {
       if (row.children[k].textContent !== t) row.children[k].textContent = t;
     });
   });
-  put('count', run.event + ' of ' + run.events + ' reported');
+  put('count', file(run.list) + ': ' + run.event + ' of ' + run.events + ' reported' + (run.from > 0 ? ', from ' + run.from + ' on in this run' : ''));
 }
 
-function health(kind, text) {
+// Keeps what is on air in sight, unless somebody has just scrolled.
+function follow(run) {
+  if (performance.now() - scrolled < SCROLLED) return;
+  const place = run.rows.indexOf(last(run) || find(run, run.event)), row = $('rows').children[place];
+  if (!row) return;
+  const box = $('scroll'), high = row.offsetHeight;
+  const off = row.getBoundingClientRect().top - box.getBoundingClientRect().top - 2 * high;
+  if (off < 0 || off > box.clientHeight - 6 * high) box.scrollTop += off - high;
+}
+
+// What an operator does after a run that ended otherwise than it was to.
+function step(run) {
+  if (!isOver(run) || isWell(run)) return '';
+  const [word, k] = run.outcome.split(' '), row = k === undefined ? undefined : find(run, Number(k));
+  const what = row ? 'event ' + k + ', ' + named(row.item) : 'event ' + k;
+  const again = run.journal === ''
+    ? 'Look at the server, and go on with --from ' + run.event + ' if event ' + run.event + ' did not air, else with --from ' + (run.event + 1) + '.'
+    : 'Go on with --resume ' + run.journal + (word === 'lost' || word === 'open' ? '.' : ' --open-again.');
+  const journal = run.journal === '' ? '' : '--resume ' + run.journal + ' ';
+  if (word === 'missing') return 'The server has no clip for ' + what + '. Load it and go on with ' + (journal ? journal + '--open-again' : '--from ' + k) + ', or without it, with ' + journal + '--from ' + (Number(k) + 1) + '.';
+  if (word === 'refused') return 'The server refused a command of ' + what + '. Is its part inside its clip? ' + again;
+  if (word === 'denied') return 'The server denied the port: does another automation have it? ' + again;
+  if (word === 'foreign' || word === 'strange') return 'The port shows what this run did not do: does another automation drive it? Look at the server. ' + again;
+  return 'Nothing is heard of the server, which may play on. ' + again;
+}
+
+function health(kind, text, stale) {
   $('health').className = kind;
   put('health', text);
-  const gone = kind === 'gone';
-  document.body.classList.toggle('stale', gone);
-  const off = gone || token === '' || seen === null || isOver(seen);
+  document.body.classList.toggle('stale', stale);
+  const off = kind === 'gone' || token === '' || seen === null || isOver(seen);
   $('take').disabled = off;
   $('stop').disabled = off;
   if (token === '') put('told', 'To make calls, open the address that the run has printed, with all that follows #.');
 }
 
 function show(run) {
+  compare(run.now);
+  if (!isOver(run)) busy = run.stage;
   seen = run;
-  const air = run.rows.find(r => r.number === run.event - 1 && state(run, r)[1] === 'air');
-  const next = isOver(run) ? undefined : run.rows.find(r => r.number === run.event);
-  slot('air', air ? air.item : null, played(air), 'air');
-  slot('next', next ? next.item : null, run.start !== null ? 'in ' + time(run.start - Date.now() + 999) : next ? (isCued(run) ? 'cued' : run.stage) : '', isCued(run) ? 'ready' : '');
+  const air = onAir(run), before = last(run), unknown = isOver(run) && !isWell(run);
+  slot('air', air ? named(air.item) : unknown ? 'unknown' + (before ? ', last seen ' + named(before.item) : '') : 'nothing', air ? 'air' : '');
+  const next = isOver(run) ? undefined : find(run, run.event);
+  slot('next', next ? named(next.item) : 'nothing', next && isCued(run) ? 'ready' : '');
+  put('name', file(run.list) + ' \u2192 ' + run.server);
+  put('server', run.server);
+  put('journal', run.journal || 'none');
   put('stage', run.stage + (run.take ? ', to take' : '') + (run.stop ? ', to stop' : ''));
-  put('commands', String(run.commands));
-  const now = performance.now();
-  if (before === null) before = [now, run.commands];
-  if (now - before[0] > 2000) { put('pace', ((run.commands - before[1]) * 1000 / (now - before[0])).toFixed(1)); before = [now, run.commands]; }
   put('unanswered', String(run.unanswered));
-  put('outcome', run.outcome);
-  document.title = (air ? '\u25B6 ' + air.item : 'off air') + ' \u00b7 run';
-  rows(run);
-  if (isOver(run)) health('idle', 'the run has ended: ' + run.outcome);
-  else if (run.unanswered > 0) health('gone', 'no answer');
-  else if (run.start !== null) health('idle', 'waits for its start');
-  else health('good', 'runs');
+  document.title = (air ? '\u25B6 ' + air.item : isOver(run) ? 'ended' : 'off air') + ' \u00b7 ' + file(run.list) + ' \u2192 ' + run.server;
+  rows(run, plan(run).times);
+  follow(run);
+  put('step', step(run));
+  $('after').hidden = step(run) === '';
+  if (isOver(run)) health(isWell(run) ? 'idle' : 'gone', ended(run), false);
+  else if (run.unanswered > 0) health('gone', 'no answer', true);
+  else if (run.start !== null) health('idle', 'waits for its start', false);
+  else health('good', 'runs', false);
+  tick();
+}
+
+// What goes on between two looks.
+function tick() {
+  put('clock', clock(now()));
+  label('take');
+  label('stop');
+  if (seen === null) return;
+  const air = onAir(seen), next = isOver(seen) ? undefined : find(seen, seen.event), planned = plan(seen);
+  put('air-time', !air || air.at === null ? '' : 'for ' + time(now() - air.at) + (air.length === null ? '' : ', ' + frames(air.at + air.length - now(), seen.rate) + ' left'));
+  const at = next && planned.times.has(next.number) ? ', about ' + clock(planned.times.get(next.number)) : '';
+  put('next-time', !next ? '' : waits() ? 'at ' + clock(seen.start) + ', in ' + frames(seen.start - now(), seen.rate) : (isCued(seen) ? 'cued' : seen.stage) + at);
+  put('left', isOver(seen) ? 'it has ended' : planned.end === null ? 'not known' : (planned.whole ? '' : 'more than ') + time(planned.end - now()));
 }
 
 async function look() {
   try {
-    const answer = await fetch('/state', { cache: 'no-store', signal: AbortSignal.timeout(2000) });
+    const answer = await fetch('/state', { cache: 'no-store', headers: token === '' ? {} : { 'X-Panel-Token': token }, signal: AbortSignal.timeout(2000) });
     if (!answer.ok) throw new Error(answer.status);
-    show(await answer.json());
+    const state = await answer.json();
+    show({ ...state, ...state.run });
   } catch (e) {
-    health('gone', seen !== null && isOver(seen) ? 'the run has ended: ' + seen.outcome : 'the run has ended, or is out of reach: this is how it was');
+    if (seen === null || !isOver(seen)) health('gone', 'the run has ended, or is out of reach: this is how it was', true);
   }
   setTimeout(look, document.hidden ? 1000 : 250);
 }
 
+const said = {
+  204: 'made',
+  403: 'refused. This page is of a run that has ended: open the new address that the run has printed.',
+  409: 'the list has moved on, look again',
+};
+
 async function call(name) {
-  if (sending || seen === null || $(name).disabled) return;
+  if (sending) return;
   sending = true;
   try {
     const answer = await fetch('/' + name, { method: 'POST', headers: { 'X-Panel-Token': token, 'X-Panel-Event': String(seen.event) }, signal: AbortSignal.timeout(3000) });
-    put('told', answer.status === 204 ? name + ': made' : answer.status === 409 ? name + ': the list has moved on, look again' : name + ': refused (' + answer.status + ')');
+    put('told', name + ': ' + (said[answer.status] || 'refused (' + answer.status + ')'));
   } catch (e) { put('told', name + ': no answer, so it may have been made or not'); }
+  if (name === 'take') locked = performance.now() + LOCKED;
   sending = false;
 }
 
-function unask() { asked = 0; $('stop').className = ''; put('stop', 'Stop (S)'); }
-function stop() {
-  if ($('stop').disabled) return;
-  if (Date.now() - asked < 3000) { unask(); call('stop'); return; }
-  asked = Date.now();
-  $('stop').className = 'asked';
-  put('stop', 'Stop: once more');
-  setTimeout(() => { if (Date.now() - asked >= 3000) unask(); }, 3100);
+// Stop, and Take before the start, are made by a second press.
+const word = name => name === 'stop' ? 'Stop' : waits() ? 'Start now' : 'Take';
+const isLocked = name => name === 'take' && (sending || performance.now() < locked);
+const isAsked = name => asked.name === name && Date.now() - asked.at < ASKED;
+function unask() { asked = { name: '', word: '', at: 0 }; }
+
+function label(name) {
+  const button = $(name), again = isAsked(name) && asked.word === word(name);
+  put(name, again ? word(name) + ': once more' : word(name) + ' (' + keys[name] + ')');
+  if (button.className !== (again ? 'asked' : '')) button.className = again ? 'asked' : '';
+  if (button.ariaDisabled !== String(isLocked(name))) button.ariaDisabled = String(isLocked(name));
 }
-$('take').addEventListener('click', () => call('take'));
-$('stop').addEventListener('click', stop);
+
+function press(name) {
+  if (seen === null || $(name).disabled || isLocked(name)) return;
+  const was = isAsked(name) ? asked.word : '', once = name === 'take' && !waits();
+  unask();
+  // (a press that was to start the run takes nothing once it has begun)
+  if (was === '' ? once : was === word(name)) call(name);
+  else if (was === '') asked = { name, word: word(name), at: Date.now() };
+  tick();
+}
+
+for (const name of ['take', 'stop']) $(name).addEventListener('click', () => press(name));
 document.addEventListener('keydown', e => {
   if (e.repeat || e.ctrlKey || e.altKey || e.metaKey) return;
-  if (e.key === 't' || e.key === 'T') call('take');
-  else if (e.key === 's' || e.key === 'S') stop();
+  if (e.key === 't' || e.key === 'T') press('take');
+  else if (e.key === 's' || e.key === 'S') press('stop');
   else if (e.key === 'Escape') unask();
 });
+for (const what of ['wheel', 'touchmove', 'pointerdown', 'keydown']) $('scroll').addEventListener(what, () => { scrolled = performance.now(); }, { passive: true });
+setInterval(tick, 40);
 look();
 "#
 );

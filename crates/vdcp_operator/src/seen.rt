@@ -3,7 +3,7 @@ ghost use Rattle.std.specs.Prelude.{◌≡◌, IfOk, map};
 ghost use Rattle.serde_json.specs.Data.{array, boolean, string};
 ghost use Rattle.serde_json.specs.View.{items_of, view};
 ghost use Rattle.vdcp_text.specs.Outcome.{outcome_text};
-ghost use Rattle.vdcp_operator.specs.Seen.{length_by, number_data, row_data, seen_data, stage_text};
+ghost use Rattle.vdcp_operator.specs.Seen.{length_by, number_data, row_data, run_data, seen_data, stage_text};
 
 use serde_json::{Value, json};
 use std::alloc::{AllocError, Global};
@@ -24,17 +24,33 @@ pub struct EventSeen {
     pub at: Option<u64>,
 }
 
+/// How a run was begun, as its command line says it.
+#[derive(Drop)]
+pub struct RunNames {
+    /// The address of the port's server.
+    pub server: String,
+    /// The file of the list.
+    pub list: String,
+    /// The journal; empty if there is none.
+    pub journal: String,
+}
+
 /// What is to be seen of a run.
 #[derive(Clone, Copy)]
 pub struct RunSeen<'a> {
     pub page: &'static str,
+    pub names: &'a RunNames,
     pub rate: Rate,
     /// The clips of a catalogue, if there is one.
     pub clips: &'a Option<Table>,
     /// All that the controller knows.
     pub snapshot: Snapshot,
-    /// How it ended, if it has, with the number that the event has in the list.
+    /// Nothing more is done.
+    pub is_over: bool,
+    /// How it ended, if its controller has, with the number that the event has in the list.
     pub outcome: Option<Outcome>,
+    /// The event with which the run began, by its number in the list.
+    pub from: u64,
     /// The first event that isn't reported, by its number in the list: a call is about it.
     pub event: u64,
     /// How many events the list has.
@@ -45,6 +61,8 @@ pub struct RunSeen<'a> {
     pub commands: u64,
     /// When the first event goes to air, in milliseconds since 1970, if that is waited for.
     pub start: Option<u64>,
+    /// What the clock shows, in milliseconds since 1970.
+    pub clock: u64,
 }
 
 impl View for RunSeen<'_> {
@@ -75,15 +93,31 @@ impl RunSeen<'_> {
         ensures { IfOk result (λ v. view v ≡ seen_data self.now) }
     {
         json!(in alloc; {
-            "commands": self.commands,
             "event": self.event,
             "events": self.events,
+            "now": self.clock,
             "outcome": outcome_of(alloc, self.outcome)?,
             "rows": rows_of(alloc, self.rate, self.clips, self.rows)?,
+            "run": self.run(alloc)?,
             "stage": stage_text(self.snapshot.standing),
             "start": number_or_null(self.start),
             "stop": flag(self.snapshot.stop),
-            "take": flag(self.snapshot.take),
+            "take": flag(self.snapshot.take)
+        })
+    }
+
+    // What stays, and how the line is.
+    fn run(&self, alloc: Global) -> Result<Value, AllocError>
+        ensures { IfOk result (λ v. view v ≡ run_data self.now) }
+    {
+        json!(in alloc; {
+            "commands": self.commands,
+            "from": self.from,
+            "journal": self.names.journal.as_str(),
+            "list": self.names.list.as_str(),
+            "over": flag(self.is_over),
+            "rate": self.rate.frames_per_second(),
+            "server": self.names.server.as_str(),
             "unanswered": self.snapshot.unanswered
         })
     }

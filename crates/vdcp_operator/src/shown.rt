@@ -1,12 +1,11 @@
 //! How the page of a run follows it and takes calls.
 ghost use Rattle.std.specs.Option.{option_to_list};
 ghost use Rattle.std.specs.Prelude.{◌≡◌, ◌++◌};
-ghost use Rattle.vdcp_operator.specs.Seen.{ShowsRun, event_of};
+ghost use Rattle.vdcp_operator.specs.Seen.{AreRound, ShowsRun, event_of};
 
 use crate::page::PAGE;
-use crate::seen::{EventSeen, RunSeen};
+use crate::seen::{EventSeen, RunNames, RunSeen};
 use std::alloc::Global;
-use std::mem;
 use std::rt::Clock;
 use vdcp_auto::{Controller, Outcome, Source};
 use vdcp_list::{Rest, Table};
@@ -23,6 +22,7 @@ const AFTER: usize = 40;
 pub struct RunPage {
     alloc: Global,
     panel: Panel,
+    names: RunNames,
     rate: Rate,
     clips: Option<Table>,
     // Those round the event that is next, and which that is.
@@ -32,11 +32,19 @@ pub struct RunPage {
 }
 
 impl RunPage {
-    /// A page that nobody has seen yet. With the clips of a catalogue it shows how long what is on air goes on.
-    pub fn new(alloc: Global, panel: Panel, rate: Rate, clips: Option<Table>) -> RunPage {
+    /// A page that nobody has seen yet. With the clips of a catalogue it shows how long what is on air goes on, and when
+    /// what comes goes to air.
+    pub fn new(
+        alloc: Global,
+        panel: Panel,
+        names: RunNames,
+        rate: Rate,
+        clips: Option<Table>,
+    ) -> Self {
         RunPage {
             alloc,
             panel,
+            names,
             rate,
             clips,
             rows: Vec::new(alloc),
@@ -45,30 +53,36 @@ impl RunPage {
         }
     }
 
-    /// Answers requests for the page by the controller as it is now.
+    /// Answers requests for the page by the controller as it is now. `end` is how it ended, if the run is over: None if the
+    /// controller hasn't come to an end.
     pub fn show<R: Clock, S: Source>(
         &mut self,
         clock: &R,
         controller: &Controller<Rest<S>>,
-        outcome: Option<Outcome>,
+        end: Option<Option<Outcome>>,
         commands: u64,
         start: Option<u64>,
     )
-        ensures { ShowsRun controller.now self.old.clips self.old.panel.names self.old.calls.items self.new.calls.items }
+        ensures { ShowsRun S.items controller.now self.old.names self.old.clips self.old.panel.names self.old.calls.items
+            self.new.calls.items }
     {
-        let event = event_of(controller);
-        self.follow(clock, controller.source().whole(), event);
+        let now = millis(clock);
+        let event = self.follow(controller, now);
         let seen = RunSeen {
             page: PAGE,
+            names: &self.names,
             rate: self.rate,
             clips: &self.clips,
             snapshot: controller.snapshot(),
-            outcome,
+            is_over: end.is_some(),
+            outcome: end.flatten(),
+            from: number(controller.source().from()),
             event,
             events: number(controller.source().whole().len()),
             rows: self.rows.as_slice(),
             commands,
             start,
+            clock: now,
         };
         self.panel.serve_some(clock, &seen, &mut self.calls);
     }
@@ -84,32 +98,55 @@ impl RunPage {
         Some(self.calls.remove(0))
     }
 
-    // Shows the events round this one, which is next. Those before it that weren't seen to go to air before went now.
-    fn follow<R: Clock, S: Source>(&mut self, clock: &R, list: &S, event: u64)
+    // Shows the events round the one that is next, which it gives. Those before it that weren't seen to go to air before
+    // went now.
+    fn follow<S: Source>(&mut self, controller: &Controller<Rest<S>>, now: u64) -> u64
+        ensures event { result ≡ event_of controller.now }
+        ensures rows { AreRound (S.items controller.now.source.source) (event_of controller.now) self.new.rows.items }
         ensures panel { self.new.panel ≡ self.old.panel }
+        ensures names { self.new.names ≡ self.old.names }
         ensures clips { self.new.clips ≡ self.old.clips }
         ensures calls { self.new.calls ≡ self.old.calls }
     {
-        if self.event == Some(event) {
-            return;
-        }
-        let now = millis(clock);
+        let list = controller.source().whole();
+        let event = event_of(controller);
         let since = self.event.unwrap_or(event);
-        let rows = rows_round(self.alloc, list, event);
-        let older = mem::replace(&mut self.rows, rows);
-        for row in &mut self.rows {
-            row.at = match older.iter().find(|older| older.number == row.number) {
-                Some(older) if older.at.is_some() => older.at,
-                _ if since <= row.number && row.number < event => Some(now),
-                _ => None,
-            };
-        }
+        let news = News { since, event, now };
+        self.rows = rows_round(self.alloc, list, event, self.rows.as_slice(), news);
         self.event = Some(event);
+        event
     }
 }
 
-// The events round this one. If memory is refused fewer are shown.
-fn rows_round<S: Source>(alloc: Global, list: &S, event: u64) -> Vec<EventSeen> {
+/// Which event was next at the last look, which is now, and when now is.
+#[derive(Clone, Copy)]
+struct News {
+    since: u64,
+    event: u64,
+    now: u64,
+}
+
+impl News {
+    // When the event of this number was seen to go to air, if it was, by the older rows.
+    fn at(self, older: &[EventSeen], number: u64) -> Option<u64> {
+        match older.iter().find(|older| older.number == number) {
+            Some(older) if older.at.is_some() => older.at,
+            _ if self.since <= number && number < self.event => Some(self.now),
+            _ => None,
+        }
+    }
+}
+
+// The events round this one, with when they went to air. If memory is refused fewer are shown.
+fn rows_round<S: Source>(
+    alloc: Global,
+    list: &S,
+    event: u64,
+    older: &[EventSeen],
+    news: News,
+) -> Vec<EventSeen>
+    ensures { AreRound (S.items list.now) event result.items }
+{
     let mut rows = Vec::new(alloc);
     let next = usize::try_from(event).unwrap_or(usize::MAX);
     let first = next.saturating_sub(BEFORE);
@@ -118,10 +155,11 @@ fn rows_round<S: Source>(alloc: Global, list: &S, event: u64) -> Vec<EventSeen> 
         let row = EventSeen {
             number: number(k),
             item: list.at(k),
-            at: None,
+            at: news.at(older, number(k)),
         };
-        if rows.push(row).is_err() {
-            break;
+        match rows.push(row) {
+            Ok(()) => {}
+            Err(_) => return rows,
         }
     }
     rows

@@ -1,7 +1,8 @@
 //! The time at which the first event goes to air, from its text.
+ghost use Rattle.jiff.specs.Words.{plain_zone};
 ghost use Rattle.std.specs.Duration.{as_nanos};
-ghost use Rattle.std.specs.Prelude.{◌≡◌, ◌<ℤ◌, IfOk, IfSome, pos};
-ghost use Rattle.vdcp_operator.specs.Starts.{IsMeant, IsTimeAt};
+ghost use Rattle.std.specs.Prelude.{◌≡◌, IfOk, IfSome, pos};
+ghost use Rattle.vdcp_operator.specs.Starts.{IsDateAt, IsMeant, IsNext, IsNextAt, IsOnDay, IsStart, first_after, if_after};
 
 use jiff::Timestamp;
 use jiff::civil::{Date, Time};
@@ -29,7 +30,7 @@ pub fn start_of<R: Env + Files + Clock + AllocGlobal + Clone + Drop>(
     rt: &R,
     text: &str,
 ) -> Result<Duration, StartFault>
-    ensures { IfOk result (λ start. IsMeant text.now (pos (as_nanos start))) }
+    ensures { IfOk result (λ start. IsStart text.now (pos (as_nanos start))) }
 {
     let Ok(now) = Timestamp::now(rt) else {
         return Err(StartFault::NoZone);
@@ -50,7 +51,7 @@ fn meant_by<R: Env + Files + AllocGlobal + Clone + Drop>(
     now: Timestamp,
     text: &str,
 ) -> Result<Timestamp, StartFault>
-    ensures { IfOk result (λ then. IsMeant text.now then.nanosecond) }
+    ensures { IfOk result (λ then. IsMeant text.now now then) }
 {
     match Timestamp::from_str(text) {
         Ok(time) => Ok(time),
@@ -73,7 +74,7 @@ fn time_of_day<R: Env + Files + AllocGlobal + Clone + Drop>(
     now: Timestamp,
     text: &str,
 ) -> Result<Timestamp, StartFault>
-    ensures { IfOk result (λ then. IsMeant text.now then.nanosecond) }
+    ensures { IfOk result (λ then. IsMeant text.now now then) }
 {
     match Time::from_str(text) {
         Ok(time) if text.len() == 8 => {
@@ -84,39 +85,71 @@ fn time_of_day<R: Env + Files + AllocGlobal + Clone + Drop>(
     }
 }
 
-// The next time after this one at which a clock shows that.
+// The next time after this one at which a clock shows that, in the zone that is set.
 fn next_at<R: Env + Files + AllocGlobal + Clone + Drop>(
     rt: &R,
     now: Timestamp,
     time: Time,
 ) -> Result<Timestamp, StartFault>
-    ensures shown { IfOk result (λ then. IsTimeAt time then.nanosecond) }
-    ensures later { IfOk result (λ then. now.nanosecond <ℤ then.nanosecond) }
+    ensures { IfOk result (λ then. IsNext now time then) }
 {
     let (Ok(database), Ok(system)) = (TimeZoneDatabase::from_env(rt), SystemTimeZone::read(rt))
     else {
         return Err(StartFault::NoZone);
     };
-    let Ok(zone) = system.time_zone(&database) else {
-        return Err(StartFault::NoZone);
-    };
-    let today = zone.to_datetime(now).date();
+    match system.time_zone(&database) {
+        Ok(zone) => next_in(zone, now, time),
+        Err(_) => Err(StartFault::NoZone),
+    }
+}
+
+// The same in this zone: today, or else tomorrow.
+fn next_in(zone: TimeZone<'_>, now: Timestamp, time: Time) -> Result<Timestamp, StartFault>
+    ensures { IfOk result (λ then. IsNextAt (plain_zone zone.entry) now time then) }
+{
+    let today = date_in(zone, now);
     let Ok(tomorrow) = today.tomorrow() else {
         return Err(StartFault::NoTime);
     };
-    for day in [today, tomorrow] {
-        if let Some(then) = on_day(day, time, zone) {
-            if then.as_nanosecond() > now.as_nanosecond() {
-                return Ok(then);
-            }
-        }
+    match first_after(now, on_day(today, time, zone), on_day(tomorrow, time, zone)) {
+        Some(then) => Ok(then),
+        None => Err(StartFault::NoTime),
     }
-    Err(StartFault::NoTime)
+}
+
+// The date that a clock of a zone shows then.
+fn date_in(zone: TimeZone<'_>, now: Timestamp) -> Date
+    ensures { IsDateAt (plain_zone zone.entry) now result }
+{
+    zone.to_datetime(now).date()
+}
+
+// The first of these two that is later than now.
+fn first_after(
+    now: Timestamp,
+    on_today: Option<Timestamp>,
+    on_tomorrow: Option<Timestamp>,
+) -> Option<Timestamp>
+    ensures { result ≡ first_after now on_today on_tomorrow }
+{
+    match if_after(now, on_today) {
+        Some(then) => Some(then),
+        None => if_after(now, on_tomorrow),
+    }
+}
+
+fn if_after(now: Timestamp, then: Option<Timestamp>) -> Option<Timestamp>
+    ensures { result ≡ if_after now then }
+{
+    match then {
+        Some(then) if now.as_nanosecond() < then.as_nanosecond() => Some(then),
+        _ => None,
+    }
 }
 
 // When a clock of a zone shows this time on that day, if there is such an instant.
 fn on_day(day: Date, time: Time, zone: TimeZone<'_>) -> Option<Timestamp>
-    ensures { IfSome result (λ then. IsTimeAt time then.nanosecond) }
+    ensures { IsOnDay day time (plain_zone zone.entry) result }
 {
     match day.to_datetime(time).to_zoned(zone) {
         Ok(then) => Some(then.timestamp()),

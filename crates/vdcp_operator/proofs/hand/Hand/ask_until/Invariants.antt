@@ -7,5 +7,5 @@ use Rattle.vdcp_operator.specs.Hands.{Asks}
 abbrev pub invariant-asks : goal.invariant-asks
 invariant-asks g l = record {
   held : l.self.held ≡ l.initial.self.held;
-  asked : Asks g.I.Read.remaining l.controller l.initial.self.page l.initial.self.typed None l.self.page l.self.typed;
+  asked : Asks g.S.Source.items g.I.Read.remaining l.controller l.initial.self.page l.initial.self.typed None l.self.page l.self.typed;
 }
