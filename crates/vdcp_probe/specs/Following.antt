@@ -1,6 +1,6 @@
 -- The port that a server is held against. It gets the bursts that the server gets; between them what is cued may have
 -- got done, and what plays may have ended.
-use Rattle.std.specs.Prelude.{ℕ, ◌≡◌, ◌≢◌, List, [], ◌∷◌}
+use Rattle.std.specs.Prelude.{ℕ, ◌≡◌, ◌≢◌, List, [], ◌∷◌, ◌++◌}
 use Rattle.vdcp_port.specs.Answers.{after_burst, sent_for}
 use Rattle.vdcp_port.specs.Clock.{ClockedPort, after_ended, after_ready, new_port}
 use Rattle.vdcp_probe.specs.declared.follower.Meanwhile.{Meanwhile}
@@ -28,6 +28,11 @@ pub record IsForeseen (p : ClockedPort) (burst came : List ℕ) (next : ClockedP
   pub meanwhile : Meanwhile
   pub answers : came ≡ answer_after meanwhile p burst
   pub leaves : next ≡ port_after meanwhile p burst
+
+-- what came for a burst is what the port may answer, but for a NAK 80h that lacks at its end
+pub record LacksCut (p : ClockedPort) (burst came : List ℕ) : Type 0 where
+  pub meanwhile : Meanwhile
+  pub answers : came ++ 0x05 ∷ 0x80 ∷ [] ≡ answer_after meanwhile p burst
 
 -- what came for a burst is none of what the port may answer
 abbrev pub IsUnforeseen : ClockedPort → List ℕ → List ℕ → Type 0

@@ -1,6 +1,7 @@
 -- What is printed of rows.
 use Rattle.std.specs.List.{flat_map}
-use Rattle.std.specs.Prelude.{ℕ, ◌-◌, ◌&&◌, Bool, true, false, List, [], ◌++◌, codes, count_by, decimal, length, Option, None, Some, String, is_some, string_bytes}
+use Rattle.std.specs.Prelude.{ℕ, ◌-◌, ◌&&◌, Bool, true, false, List, [], ◌++◌, codes, count_by, decimal, length, Option, None, Some, is_some, string_bytes}
+use Rattle.vdcp_probe.specs.declared.report.Difference.{Difference}
 use Rattle.vdcp_probe.specs.declared.report.Told.{Told}
 use Rattle.vdcp_probe.specs.declared.row.Group.{Group}
 use Rattle.vdcp_probe.specs.declared.row.Group.TheVariants.{Safe, Unaired, Unlisted}
@@ -13,10 +14,10 @@ harm_text name Unaired = line (codes "unsafe " ++ name ++ codes ": the list may 
 harm_text name Unlisted =
     line (codes "unsafe " ++ name ++ codes ": what the list doesn't name may air, or air twice")
 
-abbrev pub differs_text : {Z : Type 0} → List ℕ → Group → Option (String Z) → List ℕ
+abbrev pub differs_text : List ℕ → Group → Option Difference → List ℕ
 differs_text name group None = line (codes "ok " ++ name)
-differs_text name group (Some text) =
-    line (codes "differs " ++ name ++ codes ": " ++ string_bytes text) ++ harm_text name group
+differs_text name group (Some difference) =
+    line (codes "differs " ++ name ++ codes ": " ++ string_bytes difference.text) ++ harm_text name group
 
 abbrev pub told_text : Told → List ℕ
 told_text told = differs_text told.row.name.now told.row.group told.differs

@@ -1,4 +1,4 @@
-//! How one burst is sent, and what comes for it collected.
+//! How one burst is sent, and what comes for it collected, also too late.
 ghost use Rattle.std.specs.Prelude.{◌≡◌, IfOk, OnOk};
 ghost use Rattle.vdcp_wire.specs.Wires.{FitsBuffer};
 
@@ -31,6 +31,16 @@ fn send<W: Wire>(burst: &[u8], wire: &mut W) -> Result<(), Failure<'static>>
         Ok(()) => Ok(()),
         Err(_) => Err(Failure::LineFailed),
     }
+}
+
+/// Drops what comes until the line was silent twice, and says whether something came. The same faults.
+pub fn settle<W: Wire>(alloc: Global, wire: &mut W) -> Result<bool, Failure<'static>>
+    requires { W.failures wire.old ≡ 0 }
+    ensures works { OnOk result (W.failures wire.new ≡ 0) }
+{
+    let soon = hear(alloc, wire)?;
+    let late = hear(alloc, wire)?;
+    Ok(!soon.is_empty() || !late.is_empty())
 }
 
 // Gives what comes until the line is silent.

@@ -6,9 +6,11 @@ ghost use Rattle.vdcp_list.specs.List.{items_of};
 ghost use Rattle.vdcp_probe.specs.Inventory.{IsAsked, IsCheckedBy};
 
 use crate::asking::ask;
+use crate::bounded::Bounded;
 use std::alloc::Global;
 use std::io;
 use std::net::{Net, OpenStream, SocketAddr};
+use std::rt::Clock;
 use std::time::Duration;
 use vdcp_auto::{Heard, Source};
 use vdcp_files::{NamedFile, write_findings};
@@ -72,7 +74,7 @@ impl AskFault<'_> {
 /// if the address is none, which is tested first; and 3 if the list can't be read, memory was refused, nobody takes
 /// the connection, it is closed or fails, a clip's answer never comes, doesn't end, or says neither yes nor no, or a
 /// writer failed. For each of these but the last `err` gets a line.
-pub fn do_ask<R: Net + AllocGlobal, L: io::Read + Drop, W: io::Write, E: io::Write>(
+pub fn do_ask<R: Net + Clock + AllocGlobal, L: io::Read + Drop, W: io::Write, E: io::Write>(
     rt: &R,
     address: &str,
     list: NamedFile<'_, L>,
@@ -94,7 +96,7 @@ pub fn do_ask<R: Net + AllocGlobal, L: io::Read + Drop, W: io::Write, E: io::Wri
 }
 
 // Reads the list, asks for its clips, writes what was found, and says whether each event can be played.
-fn ask_at<'a, R: Net + AllocGlobal, L: io::Read + Drop, W: io::Write>(
+fn ask_at<'a, R: Net + Clock + AllocGlobal, L: io::Read + Drop, W: io::Write>(
     rt: &R,
     address: &str,
     list: NamedFile<'a, L>,
@@ -112,11 +114,17 @@ fn ask_at<'a, R: Net + AllocGlobal, L: io::Read + Drop, W: io::Write>(
     let Ok(stream) = rt.connect(SocketAddr::V4(address)) else {
         return Err(AskFault::Failed(Failure::Connect));
     };
-    ask_connected(rt.alloc(), &events, stream, settings, out)
+    ask_connected(rt, &events, stream, settings, out)
 }
 
-fn ask_connected<'a, T: io::Read + io::Write + OpenStream + Drop, W: io::Write>(
-    alloc: Global,
+// So over a connection, on which bytes may come without end.
+fn ask_connected<
+    'a,
+    R: Clock + AllocGlobal,
+    T: io::Read + io::Write + OpenStream + Drop,
+    W: io::Write,
+>(
+    rt: &R,
     events: &List,
     stream: T,
     settings: AskSettings,
@@ -127,7 +135,10 @@ fn ask_connected<'a, T: io::Read + io::Write + OpenStream + Drop, W: io::Write>(
 {
     let silence = Duration::from_millis(u64::from(settings.silence));
     match StreamWire::new(stream, silence) {
-        Ok(mut wire) => ask_events(alloc, events, settings, &mut wire, out),
+        Ok(wire) => {
+            let mut wire = Bounded::new(wire, rt, settings.silence);
+            ask_events(rt.alloc(), events, settings, &mut wire, out)
+        }
         Err(_) => Err(AskFault::Failed(Failure::LineFailed)),
     }
 }

@@ -7,10 +7,11 @@
 //! done or ended by itself before the burst.
 //!
 //! Files, in reading order: `row`, `table`, `naming`, `asking`, `follower`, `walk`, `reading`, `report`, `settings`,
-//! `probe`, `inventory`.
+//! `probe`, `bounded`, `inventory`.
 #![tactic(auto)]
 
 mod asking;
+mod bounded;
 mod follower;
 mod inventory;
 mod naming;
@@ -26,7 +27,7 @@ pub use follower::{Meanwhile, Turn};
 pub use inventory::{AskSettings, do_ask};
 pub use naming::Naming;
 pub use probe::{do_probe, probe_rows};
-pub use report::Told;
+pub use report::{Cause, Difference, Told};
 pub use row::{Ask, Awaited, Clip, Group, Number, Row, Start, Step};
 pub use settings::{Only, ProbeSettings};
 pub use table::rows;

@@ -4,9 +4,9 @@ ghost use Rattle.std.specs.List.{flat_map};
 ghost use Rattle.std.specs.Prelude.{◌≡◌, ◌==◌, ◌≤◌, ◌∷◌, ◌++◌, [], ℕ, IfOk, List, OnOk, Option, if◌then◌else◌};
 ghost use Rattle.vdcp_probe.specs.Told.{counts_text, differing_in, probed_text, told_text};
 
-use crate::asking::ask;
+use crate::asking::{ask, settle};
 use crate::naming::Naming;
-use crate::report::{Told, differing_in, write_counts, write_told};
+use crate::report::{Told, differing_in, write_counts, write_hints, write_told};
 use crate::row::{Ask, Row};
 use crate::settings::ProbeSettings;
 use crate::walk::walk_row;
@@ -23,6 +23,12 @@ use vdcp_wire::{StreamWire, Wire, address_of};
 
 /// How often a server that answers nothing is asked.
 const MOST_ASKS: u32 = 3;
+
+/// How often a row that differs is put again at most, and how often rows are in vain: a server that is wrong in most rows
+/// isn't asked several times for all of them.
+const MOST_AGAIN: u32 = 4;
+
+const MOST_IN_VAIN: u32 = 8;
 
 /// Why a server isn't probed, or not to the end.
 #[derive(Clone, Copy)]
@@ -68,7 +74,9 @@ impl ProbeFault<'_> {
 
 /// Puts rows of the port's table to a server at `address`: an IPv4 address, a colon and a TCP port. It stops
 /// what its port plays. `out` gets a line for each row, as soon as it is known, and at last one with how many rows
-/// were put, how many were kept, how many differ, and how many of these can falsify an as-run list.
+/// were put, how many were kept, how many differ, and how many of these can falsify an as-run list. A row that may
+/// differ since an answer came late is put again. `err` gets a line that names those that were kept then, and one that
+/// names those that a server can't keep which waits for the rest of a cut command, if there are any.
 ///
 /// The status is 0 if no row differs, and 1 if one does, if a row of the catalogue is refused, and if
 /// it has fewer than two clips. It is 2 if the port may not be stopped, and if the address is none, which is
@@ -87,7 +95,10 @@ pub fn do_probe<R: Net + AllocGlobal, C: io::Read + Drop, W: io::Write, E: io::W
     ensures statuses { result ≤ 3 }
 {
     match probe(rt, address, catalogue, rows, settings, out) {
-        Ok(told) => status_for(told.as_slice()),
+        Ok(told) => match write_hints(told.as_slice(), err) {
+            Ok(()) => status_for(told.as_slice()),
+            Err(_) => 3,
+        },
         Err(fault) => fault.report(err),
     }
 }
@@ -182,10 +193,11 @@ pub fn probe_rows<C: Catalogue, T: Wire, W: io::Write>(
 {
     test_answers(alloc, naming, wire)?;
     let mut all = Vec::new(alloc);
+    let mut spare = MOST_IN_VAIN;
     for k in 0..rows.len() {
         let row = &rows[k];
         if settings.only.has(row.group) {
-            put_row(alloc, clips, naming, row, wire, out, &mut all)?;
+            put_row(alloc, clips, naming, row, &mut spare, wire, out, &mut all)?;
         }
     }
     match write_end(all.as_slice(), out) {
@@ -220,6 +232,7 @@ fn put_row<C: Catalogue, T: Wire, W: io::Write>(
     clips: &C,
     naming: &Naming,
     row: &Row,
+    spare: &mut u32,
     wire: &mut T,
     out: &mut W,
     all: &mut Vec<Told>,
@@ -232,13 +245,63 @@ fn put_row<C: Catalogue, T: Wire, W: io::Write>(
         Appends start (W.contents out.old) (flat_map told_text all.old.items) →
         Appends start (W.contents out.new) (flat_map told_text all.new.items)) }
 {
-    let differs = walk_row(alloc, clips, naming, row, wire)?;
-    let told = Told { row: *row, differs };
+    let first = walk_row(alloc, clips, naming, row, wire)?;
+    let again = match &first {
+        Some(difference) => {
+            is_kept_again(
+                alloc,
+                clips,
+                naming,
+                row,
+                difference.may_be_late(),
+                spare,
+                wire,
+            )?
+        }
+        None => false,
+    };
+    let differs = if again { None } else { first };
+    let row = *row;
+    let told = Told {
+        row,
+        differs,
+        again,
+    };
     if write_flushed(&told, out).is_err() {
         return Err(Failure::Writer);
     }
     add(told, all)?;
     Ok(())
+}
+
+// Puts a row that differs again as long as something may have come too late: whether it is kept then. It isn't put in vain
+// more often than is spare.
+fn is_kept_again<C: Catalogue, T: Wire>(
+    alloc: Global,
+    clips: &C,
+    naming: &Naming,
+    row: &Row,
+    is_late: bool,
+    spare: &mut u32,
+    wire: &mut T,
+) -> Result<bool, Failure<'static>>
+    requires unit { naming.now.unit ≤ 15 }
+    requires works { T.failures wire.old ≡ 0 }
+    ensures works { OnOk result (T.failures wire.new ≡ 0) }
+{
+    let mut may_be_late = is_late;
+    'tries: for _ in 0..MOST_AGAIN {
+        let has_come_late = settle(alloc, wire)?;
+        if *spare == 0 || !(has_come_late || may_be_late) {
+            return Ok(false);
+        }
+        match walk_row(alloc, clips, naming, row, wire)? {
+            Some(difference) => may_be_late = difference.may_be_late(),
+            None => return Ok(true),
+        }
+        *spare -= 1;
+    }
+    Ok(false)
 }
 
 fn add(told: Told, all: &mut Vec<Told>) -> Result<(), AllocError>

@@ -1,12 +1,13 @@
 //! How a row is put to a server, step by step.
-ghost use Rattle.std.specs.Prelude.{◌≡◌, ◌≤◌, IfOk, IsSome, None, OnOk};
-ghost use Rattle.vdcp_probe.specs.Following.{IsForeseen, IsUnforeseen, followed};
+ghost use Rattle.std.specs.Prelude.{◌≡◌, ◌≤◌, IfOk, IfSome, IsSome, None, OnOk};
+ghost use Rattle.vdcp_probe.specs.Following.{IsForeseen, IsUnforeseen, LacksCut, followed};
 ghost use Rattle.vdcp_probe.specs.Walks.{is_reached};
 
 use crate::asking::ask;
 use crate::follower::{Turn, add_turn, happened, may_come, state_after};
 use crate::naming::Naming;
 use crate::reading::difference;
+use crate::report::{Cause, Difference};
 use crate::row::Ask::{Close, Cue, Open, Select, Status, Stop};
 use crate::row::Clip::First;
 use crate::row::Number::Own;
@@ -35,14 +36,14 @@ fn steps_to(start: Start) -> &'static [Step] {
 }
 
 /// Puts a row to a server whose port has these clips. If what comes for a burst is none of what the port that got
-/// the same bursts may answer, the row is over, and the answer says what was sent, what came, and what may come.
+/// the same bursts may answer, the row is over, and the answer is the difference.
 pub fn walk_row<C: Catalogue, W: Wire>(
     alloc: Global,
     catalogue: &C,
     naming: &Naming,
     row: &Row,
     wire: &mut W,
-) -> Result<Option<String>, Failure<'static>>
+) -> Result<Option<Difference>, Failure<'static>>
     requires unit { naming.now.unit ≤ 15 }
     requires works { W.failures wire.old ≡ 0 }
     ensures works { OnOk result (W.failures wire.new ≡ 0) }
@@ -59,7 +60,7 @@ fn walk<C: Catalogue, W: Wire>(
     naming: &Naming,
     steps: &[Step],
     wire: &mut W,
-) -> Result<Option<String>, Failure<'static>>
+) -> Result<Option<Difference>, Failure<'static>>
     requires unit { naming.now.unit ≤ 15 }
     requires works { W.failures wire.old ≡ 0 }
     ensures works { OnOk result (W.failures wire.new ≡ 0) }
@@ -84,7 +85,7 @@ fn take_step<C: Catalogue, W: Wire>(
     burst: &mut Vec<u8>,
     turns: &mut Vec<Turn>,
     wire: &mut W,
-) -> Result<Option<String>, Failure<'static>>
+) -> Result<Option<Difference>, Failure<'static>>
     requires unit { naming.now.unit ≤ 15 }
     requires works { W.failures wire.old ≡ 0 }
     ensures works { OnOk result (W.failures wire.new ≡ 0) }
@@ -111,7 +112,7 @@ fn wait<C: Catalogue, W: Wire>(
     awaited: Awaited,
     turns: &mut Vec<Turn>,
     wire: &mut W,
-) -> Result<Option<String>, Failure<'static>>
+) -> Result<Option<Difference>, Failure<'static>>
     requires unit { naming.now.unit ≤ 15 }
     requires works { W.failures wire.old ≡ 0 }
     ensures works { OnOk result (W.failures wire.new ≡ 0) }
@@ -130,7 +131,9 @@ fn wait<C: Catalogue, W: Wire>(
         }
     }
     let answers = may_come(alloc, catalogue, naming, turns.as_slice(), status)?;
-    Ok(Some(overdue(alloc, status, answers.as_slice())?))
+    let text = overdue(alloc, status, answers.as_slice())?;
+    let cause = Cause::Overdue;
+    Ok(Some(Difference { text, cause }))
 }
 
 // Whether a state byte is as awaited.
@@ -159,7 +162,7 @@ fn hold<C: Catalogue, W: Wire>(
     burst: &[u8],
     turns: &mut Vec<Turn>,
     wire: &mut W,
-) -> Result<Option<String>, Failure<'static>>
+) -> Result<Option<Difference>, Failure<'static>>
     requires unit { naming.now.unit ≤ 15 }
     requires works { W.failures wire.old ≡ 0 }
     ensures works { OnOk result (W.failures wire.new ≡ 0) }
@@ -169,7 +172,7 @@ fn hold<C: Catalogue, W: Wire>(
 }
 
 /// Holds what came for a burst, after these turns, against what the port may answer that got the same. If it is none of
-/// this, the text says so; else the burst is one turn more.
+/// this, that is the difference; else the burst is one turn more.
 pub fn hold_answer<C: Catalogue>(
     alloc: Global,
     catalogue: &C,
@@ -177,11 +180,13 @@ pub fn hold_answer<C: Catalogue>(
     burst: &[u8],
     came: &[u8],
     turns: &mut Vec<Turn>,
-) -> Result<Option<String>, AllocError>
+) -> Result<Option<Difference>, AllocError>
     requires { naming.now.unit ≤ 15 }
-    ensures differs { IfOk result (λ text. IsSome text → IsUnforeseen
+    ensures differs { IfOk result (λ found. IsSome found → IsUnforeseen
         (followed (C.clips catalogue.now) naming.now.unit naming.now.port turns.old.items) burst.now came.now) }
-    ensures kept { IfOk result (λ text. text ≡ None → IsForeseen
+    ensures awaiting { IfOk result (λ found. IfSome found (λ difference. difference.cause ≡ Cause.Awaiting → LacksCut
+        (followed (C.clips catalogue.now) naming.now.unit naming.now.port turns.old.items) burst.now came.now)) }
+    ensures kept { IfOk result (λ found. found ≡ None → IsForeseen
         (followed (C.clips catalogue.now) naming.now.unit naming.now.port turns.old.items) burst.now came.now
         (followed (C.clips catalogue.now) naming.now.unit naming.now.port turns.new.items)) }
 {
@@ -193,7 +198,51 @@ pub fn hold_answer<C: Catalogue>(
         None => {
             let answers = may_come(alloc, catalogue, naming, turns.as_slice(), burst)?;
             let text = difference(alloc, burst, came, answers.as_slice())?;
-            Ok(Some(text))
+            let is_late = may_be_late(came, answers.as_slice());
+            let cause = cause_of(
+                alloc,
+                catalogue,
+                naming,
+                burst,
+                came,
+                turns.as_slice(),
+                is_late,
+            )?;
+            Ok(Some(Difference { text, cause }))
         }
     }
+}
+
+// How that differs which came for a burst after these turns.
+fn cause_of<C: Catalogue>(
+    alloc: Global,
+    catalogue: &C,
+    naming: &Naming,
+    burst: &[u8],
+    came: &[u8],
+    turns: &[Turn],
+    is_late: bool,
+) -> Result<Cause, AllocError>
+    requires { naming.now.unit ≤ 15 }
+    ensures awaiting { IfOk result (λ cause. cause ≡ Cause.Awaiting → LacksCut
+        (followed (C.clips catalogue.now) naming.now.unit naming.now.port turns.now) burst.now came.now) }
+{
+    let mut whole = Vec::from_slice(alloc, came)?;
+    whole.extend_from_slice(&[0x05, 0x80])?;
+    match happened(alloc, catalogue, naming, turns, burst, whole.as_slice())? {
+        Some(_) => Ok(Cause::Awaiting),
+        None if is_late => Ok(Cause::Late),
+        None => Ok(Cause::Otherwise),
+    }
+}
+
+// Whether this would be one of these answers if its rest, or that of an answer before, weren't late.
+fn may_be_late(came: &[u8], answers: &[Vec<u8>]) -> bool {
+    for k in 0..answers.len() {
+        let answer = answers[k].as_slice();
+        if answer.starts_with(came) || (!answer.is_empty() && came.ends_with(answer)) {
+            return true;
+        }
+    }
+    false
 }
