@@ -1,14 +1,17 @@
 -- How a port is kept for one turn more.
-use Rattle.std.proofs.Common.{ℕ, ◌≡◌, ◌<◌, ◌-◌, List, [], ◌∷◌, ◌++◌, suc, ap, refl, sym, subst, append_assoc, append-nil, arith}
-use Rattle.std.specs.Prelude.{⊤, Option, None, Some, Result}
+use Rattle.std.proofs.Common.{ℕ, ◌≡◌, ◌<◌, ◌-◌, List, [], ◌∷◌, ◌++◌, suc, ap, refl, inl, inr, sym, subst, append_assoc, append-nil, arith}
+use Rattle.std.specs.Prelude.{⊤, Option, None, Some, Result, Ok, Err}
 use Rattle.vdcp_port.specs.Clock.{ClockedPort}
 use Rattle.vdcp_drive.specs.ServeLeaves.{ServeLeaves}
 use Rattle.vdcp_drive.specs.Serving.{Look, Serving}
 use Rattle.vdcp_drive.specs.declared.line.DriveFault.{DriveFault}
 use Rattle.vdcp_drive.specs.declared.line.Ran.{Ran}
 use Rattle.vdcp_wire.specs.Acts.{Act}
-use Rattle.vdcp_serve.specs.Stay.{IsKept, adds_ends}
+use Rattle.vdcp_serve.specs.Stay.{HasWaited, IfLine, IsKept, adds_ends, silences_after}
 use Rattle.vdcp_serve.specs.declared.serve.ServeEnd.{ServeEnd}
+use Rattle.vdcp_serve.specs.declared.serve.ServeEnd.TheVariants as how
+use Rattle.vdcp_serve.specs.declared.stay.Coming.{Coming}
+use Rattle.vdcp_serve.specs.declared.stay.Coming.TheVariants as comings
 
 -- this many turns are left, since some are
 pub one_more : {W : Type 0} {does : Act → W → W → Type 0} {failures : W → ℕ} {most : Option ℕ} {port : ClockedPort}
@@ -53,3 +56,17 @@ unwatched does lent failures turns old new answer h = record {
   device = h.device;
   stays = λ failed. ((h.stays failed).0, (h.stays failed).1, tt);
 }
+
+-- of a line that came and works
+pub line_works : {W : Type 0} (failures : W → ℕ) (coming : Coming W) (line : W) → coming ≡ comings.Line line
+    → IfLine coming (λ w. failures w ≡ 0) → failures line ≡ 0
+line_works {W} failures coming line is works =
+    subst (λ (c : Coming W). IfLine c (λ w. failures w ≡ 0)) is works
+
+-- how long the next line has waited
+pub waits_on : (most : Option ℕ) (told : List (Result ServeEnd DriveFault)) (end : Result ServeEnd DriveFault) (silences : ℕ)
+    → silences ≡ silences_after end most → HasWaited most (told ++ end ∷ []) silences
+waits_on most told (Ok how.Idle) silences is = inr (told, refl, is)
+waits_on most told (Ok how.Closed) silences is = inl is
+waits_on most told (Ok how.Spent) silences is = inl is
+waits_on most told (Err f) silences is = inl is

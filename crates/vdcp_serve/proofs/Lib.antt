@@ -2,6 +2,7 @@
 mod Ends
 mod Holding
 mod Kept
+mod Noting
 mod Pacing
 pub mod Showing
 mod Unserved

@@ -1,6 +1,6 @@
 -- A line that is given up if nothing comes for too long.
 use Rattle.std.specs.Int.{div_ceil}
-use Rattle.std.specs.Prelude.{ℕ, suc, zero, ◌≡◌, ◌⊎◌, ◌*◌, ◌+◌, ◌-◌, ◌^◌, Bool, true, false, Option, None, Some, max, min, nat_le}
+use Rattle.std.specs.Prelude.{ℕ, suc, zero, ◌≡◌, ◌⊎◌, ◌*◌, ◌+◌, ◌-◌, ◌^◌, Bool, true, false, not, Option, None, Some, max, min, nat_le}
 use Rattle.vdcp_wire.specs.declared.wire.Came.{Came}
 use Rattle.vdcp_wire.specs.declared.wire.Came.TheVariants as arrives
 use Rattle.vdcp_value.specs.Labels.{frames_per_second}
@@ -10,6 +10,9 @@ use Rattle.vdcp_wire.specs.Wires.{Told, Arrival, close, adds_came}
 use Rattle.vdcp_serve.specs.declared.idling.Idling.{Idling}
 use Rattle.vdcp_serve.specs.declared.idling.Patience.{Patience}
 use Rattle.vdcp_serve.specs.declared.idling.Patience.TheVariants as patience
+use Rattle.vdcp_serve.specs.declared.paced.Pace.{Pace}
+use Rattle.vdcp_serve.specs.declared.paced.Pace.TheVariants as pace
+use Rattle.vdcp_serve.specs.declared.serve.ServeSettings.{ServeSettings}
 
 -- how many silences of these milliseconds are as long as the seconds for which a connection may be idle
 abbrev pub idle_silences : Option ℕ → ℕ → Option ℕ
@@ -21,17 +24,37 @@ abbrev pub idle_frames : Option ℕ → Rate → Option ℕ
 idle_frames None rate = None
 idle_frames (Some seconds) rate = Some (seconds * frames_per_second rate)
 
+-- how many silences or frames the settings say
+abbrev pub idle_at : Pace → ServeSettings → Option ℕ
+idle_at pace.Silences s = idle_silences s.idle s.silence
+idle_at (pace.Clock rate) s = idle_frames s.idle rate
+
+abbrev pub idle_of : ServeSettings → Option ℕ
+idle_of s = idle_at s.pace s
+
 -- whether these silences one after another are too many
 abbrev pub are_too_many : Option ℕ → ℕ → Bool
 are_too_many None silences = false
 are_too_many (Some most) silences = nat_le most silences
 
--- how many silences came one after another, with what came now
-abbrev pub silences_with : ℕ → Came → ℕ
-silences_with silences arrives.Silence = min (silences + 1) (2 ^ 64 - 1)
-silences_with silences arrives.Closed = 0
-silences_with silences (arrives.Bytes zero) = silences
-silences_with silences (arrives.Bytes (suc n)) = 0
+-- one more, or as many
+abbrev pub counted : ℕ → Bool → ℕ
+counted silences true = min (silences + 1) (2 ^ 64 - 1)
+counted silences false = silences
+
+-- how many silences came one after another, with what came now: a silence counts if it was a wait for bytes, and a frame
+-- that passed once a wait after it brought none
+abbrev pub silences_with : ℕ → Came → (is_wait is_due : Bool) → ℕ
+silences_with silences arrives.Silence is_wait is_due = counted silences is_wait
+silences_with silences arrives.Closed is_wait is_due = 0
+silences_with silences (arrives.Bytes zero) is_wait is_due = counted silences is_due
+silences_with silences (arrives.Bytes (suc n)) is_wait is_due = 0
+
+-- whether a frame passed after which there was no wait
+abbrev pub is_due_after : Came → (is_wait : Bool) → Bool
+is_due_after arrives.Silence is_wait = not is_wait
+is_due_after arrives.Closed is_wait = false
+is_due_after (arrives.Bytes n) is_wait = false
 
 abbrev pub has_given_up : Patience → Bool
 has_given_up (patience.Waits silences) = false

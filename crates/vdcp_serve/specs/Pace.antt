@@ -1,5 +1,5 @@
 -- Frames that pass by the clock.
-use Rattle.std.specs.Prelude.{ℕ, ◌≡◌, ◌≢◌, ◌≤◌, ◌+◌, ◌-◌, ◌*◌, ◌/◌, ◌++◌, Bool, true, false, List, [], take, nat_le}
+use Rattle.std.specs.Prelude.{ℕ, ◌≡◌, ◌≢◌, ◌≤◌, ◌+◌, ◌-◌, ◌++◌, Bool, true, false, List, [], take, nat_le}
 use Rattle.vdcp_frame.specs.Message.{Content, Spells}
 use Rattle.vdcp_serve.specs.Held.{IsAtFault}
 use Rattle.vdcp_value.specs.Clock.{frames_after}

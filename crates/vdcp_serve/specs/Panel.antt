@@ -1,5 +1,5 @@
 -- What the page of a port shows.
-use Rattle.std.specs.Prelude.{ℕ, ◌≡◌, List, codes, map, Option, None, Some, String, string_bytes}
+use Rattle.std.specs.Prelude.{ℕ, ◌≡◌, ◌⊎◌, ◌<◌, ◌≤◌, ◌++◌, List, [], ◌∷◌, codes, drop, length, map, Option, None, Some, String, string_bytes}
 use Rattle.std.specs.declared.alloc.Global.{Global}
 use Rattle.serde_json.specs.Data.{Data, array, member, no_members, null, number, object, string, unsigned}
 use Rattle.serde_json.specs.View.{items_of}
@@ -17,6 +17,7 @@ use Rattle.vdcp_serve.specs.declared.panel.Airing.{Airing}
 use Rattle.vdcp_serve.specs.declared.panel.PortView.{PortView}
 use Rattle.vdcp_text.specs.Items.{item_text}
 use Rattle.vdcp_value.specs.Labels.{frames_per_second}
+use Rattle.vdcp_value.specs.declared.part.Item.{Item}
 use Rattle.vdcp_value.specs.declared.rate.Rate.{Rate}
 
 abbrev pub access_text : Access → List ℕ
@@ -37,6 +38,15 @@ airing_data rate a =
     object (member (codes "at") (number (unsigned a.at))
     (member (codes "item") (string (item_text rate a.item))
     (member (codes "number") (number (unsigned a.number)) no_members)))
+
+-- those that are shown still once one more went to air: while there are fewer than fifty, all, and then all but the oldest
+abbrev pub AreShownStill : List Airing → List Airing → Type 0
+AreShownStill aired still = ((length aired < 50) × (still ≡ aired)) ⊎ ((50 ≤ length aired) × (still ≡ drop 1 aired))
+
+-- this went to air as that number: it stands behind those, or memory was refused
+abbrev pub IsNoted : Item → ℕ → List Airing → List Airing → Type 0
+IsNoted item n aired aired' = (still : List Airing) × AreShownStill aired still
+    × (((a : Airing) × (a.item ≡ item) × (a.number ≡ n) × (aired' ≡ still ++ a ∷ [])) ⊎ (aired' ≡ still))
 
 abbrev pub from_data : Option (String Global) → Data
 from_data None = null

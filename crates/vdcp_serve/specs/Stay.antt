@@ -1,5 +1,5 @@
 -- A port that is kept from one connection to the next.
-use Rattle.std.specs.Prelude.{ℕ, suc, ◌≡◌, ◌-◌, ◌++◌, ◌∷◌, Bool, List, ⊤, [], Option, None, Some, Result, Ok, Err}
+use Rattle.std.specs.Prelude.{ℕ, suc, ◌≡◌, ◌⊎◌, ◌-◌, ◌++◌, ◌∷◌, Bool, List, ⊤, [], Option, None, Some, Result, Ok, Err}
 use Rattle.vdcp_frame.specs.Progress.{reading}
 use Rattle.vdcp_port.specs.Clock.{ClockedPort, after_frame}
 use Rattle.vdcp_drive.specs.ServeLeaves.{ServeLeaves}
@@ -14,16 +14,29 @@ use Rattle.vdcp_serve.specs.Serve.{end_of}
 use Rattle.vdcp_serve.specs.declared.idling.Idling.{Idling}
 use Rattle.vdcp_serve.specs.declared.idling.Patience.TheVariants as patience
 use Rattle.vdcp_serve.specs.declared.serve.ServeEnd.{ServeEnd}
+use Rattle.vdcp_serve.specs.declared.serve.ServeEnd.TheVariants as how
+use Rattle.vdcp_serve.specs.declared.stay.Coming.{Coming}
+use Rattle.vdcp_serve.specs.declared.stay.Coming.TheVariants as comings
+
+-- what came of a connection: its line, if that worked
+abbrev pub IfLine : {W : Type 0} → Coming W → (W → Type 0) → Type 0
+IfLine comings.Nobody P = ⊤
+IfLine comings.Failed P = ⊤
+IfLine (comings.Line line) P = P line
+
+abbrev pub coming_of : {W E : Type 0} → Result W E → Coming W
+coming_of (Ok line) = comings.Line line
+coming_of (Err error) = comings.Failed
 
 -- a server over a line that was just taken: its port is the one that was kept, no burst has begun, and the line is given
--- up after this many silences one after another
-pub record IsTakenWith {W : Type 0} (failures : W → ℕ) (most : Option ℕ) (port : ClockedPort) (s : Serving (Idling W)) :
+-- up after `most` silences one after another, of which these came before
+pub record IsTakenWith {W : Type 0} (failures : W → ℕ) (most : Option ℕ) (silences : ℕ) (port : ClockedPort) (s : Serving (Idling W)) :
     Type 0 where
   pub port_is : s.port ≡ port
   pub at_start : s.reader ≡ reading 0 []
   pub works : failures s.wire.wire ≡ 0
   pub most_is : s.wire.most ≡ most
-  pub waits : s.wire.patience ≡ patience.Waits 0
+  pub waits : s.wire.patience ≡ patience.Waits silences
   pub listens : s.wire.listens ≡ 0
 
 -- the turns that are left of these, if the server answered so and listened this often
@@ -37,6 +50,17 @@ left_after (Err fault) left made = left - made
 abbrev pub ended_by : Result Ran DriveFault → Bool → Result ServeEnd DriveFault
 ended_by (Ok ran) given_up = Ok (end_of ran given_up)
 ended_by (Err fault) given_up = Err fault
+
+-- for how many silences a line that waited was silent already, by how the line before it ended: if that was idle too long,
+-- for all but one
+abbrev pub silences_after : Result ServeEnd DriveFault → Option ℕ → ℕ
+silences_after (Ok how.Idle) (Some most) = most - 1
+silences_after end most = 0
+
+abbrev pub HasWaited : Option ℕ → List (Result ServeEnd DriveFault) → ℕ → Type 0
+HasWaited most told silences = (silences ≡ 0)
+    ⊎ ((before : List (Result ServeEnd DriveFault)) × (told ≡ before ++ Ok how.Idle ∷ [])
+    × (silences ≡ silences_after (Ok how.Idle) most))
 
 -- these ends are told too
 abbrev pub adds_ends : List (Result ServeEnd DriveFault) → Option (List (Result ServeEnd DriveFault))
@@ -58,7 +82,8 @@ pub data IsKept {W : Type 0} (does : Act → W → W → Type 0) (failures : W �
       → IsKept does failures most port turns now left (ends ++ Err fault.Device ∷ [])
   served : {now : ClockedPort} {left : ℕ} {ends : List (Result ServeEnd DriveFault)}
       → IsKept does failures most port turns now (suc left) ends
-      → (old new : Serving (Idling W)) → (answer : Result Ran DriveFault) → IsTakenWith failures most now old
+      → (silences : ℕ) → HasWaited most ends silences
+      → (old new : Serving (Idling W)) → (answer : Result Ran DriveFault) → IsTakenWith failures most silences now old
       → ServeLeaves (IdlingDoes does) (λ _. ⊤) (idling_failures failures) left old new answer
       → IsKept does failures most port turns new.port (left_after answer left new.wire.listens)
       (ends ++ ended_by answer (has_given_up new.wire.patience) ∷ [])

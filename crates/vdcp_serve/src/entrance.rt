@@ -1,10 +1,11 @@
 //! How one connection after another is taken, and made a line.
-ghost use Rattle.std.specs.Prelude.{◌≡◌, ◌*◌, IfOk};
+ghost use Rattle.std.specs.Prelude.{◌≡◌, ◌*◌, IfErr, IfOk, IsTrue};
+ghost use Rattle.vdcp_serve.specs.Stay.{IfLine};
 ghost use Rattle.vdcp_wire.specs.Streams.{failures_of};
 
 use crate::paced::Paced;
 use crate::serve::{ServeEnd, ServeSettings};
-use crate::stay::{Coming, Connections};
+use crate::stay::{Coming, Connections, coming_of};
 use mio::unix::SourceFd;
 use mio::{Events, Interest, Poll, Token};
 use std::alloc::Global;
@@ -29,6 +30,8 @@ pub struct Entrance<'a, R: Net + Clock, L: io::Write> {
     log: &'a Log<L>,
     // The address at the other end of the last connection.
     from: Option<SocketAddr>,
+    // The system refuses to wait.
+    is_refused: bool,
 }
 
 impl<'a, R: Net + AllocGlobal + Clock, L: io::Write + Drop> Entrance<'a, R, L> {
@@ -54,7 +57,21 @@ impl<'a, R: Net + AllocGlobal + Clock, L: io::Write + Drop> Entrance<'a, R, L> {
             settings,
             log,
             from: None,
+            is_refused: false,
         })
+    }
+
+    // Waits until a connection comes, no longer than a pause. Err if the system refuses to.
+    fn pause(&mut self) -> Result<(), WireFault>
+        ensures { IfErr result (λ _. IsTrue self.new.is_refused) }
+    {
+        // (what came is told once, so that one that can't be taken doesn't cut the wait short again)
+        let pause = self.settings.pace.pause(self.settings.silence);
+        self.is_refused = self.poll.poll(&mut self.events, Some(pause)).is_err();
+        if self.is_refused {
+            return Err(WireFault);
+        }
+        Ok(())
     }
 
     // Takes a connection that waits. (If none can be taken now, none has come.)
@@ -67,6 +84,26 @@ impl<'a, R: Net + AllocGlobal + Clock, L: io::Write + Drop> Entrance<'a, R, L> {
             Err(_) => None,
         }
     }
+
+    // What comes of a connection, or of none.
+    fn coming(
+        &self,
+        stream: Option<R::Stream>,
+    ) -> Coming<Logged<'a, Paced<'a, R, StreamWire<R::Stream>>, L>>
+        ensures works { IfLine result (λ line. failures_of line.wire.wire.connection ≡ 0) }
+    {
+        let Some(stream) = stream else {
+            return Coming::Nobody;
+        };
+        match coming_of(line_over(self.rt, stream, self.settings)) {
+            Coming::Line(line) => {
+                self.log.tell(&"taken");
+                Coming::Line(Logged::new(line, self.log, Hearing::AtSilences))
+            }
+            Coming::Nobody => Coming::Nobody,
+            Coming::Failed => Coming::Failed,
+        }
+    }
 }
 
 impl<'a, R: Net + AllocGlobal + Clock, L: io::Write + Drop> Connections<
@@ -74,24 +111,17 @@ impl<'a, R: Net + AllocGlobal + Clock, L: io::Write + Drop> Connections<
 > for Entrance<'a, R, L> {
     fn wait(
         &mut self,
-    ) -> Result<Coming<Logged<'a, Paced<'a, R, StreamWire<R::Stream>>, L>>, WireFault> {
+    ) -> Result<Coming<Logged<'a, Paced<'a, R, StreamWire<R::Stream>>, L>>, WireFault>
+        ensures works { IfOk result (λ coming. IfLine coming (λ line. failures_of line.wire.wire.connection ≡ 0)) }
+        // No connection fails a wait.
+        ensures refused { IfErr result (λ _. IsTrue self.new.is_refused) }
+    {
         let mut taken = self.take();
         if taken.is_none() {
-            // (what came is told once, so that one that can't be taken doesn't cut the wait short again)
-            let pause = self.settings.pace.pause(self.settings.silence);
-            if self.poll.poll(&mut self.events, Some(pause)).is_err() {
-                return Err(WireFault);
-            }
+            self.pause()?;
             taken = self.take();
         }
-        let Some(stream) = taken else {
-            return Ok(Coming::Nobody);
-        };
-        let Ok(line) = line_over(self.rt, stream, self.settings) else {
-            return Ok(Coming::Failed);
-        };
-        self.log.tell(&"taken");
-        Ok(Coming::Line(Logged::new(line, self.log, Hearing::AtSilences)))
+        Ok(self.coming(taken))
     }
 
     fn from(&self) -> Option<SocketAddr> {

@@ -1,6 +1,6 @@
 //! A line that is given up once it was idle too long.
 ghost use Rattle.std.specs.Prelude.{◌≡◌};
-ghost use Rattle.vdcp_serve.specs.Idle.{are_too_many, has_given_up, silences_with};
+ghost use Rattle.vdcp_serve.specs.Idle.{are_too_many, has_given_up, is_due_after, silences_with};
 
 use vdcp_wire::{Came, PIECE, Wire, WireFault};
 
@@ -17,6 +17,9 @@ enum Patience {
 pub trait Hears: Wire {
     /// When bytes came last, also such as it dropped, in nanoseconds since its start; 0 if it drops none.
     fn heard(&self) -> u64;
+
+    /// Whether a silence of it was a wait for bytes, and no frame that passed meanwhile.
+    fn waits_in_silences(&self) -> bool;
 }
 
 /// A wire that gives its line up if nothing comes for too long: it answers then that the other end has closed.
@@ -26,21 +29,24 @@ pub struct Idling<W: Hears> {
     // How many silences one after another are too many; None if no number is.
     most: Option<u64>,
     patience: Patience,
+    // A frame passed since the line was waited at.
+    is_due: bool,
     listens: u64,
 }
 
 impl<W: Hears> Idling<W> {
-    /// A wire over this one, which gives up after this many silences one after another.
-    pub fn new(wire: W, most: Option<u64>) -> Self
+    /// A wire over this one, which gives up after `most` silences one after another, of which `silences` came before.
+    pub fn new(wire: W, most: Option<u64>, silences: u64) -> Self
         ensures wire { result.wire ≡ wire }
         ensures most { result.most ≡ most }
-        ensures waits { result.patience ≡ Patience.Waits 0 }
+        ensures waits { result.patience ≡ Patience.Waits silences }
         ensures listens { result.listens ≡ 0 }
     {
         Idling {
             wire,
             most,
-            patience: Patience::Waits(0),
+            patience: Patience::Waits(silences),
+            is_due: false,
             listens: 0,
         }
     }
@@ -73,14 +79,26 @@ impl<W: Hears> Idling<W> {
     }
 }
 
-// How many silences came one after another, with what came now.
-fn silences_with(silences: u64, came: Came) -> u64
-    ensures { result ≡ silences_with silences came }
+// How many silences came one after another, with what came now. A frame that passed counts once nothing came after it: so
+// what waits is read before the line is given up.
+fn silences_with(silences: u64, came: Came, is_wait: bool, is_due: bool) -> u64
+    ensures { result ≡ silences_with silences came is_wait is_due }
 {
     match came {
-        Came::Silence => silences.saturating_add(1),
-        Came::Bytes(0) => silences,
+        Came::Silence if is_wait => silences.saturating_add(1),
+        Came::Bytes(0) if is_due => silences.saturating_add(1),
+        Came::Silence | Came::Bytes(0) => silences,
         Came::Bytes(_) | Came::Closed => 0,
+    }
+}
+
+// Whether a frame passed since the line was waited at.
+fn is_due_after(came: Came, is_wait: bool) -> bool
+    ensures { result ≡ is_due_after came is_wait }
+{
+    match came {
+        Came::Silence => !is_wait,
+        Came::Bytes(_) | Came::Closed => false,
     }
 }
 
@@ -114,7 +132,9 @@ impl<W: Hears> Wire for Idling<W> {
         } else {
             0
         };
-        self.patience = Patience::Waits(silences_with(silences, came));
+        let is_wait = self.wire.waits_in_silences();
+        self.patience = Patience::Waits(silences_with(silences, came, is_wait, self.is_due));
+        self.is_due = is_due_after(came, is_wait);
         Ok(came)
     }
 

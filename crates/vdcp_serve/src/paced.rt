@@ -265,11 +265,19 @@ impl<R: Clock, W: Wire> Hears for Paced<'_, R, W> {
     fn heard(&self) -> u64 {
         self.heard
     }
+
+    fn waits_in_silences(&self) -> bool {
+        self.pace == Pace::Silences
+    }
 }
 
 impl<W: Hears, L: io::Write + Drop> Hears for Logged<'_, W, L> {
     fn heard(&self) -> u64 {
         self.wire.heard()
+    }
+
+    fn waits_in_silences(&self) -> bool {
+        self.wire.waits_in_silences()
     }
 }
 

@@ -3,7 +3,7 @@ ghost use Rattle.std.specs.Prelude.{◌≡◌, IfOk, map, string_bytes};
 ghost use Rattle.serde_json.specs.Data.{array};
 ghost use Rattle.serde_json.specs.View.{items_of, view};
 ghost use Rattle.vdcp_text.specs.Items.{item_text};
-ghost use Rattle.vdcp_serve.specs.Panel.{ShowsPort, access_text, airing_data, from_data, seen_data, slot_data};
+ghost use Rattle.vdcp_serve.specs.Panel.{IsNoted, ShowsPort, access_text, airing_data, from_data, seen_data, slot_data};
 
 use crate::page::PAGE;
 use serde_json::{Value, json};
@@ -78,11 +78,14 @@ impl<'a, R: Clock + AllocGlobal> PortPanel<'a, R> {
     }
 
     /// This went to air.
-    pub fn note(&mut self, item: Item) {
+    pub fn note(&mut self, item: Item)
+        ensures noted { IsNoted item self.old.count self.old.aired.items self.new.aired.items }
+        ensures keeps { self.new ≡ record self.old { aired = self.new.aired; count = self.new.count } }
+    {
+        let number = self.count;
         if self.aired.len() >= MOST_AIRED {
             self.aired.remove(0);
         }
-        let number = self.count;
         self.count = self.count.saturating_add(1);
         let at = self.time_of_day();
         let _ = self.aired.push(Airing { number, item, at });

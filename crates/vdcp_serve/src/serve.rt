@@ -5,7 +5,7 @@ ghost use Rattle.vdcp_drive.specs.ServeLeaves.{ServeLeaves};
 ghost use Rattle.vdcp_files.specs.Files.{IsWholeCatalogue, file};
 ghost use Rattle.vdcp_wire.specs.Address.{IsAddress};
 ghost use Rattle.vdcp_wire.specs.Listening.{PrintsListening};
-ghost use Rattle.vdcp_serve.specs.Idle.{IdlingDoes, has_given_up, idle_frames, idle_silences, idling_failures};
+ghost use Rattle.vdcp_serve.specs.Idle.{IdlingDoes, has_given_up, idle_of, idling_failures};
 ghost use Rattle.vdcp_serve.specs.Serve.{EndsAs, IsCatalogueRefused, IsServedThere, IsUnheard, IsUnserved, PrintsEnd};
 ghost use Rattle.vdcp_serve.specs.Serve.{end_of, word_of};
 ghost use Rattle.vdcp_port.specs.Clock.{new_port};
@@ -199,9 +199,8 @@ fn new_port<C: Catalogue>(catalogue: C, settings: ServeSettings) -> Port<C>
 }
 
 // How many silences one after another a connection may be idle. By the clock each is a frame.
-fn idle_silences(settings: ServeSettings) -> Option<u64>
-    ensures silences { settings.pace ≡ Pace.Silences → result ≡ idle_silences settings.idle settings.silence }
-    ensures frames { (rate : Rate) → settings.pace ≡ Pace.Clock rate → result ≡ idle_frames settings.idle rate }
+pub(crate) fn idle_silences(settings: ServeSettings) -> Option<u64>
+    ensures { result ≡ idle_of settings }
 {
     let seconds = u64::from(settings.idle?);
     match settings.pace {
@@ -275,9 +274,7 @@ fn serve_each<R: Net + AllocGlobal + Clock, C: Catalogue + Drop, L: io::Write + 
     let mut entrance = entrance_at(rt, address, settings, log, out)?;
     let panel = port_panel(rt, panel, settings.rate)?;
     let mut watcher = Watcher::new(log, settings.rate, panel);
-    let turns = u64::from(settings.turns);
-    let most = idle_silences(settings);
-    if stay(port, &mut entrance, turns, most, &mut watcher).is_err() {
+    if stay(port, &mut entrance, settings, &mut watcher).is_err() {
         return Err(Failure::Bind);
     }
     match write_end(ServeEnd::Spent, out) {
@@ -337,29 +334,26 @@ fn serve_line<'f, C: Catalogue + Drop, S: Hears + Drop, L: io::Write + Drop, W: 
     let wire = Idling::new(
         Logged::new(wire, log, Hearing::AtSilences),
         idle_silences(settings),
+        0,
     );
     let mut watcher = AirLog::new(log, settings.rate);
-    serve_turns(
-        &mut Server::new(port, wire),
-        settings.turns,
-        &mut watcher,
-        out,
-    )
+    serve_turns(&mut Server::new(port, wire), settings, &mut watcher, out)
 }
 
-// Makes at most this many turns of a server, and prints how they ended.
+// Makes at most as many turns of a server as the settings say, and prints how they ended.
 fn serve_turns<'f, C: Catalogue, S: Hears, V: WatchPort<C>, W: io::Write>(
     server: &mut Server<C, Idling<S>>,
-    turns: u32,
+    settings: ServeSettings,
     watcher: &mut V,
     out: &mut W,
 ) -> Result<(), Failure<'f>>
+    requires { server.old.wire.most ≡ idle_of settings }
     // What the server's turns left and answered, and what is printed of that.
     ensures leaves { (ran : Result Ran DriveFault) ×
-        ServeLeaves (IdlingDoes S.does) (λ _. ⊤) (idling_failures S.failures) turns server.old server.new ran
+        ServeLeaves (IdlingDoes S.does) (λ _. ⊤) (idling_failures S.failures) settings.turns server.old server.new ran
         × EndsAs ran (has_given_up server.new.wire.patience) result (W.contents out.old) (W.contents out.new) }
 {
-    match server.serve(u64::from(turns), watcher) {
+    match server.serve(u64::from(settings.turns), watcher) {
         Ok(ran) => {
             let end = ServeEnd::of_turns(ran, server.wire().has_given_up());
             write_end(end, out).map_err(|_| Failure::Writer)

@@ -1,13 +1,13 @@
 //! A port that is kept from one connection to the next.
-ghost use Rattle.std.specs.Prelude.{◌≡◌, List, Result, ⊤, IfOk};
+ghost use Rattle.std.specs.Prelude.{◌≡◌, ◌*◌, List, Result, ⊤, IfOk};
 ghost use Rattle.vdcp_drive.specs.ServeLeaves.{ServeLeaves};
-ghost use Rattle.vdcp_serve.specs.Idle.{IdlingDoes, has_given_up, idling_failures};
-ghost use Rattle.vdcp_serve.specs.Stay.{IsKept, adds_ends, ended_by, left_after};
+ghost use Rattle.vdcp_serve.specs.Idle.{IdlingDoes, has_given_up, idle_of, idling_failures};
+ghost use Rattle.vdcp_serve.specs.Stay.{IsKept, adds_ends, coming_of, ended_by, left_after, silences_after};
 ghost use Rattle.vdcp_serve.specs.declared.serve.ServeEnd.{ServeEnd};
 ghost use Rattle.vdcp_drive.specs.declared.line.DriveFault.{DriveFault};
 
 use crate::idling::{Hears, Idling};
-use crate::serve::ServeEnd;
+use crate::serve::{ServeEnd, ServeSettings, idle_silences};
 use crate::watcher::Watcher;
 use std::io;
 use std::net::SocketAddr;
@@ -31,7 +31,7 @@ pub enum Coming<W> {
 pub trait Connections<W: Wire> {
     ghost use Rattle.std.specs.Prelude.{◌≡◌, [], ◌∷◌, IfOk, List, None, Option, Result};
     ghost use Rattle.vdcp_drive.specs.declared.line.DriveFault.{DriveFault};
-    ghost use Rattle.vdcp_serve.specs.Stay.{adds_ends};
+    ghost use Rattle.vdcp_serve.specs.Stay.{IfLine, adds_ends};
     ghost use Rattle.vdcp_serve.specs.declared.serve.ServeEnd.{ServeEnd};
 
     /// How the lines ended, as it was told, in order, if it tells that.
@@ -39,7 +39,7 @@ pub trait Connections<W: Wire> {
 
     /// Waits for the next line, no longer than a silence or, by the clock, a frame lasts.
     fn wait(&mut self) -> Result<Coming<W>, WireFault>
-        ensures works { IfOk result (λ coming. (line : W) → coming ≡ Coming.Line line → W.failures line ≡ 0) }
+        ensures works { IfOk result (λ coming. IfLine coming (λ line. W.failures line ≡ 0)) }
         ensures ends { ends self.new ≡ ends self.old };
 
     /// The address at the other end of the last line, if it is known.
@@ -50,10 +50,11 @@ pub trait Connections<W: Wire> {
         ensures { ends self.new ≡ adds_ends (end ∷ []) (ends self.old) };
 }
 
-/// Serves a port over one line after another, for this many turns in all, each a wait for a line, for bytes or for a
-/// silence. While there is no line a frame passes at each silence. A line ends if the other end closes it, if it
-/// is given up after `most` silences one after another, and if it fails; the port stays as it is, and `connections` is
-/// told of each end. Err if nobody can be waited for.
+/// Serves a port over one line after another, for the turns of the settings in all, each a wait for a line, for bytes or for
+/// a silence. While there is no line a frame passes at each silence. A line ends if the other end closes it, if it
+/// is given up after as many silences one after another as the settings say, and if it fails; the port stays as it is, and
+/// `connections` is told of each end. A line that waited while the one before it was idle for too long is given up at its
+/// first silence. Err if nobody can be waited for.
 pub fn stay<
     C: Catalogue + Drop,
     W: Hears + Drop,
@@ -63,29 +64,35 @@ pub fn stay<
 >(
     port: Port<C>,
     connections: &mut D,
-    turns: u64,
-    most: Option<u64>,
+    settings: ServeSettings,
     watcher: &mut Watcher<'_, R, L>,
 ) -> Result<Port<C>, WireFault>
     ensures kept { IfOk result (λ kept. (ends : List (Result ServeEnd DriveFault)) ×
-        IsKept W.does W.failures most port turns kept 0 ends
+        IsKept W.does W.failures (idle_of settings) port settings.turns kept 0 ends
         × (D.ends connections.new ≡ adds_ends ends (D.ends connections.old))) }
 {
+    let most = idle_silences(settings);
     let mut port = port;
-    let mut left = turns;
+    let mut left = u64::from(settings.turns);
+    let mut silences = 0;
     'turns: while left > 0 {
         left -= 1;
         match connections.wait()? {
             Coming::Nobody => {
+                silences = 0;
                 port.frame();
                 watcher.look(&port, None);
             }
-            Coming::Failed => connections.tell_end(Err(DriveFault::Device)),
+            Coming::Failed => {
+                silences = 0;
+                connections.tell_end(Err(DriveFault::Device));
+            }
             Coming::Line(line) => {
                 watcher.connected(connections.from());
-                let mut server = Server::new(port, Idling::new(line, most));
+                let mut server = Server::new(port, Idling::new(line, most, silences));
                 let (rest, end) = serve_one(&mut server, left, watcher);
                 left = rest;
+                silences = silences_after(end, most);
                 connections.tell_end(end);
                 (port, _) = server.into_parts();
                 watcher.connected(None);
@@ -113,6 +120,26 @@ fn serve_one<C: Catalogue + Drop, W: Hears + Drop, R: Clock + AllocGlobal, L: io
         Err(fault) => Err(fault),
     };
     (left_after(answer, left, line.listens()), end)
+}
+
+// For how many silences the next line was silent already, if it waited.
+fn silences_after(end: Result<ServeEnd, DriveFault>, most: Option<u64>) -> u64
+    ensures { result ≡ silences_after end most }
+{
+    match (end, most) {
+        (Ok(ServeEnd::Idle), Some(most)) => most.saturating_sub(1),
+        (Ok(_) | Err(_), _) => 0,
+    }
+}
+
+/// What comes of a connection that was made a line, or refused to be one: its failure is no other one's.
+pub fn coming_of<W>(line: io::Result<W>) -> Coming<W>
+    ensures { result ≡ coming_of line }
+{
+    match line {
+        Ok(line) => Coming::Line(line),
+        Err(_) => Coming::Failed,
+    }
 }
 
 // The turns that are left of these, if a server answered so and listened this often.
