@@ -14,7 +14,7 @@ use Rattle.vdcp_journal.specs.declared.row.Heading.{Heading}
 use Rattle.vdcp_journal.specs.declared.row.Row.{Row}
 use Rattle.vdcp_list.specs.Rests.{FromEvent}
 use Rattle.vdcp_list.specs.Rows.{FileBytes}
-use Rattle.vdcp_journal_file.specs.Recording.{IsTimedOut, NotesFrom, Recording}
+use Rattle.vdcp_journal_file.specs.Recording.{BeganWith, IsTimedOut, Recording}
 use Rattle.vdcp_journal_file.specs.Resuming as resuming
 use Rattle.vdcp_journal_file.specs.Resuming.{IsOpenedAgain, IsReplayed, open_after, plan_of_run, state_after}
 use Rattle.vdcp_run.specs.Run.{BeginsAgain, BeginsBy, ComesTo, HasRecorder, IsBegun, IsRunOf, MayBeUnkept, first_event, heading_for, journal_of, name_of, new_controller, plan_for}
@@ -136,11 +136,11 @@ pub begun_again : {F : Type 0} (list : List Item) (settings : RunSettings) (name
     (first : Start) (recorder : Option (Recording F)) → 1 ≤ settings.limit → settings.limit ≤ 1000
     → heading ≡ heading_for settings list
     → IsOpenedAgain list heading settings.from first.from first.plan first.state
-    → IfSome recorder (λ r. NotesFrom (Some first.from) r.pending)
+    → IfSome recorder (BeganWith (Some first.from))
     → IsBegun settings list (Some (journals.Again name)) first recorder
-begun_again list settings name heading first recorder some few of opened left =
+begun_again list settings name heading first recorder some few of opened began =
     let opened = subst (λ (h : Heading). IsOpenedAgain list h settings.from first.from first.plan first.state) of opened in
-    again_so list settings name first.from first.plan first.state recorder some few (record { opened = opened; left = left })
+    again_so list settings name first.from first.plan first.state recorder some few (record { opened = opened; began = began })
     opened
 
 -- ---- the end

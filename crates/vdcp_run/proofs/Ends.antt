@@ -18,7 +18,7 @@ use Rattle.vdcp_drive.specs.declared.line.Ran.TheVariants as ran
 use Rattle.vdcp_list.specs.Rests.{FromEvent, items_left}
 use Rattle.vdcp_run.specs.Ends.{IsOpening, line_end_of, outcome_in_list}
 use Rattle.vdcp_files.specs.Files.{File}
-use Rattle.vdcp_run.specs.Run.{ComesTo, IsEndBy, IsEndOf, IsPlayed, IsRun, asrun_failure, end_text, fault_text, faults_text, line_failure, outcome_status, run_status, status_unless, told_outcome}
+use Rattle.vdcp_run.specs.Run.{ComesTo, IsEndBy, IsEndOf, IsPlayed, IsRun, asrun_failure, end_text, fault_text, faults_text, lack_text, line_failure, outcome_status, run_status, status_unless, told_outcome}
 use Rattle.vdcp_run.specs.declared.run_end.LineEnd.{LineEnd}
 use Rattle.vdcp_run.specs.declared.run_end.LineEnd.TheVariants as line_end
 use Rattle.vdcp_run.specs.declared.run_end.RunEnd.{RunEnd}
@@ -150,7 +150,7 @@ comes_so {S} items controller old new answer end same stays led ended line by ke
 
 silent_by : (n : ℕ) → n ≤ 2 → (unwritten unkept line : Option Failure) (rest : ℕ)
     → status_unless unwritten (status_unless unkept (status_unless line rest)) ≡ n
-    → fault_text unwritten ++ fault_text unkept ++ fault_text line ≡ []
+    → fault_text unwritten ++ fault_text unkept ++ lack_text unkept ++ fault_text line ≡ []
 silent_by n low None None None rest is = refl
 silent_by n low None None (Some failure) rest is = absurd (omega (arith, low, is))
 silent_by n low None (Some failure) line rest is = absurd (omega (arith, low, is))

@@ -1,5 +1,5 @@
 -- A session over a wire, seen at the wire below.
-use Rattle.std.proofs.Common.{◌≡◌, ℕ, List, [], ◌∷◌, ◌++◌, ap, inl, inr, refl, sym, subst}
+use Rattle.std.proofs.Common.{◌≡◌, ℕ, List, [], ◌∷◌, ◌++◌, ap, inl, inr, refl}
 use Rattle.std.specs.Prelude.{Bool, true, false, IfOk, OnErr, None, Some, Option, Result, Ok, Err}
 use Rattle.vdcp_auto.specs.Plan.{Plan}
 use Rattle.vdcp_auto.specs.State.{State, Stage}
@@ -19,7 +19,7 @@ use Rattle.vdcp_log.specs.declared.hearing.Hearing.{Hearing}
 use Rattle.vdcp_log.specs.declared.hearing.Hearing.TheVariants as hears
 use Rattle.vdcp_journal_file.specs.Recording.{Recording}
 use Rattle.vdcp_run.specs.Lapse.{Lapses, MayLapse}
-use Rattle.vdcp_run.specs.Session.{HasAwaited, HasPlayed, HasSession, HasTried, IsAsked, IsGiven, LastRound, Parts, Playing, Plays, Rounds, Runs, RunsBy, Start, TriesOver, broke, does_by, ended, missed, no_wire, over, played, rules_of, run_over, spent, tried, unbegun, unseen, went_on}
+use Rattle.vdcp_run.specs.Session.{HasAwaited, HasPlayed, HasSession, HasTried, IsAsked, IsGiven, LastRound, Parts, Playing, Plays, Rounds, Runs, RunsBy, Start, TriesOver, broke, ended, missed, no_wire, over, played, rules_of, run_over, spent, tried, unbegun, went_on}
 use Rattle.vdcp_run.specs.Waiting.{AsksState, AwaitsIn, waiting_in}
 use Rattle.vdcp_run.specs.declared.run_end.LineEnd.TheVariants as line_end
 use Rattle.vdcp_run.specs.declared.run_end.RunEnd.{RunEnd}
@@ -196,7 +196,7 @@ asked_seen {W} {W'} does does' w acting settings start wire wire' left answer as
   };
 }
 
-pub tries_seen : {W W' V V' F : Type 0} (does : Act → W → W → Type 0) (does' : Act → W' → W' → Type 0)
+tries_seen : {W W' V V' F : Type 0} (does : Act → W → W → Type 0) (does' : Act → W' → W' → Type 0)
     (safe : F → Option (List ℕ)) (sees : State → V → V → Type 0)
     (sees' : State → V' → V' → Type 0) (w : W → W') (v : V → V')
     → ((a : Act) (old new : W) → does a old new → does' a (w old) (w new))
@@ -244,21 +244,25 @@ awaits_in_seen does does' w acting (hears.AtOnce poll) (Some stage) settings is 
     rw is (asks_seen does does' w acting ears.at_once (holds []) plan settings.unit settings.listens
     (record state { stage = stage }) old new (rw is at h))
 
-pub awaited_seen : {W W' F : Type 0} (does : Act → W → W → Type 0) (does' : Act → W' → W' → Type 0)
-    (safe : F → Option (List ℕ)) (w : W → W')
+pub awaited_seen : {W W' V V' F : Type 0} (does : Act → W → W → Type 0) (does' : Act → W' → W' → Type 0)
+    (safe : F → Option (List ℕ)) (sees : State → V → V → Type 0)
+    (sees' : State → V' → V' → Type 0) (w : W → W') (v : V → V')
     → ((a : Act) (old new : W) → does a old new → does' a (w old) (w new))
-    → (settings : RunSettings) (start : Start) (wire : W) (recorder : Option (Recording F)) (end : RunEnd)
-    → HasAwaited does safe settings start wire recorder end
-    → HasAwaited does' safe settings start (w wire) recorder end
-awaited_seen does does' safe w acting settings start wire recorder end (went_on wire' awaits tries) =
-    went_on (w wire')
+    → ((s : State) (old new : V) → sees s old new → sees' s (v old) (v new))
+    → (settings : RunSettings) (start : Start) (world : World W (Option (Recording F)) V) (watch : V) (end : RunEnd)
+    → HasAwaited does safe sees settings start world watch end
+    → HasAwaited does' safe sees' settings start (seen w (λ keep. keep) v world) (v watch) end
+awaited_seen does does' safe sees sees' w v acting looking settings start world watch end
+    (went_on wire' watch' awaits tries) =
+    went_on (w wire') (v watch')
     (awaits_in_seen does does' w acting settings.hearing (waiting_in start.state.stage) settings refl start.plan start.state
-    wire wire' awaits)
-    (tries_seen does does' safe unseen unseen w (λ v. v) acting (λ s old new h. h) settings start
-    (over wire' recorder) tt end tries)
-awaited_seen does does' safe w acting settings start wire recorder end (broke wire' awaits waits line) = broke (w wire')
+    world.wire wire' awaits)
+    (tries_seen does does' safe sees sees' w v acting looking settings start
+    (record world { wire = wire'; watch = watch' }) watch end tries)
+awaited_seen does does' safe sees sees' w v acting looking settings start world watch end (broke wire' awaits waits line) =
+    broke (w wire')
     (awaits_in_seen does does' w acting settings.hearing (waiting_in start.state.stage) settings refl start.plan start.state
-    wire wire' awaits) waits line
+    world.wire wire' awaits) waits line
 
 -- ---- a silence by the clock
 
@@ -269,24 +273,6 @@ lapses_so does true noted (brings what) old new h = inr h
 lapses_so does false noted (brings what) old new h = inl h
 lapses_so does lapsed noted drops old new h = h
 lapses_so does lapsed noted fails old new h = h
-
-pub tries_at_silences : {W F : Type 0} (does : Act → W → W → Type 0) (safe : F → Option (List ℕ))
-    (settings : RunSettings) (start : Start) (wire : W) (recorder : Option (Recording F)) (end : RunEnd)
-    → settings.hearing ≡ hears.AtSilences
-    → HasAwaited does safe settings start wire recorder end
-    → TriesOver does safe settings start wire recorder end
-tries_at_silences does safe settings start wire recorder end is tries =
-    subst (λ (h : Hearing). HasAwaited (does_by h does) safe settings start wire recorder end)
-    (sym is) tries
-
-pub tries_at_once : {W F : Type 0} (does : Act → W → W → Type 0) (safe : F → Option (List ℕ))
-    (settings : RunSettings) (start : Start) (wire : W) (recorder : Option (Recording F)) (end : RunEnd) (poll : ℕ)
-    → settings.hearing ≡ hears.AtOnce poll
-    → HasAwaited (MayLapse does) safe settings start wire recorder end
-    → TriesOver does safe settings start wire recorder end
-tries_at_once does safe settings start wire recorder end poll is tries =
-    subst (λ (h : Hearing). HasAwaited (does_by h does) safe settings start wire recorder end)
-    (sym is) tries
 
 -- ---- a connection, which is a wire or none
 

@@ -1,5 +1,7 @@
 -- A silence that comes by the clock, if bytes keep coming.
 use Rattle.std.specs.Prelude.{ℕ, suc, zero, ◌≡◌, ◌⊎◌, ◌-◌, Bool, true, false, nat_le}
+use Rattle.vdcp_log.specs.declared.hearing.Hearing.{Hearing}
+use Rattle.vdcp_log.specs.declared.hearing.Hearing.TheVariants as hears
 use Rattle.vdcp_wire.specs.Acts.{Act, sends, brings, drops, fails}
 use Rattle.vdcp_wire.specs.Wires.{Arrival, silence}
 use Rattle.vdcp_wire.specs.declared.wire.Came.{Came}
@@ -7,8 +9,13 @@ use Rattle.vdcp_wire.specs.declared.wire.Came.TheVariants as brings
 use Rattle.vdcp_run.specs.declared.lapsing.Since.{Since}
 use Rattle.vdcp_run.specs.declared.lapsing.Since.TheVariants as since
 
--- whether a silence's time has passed since the last command was sent, and bytes came since. (If none came, the wire
--- tells silences itself)
+-- how many silences after the last command one comes by the clock: generous where silences end answers
+abbrev pub silences_of : Hearing → ℕ
+silences_of hears.AtSilences = 16
+silences_of (hears.AtOnce poll) = 1
+
+-- whether this time has passed since the last command was sent, and bytes came since. (If none came, the wire tells
+-- silences itself)
 abbrev pub has_lapsed : Since → (time sent now : ℕ) → Bool
 has_lapsed since.Nothing time sent now = false
 has_lapsed since.Bytes time sent now = nat_le time (now - sent)
@@ -19,6 +26,11 @@ since_with brings.Silence before = since.Nothing
 since_with brings.Closed before = before
 since_with (brings.Bytes zero) before = before
 since_with (brings.Bytes (suc n)) before = since.Bytes
+
+-- a silence by the clock leaves that, so each further listen brings one, until the next command
+abbrev pub since_after : (lapsed : Bool) → Came → Since → Since
+since_after true came before = before
+since_after false came before = since_with came before
 
 -- a command went out now
 abbrev pub IsNoted : Since → (sent now : ℕ) → Type 0

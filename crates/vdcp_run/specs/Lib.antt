@@ -2,6 +2,7 @@
 pub mod Ends
 pub mod Lapse
 pub mod Polls
+pub mod Stalls
 pub mod Waiting
 pub mod Session
 pub mod Run

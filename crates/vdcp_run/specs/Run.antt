@@ -25,7 +25,7 @@ use Rattle.vdcp_list.specs.Asrun.{events_text, has_part}
 use Rattle.vdcp_list.specs.Playlists.{IsListOf}
 use Rattle.vdcp_list.specs.Rests.{FromEvent, items_left}
 use Rattle.vdcp_list.specs.Rows.{FileBytes}
-use Rattle.vdcp_journal_file.specs.Recording.{IsTimedOut, IsUnbegun, NotesFrom, Recording}
+use Rattle.vdcp_journal_file.specs.Recording.{BeganWith, IsTimedOut, IsUnbegun, Recording}
 use Rattle.vdcp_journal_file.specs.Resuming.{IsOpenedAgain, IsReplayed, IsUnopenedAgain, IsUnresumed, open_after, plan_of_run}
 use Rattle.vdcp_journal_file.specs.Showing.{IsAsrunOf, digest_of}
 use Rattle.vdcp_text.specs.Outcome.{outcome_text}
@@ -220,9 +220,15 @@ abbrev pub fault_text : Option Failure → List ℕ
 fault_text None = []
 fault_text (Some failure) = failure_line failure
 
--- the fault lines of the as-run file, the journal and the line, of which there are any
+-- what it may come to that the journal isn't whole, if it isn't
+abbrev pub lack_text : Option Failure → List ℕ
+lack_text None = []
+lack_text (Some failure) = line (codes "  the number reported holds: asrun may list one event less, and say that it may have aired")
+
+-- the fault lines of the as-run file, the journal and the line, of which there are any, and what a journal's may come to
 abbrev pub faults_text : RunEnd → List ℕ
-faults_text end = fault_text (asrun_failure end.asrun) ++ fault_text end.unkept ++ fault_text (line_failure end.line)
+faults_text end = fault_text (asrun_failure end.asrun) ++ fault_text end.unkept ++ lack_text end.unkept
+    ++ fault_text (line_failure end.line)
 
 -- ---- the exit status
 
@@ -295,11 +301,11 @@ pub record GoesOn {F : Type 0} (settings : RunSettings) (items : List Item) (sta
   pub left : IfSome recorder
       (λ r. IsTimedOut (open_after (plan_of_run (heading_for settings items) items run) run.rows) r.pending)
 
--- if that is opened again, the event with which it begins
+-- if that is opened again, it begins with this event, and the journal says so
 pub record BeginsAgain {F : Type 0} (settings : RunSettings) (items : List Item) (start : Start)
     (recorder : Option (Recording F)) : Type 0 where
   pub opened : IsOpenedAgain items (heading_for settings items) settings.from start.from start.plan start.state
-  pub left : IfSome recorder (λ r. NotesFrom (Some start.from) r.pending)
+  pub began : IfSome recorder (BeganWith (Some start.from))
 
 -- a new controller of these items, with the event that is named, or else the first one
 abbrev pub BeginsNew : RunSettings → List Item → Start → Type 0
@@ -310,7 +316,7 @@ BeginsNew settings items begun = (begun.from ≡ first_event settings.from)
 abbrev pub BeginsBy : {F : Type 0} → RunSettings → List Item → Option RunJournal → Start → Option (Recording F) → Type 0
 BeginsBy settings items None begun recorder = BeginsNew settings items begun
 BeginsBy settings items (Some (journals.New name)) begun recorder =
-    BeginsNew settings items begun × IfSome recorder (λ r. NotesFrom settings.from r.pending)
+    BeginsNew settings items begun × IfSome recorder (BeganWith settings.from)
 BeginsBy settings items (Some (journals.Older name)) begun recorder = GoesOn settings items begun recorder
 BeginsBy settings items (Some (journals.Again name)) begun recorder = BeginsAgain settings items begun recorder
 

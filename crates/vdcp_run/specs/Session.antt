@@ -223,27 +223,23 @@ pub data HasTried {W V F : Type 0} (does : Act → W → W → Type 0) (safe : F
 
 -- ---- over a connection
 
--- if answers are heard at once a silence may come by the clock, which the wire below doesn't tell
-abbrev pub does_by : {W : Type 0} → Hearing → (Act → W → W → Type 0) → Act → W → W → Type 0
-does_by hears.AtSilences does = does
-does_by (hears.AtOnce poll) does = MayLapse does
-
 -- over this wire the clip before was waited for, if that is needed, and then the list was played, if the answer let it be
--- begun; or the wire failed while it was waited for
-pub data HasAwaited {W F : Type 0} (does : Act → W → W → Type 0) (safe : F → Option (List ℕ))
-    (settings : RunSettings) (start : Start) (wire : W) (recorder : Option (Recording F)) (end : RunEnd) : Type 0 where
-  went_on : (wire' : W) → AwaitsClip does settings start.plan start.state wire wire'
-      → HasTried does safe unseen settings start (over wire' recorder) tt end
-      → HasAwaited does safe settings start wire recorder end
-  broke : (wire' : W) → AwaitsClip does settings start.plan start.state wire wire'
+-- begun; or the wire failed while it was waited for. (Who watches may look on meanwhile)
+pub data HasAwaited {W V F : Type 0} (does : Act → W → W → Type 0) (safe : F → Option (List ℕ))
+    (sees : State → V → V → Type 0) (settings : RunSettings) (start : Start) (world : World W (Option (Recording F)) V)
+    (watch : V) (end : RunEnd) : Type 0 where
+  went_on : (wire' : W) (watch' : V) → AwaitsClip does settings start.plan start.state world.wire wire'
+      → HasTried does safe sees settings start (record world { wire = wire'; watch = watch' }) watch end
+      → HasAwaited does safe sees settings start world watch end
+  broke : (wire' : W) → AwaitsClip does settings start.plan start.state world.wire wire'
       → IsSome (waiting_in start.state.stage) → end.line ≡ line_end.Failed
-      → HasAwaited does safe settings start wire recorder end
+      → HasAwaited does safe sees settings start world watch end
 
--- so over this wire
+-- so over this wire, where a silence may come by the clock, which it doesn't tell
 abbrev pub TriesOver : {W F : Type 0} → (Act → W → W → Type 0) → (F → Option (List ℕ)) → RunSettings → Start → W
     → Option (Recording F) → RunEnd → Type 0
 TriesOver does safe settings start wire recorder end =
-    HasAwaited (does_by settings.hearing does) safe settings start wire recorder end
+    HasAwaited (MayLapse does) safe unseen settings start (over wire recorder) tt end
 
 -- a session of a connection: nothing went out if its controller had ended before, or the connection was no wire
 pub data HasSession {F : Type 0} (safe : F → Option (List ℕ)) (settings : RunSettings) (start : Start)

@@ -1,59 +1,196 @@
-//! What an operator types next, if a run didn't end as it was to.
-ghost use Rattle.std.specs.Prelude.{◌≡◌};
-ghost use Rattle.vdcp_run.specs.Advice.{advice_after};
+//! What an operator is told of a run that didn't end as it was to: how it came to that, and what to type next.
+ghost use Rattle.std.specs.Prelude.{◌≡◌, None, Some, ℕ};
+ghost use Rattle.vdcp_run.specs.Advice.{advice_after, next_after, reason_of};
 ghost use Rattle.vdcp_run.specs.Run.{told_outcome};
+ghost use Rattle.vdcp_run.specs.declared.advice.Next.TheVariants as next;
 
 use crate::run_end::RunEnd;
 use crate::settings::RunJournal;
 use std::fmt;
 use vdcp_auto::Outcome;
-use vdcp_text::{Failure, NameText};
+use vdcp_text::{Failure, ItemText, NameText};
+use vdcp_value::{ClipId, Item, Rate};
+
+/// What an outcome means, and what to type next.
+#[derive(Clone, Copy)]
+pub struct Advice<'a> {
+    pub reason: Option<Reason>,
+    pub next: Next<'a>,
+}
+
+/// What an outcome means. Events have their numbers in the whole list.
+#[derive(Clone, Copy)]
+pub enum Reason {
+    /// The server doesn't have this clip of this event.
+    Missing(usize, ClipId),
+    /// NAK 01h came for a command of this event.
+    Refused(usize),
+    /// Another clip plays than that of this event.
+    Foreign(usize),
+    /// The port's state doesn't fit this event.
+    Strange(usize),
+    Denied,
+    Lost,
+}
 
 /// What to type next.
 #[derive(Clone, Copy)]
-pub enum Advice<'a> {
+pub enum Next<'a> {
     /// To go on with the journal of this name.
     Resume(&'a str),
     /// To go on after its last run, with the port opened again.
     OpenAgain(&'a str),
+    /// Likewise once the server has the clip of this event, or without the event.
+    LoadedAgain(&'a str, usize),
     /// To look whether this event aired, and to begin with it, or with the next one.
     From(usize),
+    /// To begin with this event once the server has its clip, or with the next one.
+    Loaded(usize),
 }
 
 impl<'a> Advice<'a> {
-    /// After a run that ended so, and had this journal, if it had one.
-    pub fn of_end(end: &RunEnd<'_>, journal: Option<RunJournal<'a>>) -> Option<Advice<'a>>
-        ensures { result ≡ advice_after (told_outcome end.now.line end.now.outcome) journal.entry end.now.reported }
+    /// After a run that ended so, and had this journal, if it had one; and the clip that the server doesn't have, if it
+    /// ended by that.
+    pub fn of_end(
+        end: &RunEnd<'_>,
+        journal: Option<RunJournal<'a>>,
+        missing: Option<ClipId>,
+    ) -> Option<Advice<'a>>
+        ensures { result ≡ advice_after (told_outcome end.now.line end.now.outcome) journal.entry end.now.reported missing }
     {
-        match (end.told_outcome(), journal) {
-            (Some(Outcome::Done | Outcome::Stopped), _) => None,
-            (_, None) => Some(Advice::From(end.reported)),
-            (Some(Outcome::Lost) | None, Some(journal)) => Some(Advice::Resume(journal.name())),
-            (Some(_), Some(journal)) => Some(Advice::OpenAgain(journal.name())),
+        let outcome = end.told_outcome();
+        match Next::after(outcome, journal, end.reported) {
+            Some(next) => Some(Advice {
+                reason: Reason::of(outcome, missing),
+                next,
+            }),
+            None => None,
         }
     }
 
     /// After a run that came to nothing, for this reason.
-    pub fn of_failure(failure: Failure<'_>) -> Option<Advice<'a>> {
+    pub fn of_failure(failure: Failure<'_>) -> Option<Advice<'a>>
+        ensures may_have_aired { (event : ℕ) → failure.entry ≡ Failure.MayHaveAired event
+            → result ≡ Some (record { reason = None; next = next.From event }) }
+    {
         match failure {
-            Failure::MayHaveAired(event) => Some(Advice::From(event)),
+            Failure::MayHaveAired(event) => Some(Advice {
+                reason: None,
+                next: Next::From(event),
+            }),
             _ => None,
+        }
+    }
+}
+
+impl<'a> Next<'a> {
+    // After this outcome, if it wasn't wanted, of a run with this journal, whose first event that isn't reported is this.
+    fn after(
+        outcome: Option<Outcome>,
+        journal: Option<RunJournal<'a>>,
+        reported: usize,
+    ) -> Option<Next<'a>>
+        ensures { result ≡ next_after outcome journal.entry reported }
+    {
+        match (outcome, journal) {
+            (Some(Outcome::Done | Outcome::Stopped), _) => None,
+            (Some(Outcome::Missing(_)), None) => Some(Next::Loaded(reported)),
+            (Some(Outcome::Missing(_)), Some(journal)) => {
+                Some(Next::LoadedAgain(journal.name(), reported))
+            }
+            (_, None) => Some(Next::From(reported)),
+            (Some(Outcome::Lost) | None, Some(journal)) => Some(Next::Resume(journal.name())),
+            (Some(_), Some(journal)) => Some(Next::OpenAgain(journal.name())),
+        }
+    }
+}
+
+impl Reason {
+    // What this outcome means, and if it is a clip that the server doesn't have, by that clip.
+    fn of(outcome: Option<Outcome>, missing: Option<ClipId>) -> Option<Reason>
+        ensures { result ≡ reason_of outcome missing }
+    {
+        match (outcome?, missing) {
+            (Outcome::Missing(k), Some(clip)) => Some(Reason::Missing(k, clip)),
+            (Outcome::Missing(_), None) => None,
+            (Outcome::Refused(k), _) => Some(Reason::Refused(k)),
+            (Outcome::Foreign(k), _) => Some(Reason::Foreign(k)),
+            (Outcome::Strange(k), _) => Some(Reason::Strange(k)),
+            (Outcome::Denied, _) => Some(Reason::Denied),
+            (Outcome::Lost, _) => Some(Reason::Lost),
+            (Outcome::Done | Outcome::Stopped, _) => None,
         }
     }
 }
 
 impl fmt::Display for Advice<'_> {
     fn fmt<W: fmt::Write>(&self, f: &mut fmt::Formatter<W>) -> fmt::Result {
+        if let Some(reason) = self.reason {
+            write!(f, "{reason}\n  ")?;
+        }
+        self.next.fmt(f)
+    }
+}
+
+impl fmt::Display for Reason {
+    fn fmt<W: fmt::Write>(&self, f: &mut fmt::Formatter<W>) -> fmt::Result {
         match *self {
-            Advice::Resume(name) => write!(f, "go on with --resume {}", NameText(name)),
-            Advice::OpenAgain(name) => write!(
+            Reason::Missing(event, id) => {
+                let item = Item { id, part: None };
+                let rate = Rate::F25;
+                write!(
+                    f,
+                    "the server doesn't have {}, the clip of event {event}",
+                    ItemText { rate, item }
+                )
+            }
+            Reason::Refused(event) => write!(
                 f,
-                "go on with --resume {} --open-again",
-                NameText(name)
+                "the server refused a command of event {event}; if that was its cue, as of a part that is too long, no PLAY was sent for it"
             ),
-            Advice::From(event) => write!(
+            Reason::Foreign(event) => write!(
+                f,
+                "another clip was on air than that of event {event}: does another automation drive the port?"
+            ),
+            Reason::Strange(event) => write!(
+                f,
+                "at event {event} the port's cue was lost, or is none of this list: was the server restarted, or does another automation drive the port?"
+            ),
+            Reason::Denied => write!(
+                f,
+                "the server doesn't open or select the port: is --port another, or does another automation have it?"
+            ),
+            Reason::Lost => write!(
+                f,
+                "connected, but nothing answers: has the server stopped, or does another automation drive the port?"
+            ),
+        }
+    }
+}
+
+impl fmt::Display for Next<'_> {
+    fn fmt<W: fmt::Write>(&self, f: &mut fmt::Formatter<W>) -> fmt::Result {
+        match *self {
+            Next::Resume(name) => write!(f, "go on with --resume {}", NameText(name)),
+            Next::OpenAgain(name) => {
+                write!(f, "go on with --resume {} --open-again", NameText(name))
+            }
+            Next::LoadedAgain(name, event) => {
+                let name = NameText(name);
+                write!(
+                    f,
+                    "load it, and go on with --resume {name} --open-again; or without it with --resume {name} --from {}",
+                    event.saturating_add(1)
+                )
+            }
+            Next::From(event) => write!(
                 f,
                 "look at the server; --from {event} if event {event} did not air, else --from {}",
+                event.saturating_add(1)
+            ),
+            Next::Loaded(event) => write!(
+                f,
+                "load it, and go on with --from {event}; or without it with --from {}",
                 event.saturating_add(1)
             ),
         }

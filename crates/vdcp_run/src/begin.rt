@@ -1,6 +1,6 @@
 //! What a run begins with: its controller, and the recorder of its journal.
 ghost use Rattle.std.specs.Prelude.{◌≡◌, ◌⊎◌, ◌≤◌, IfErr, IfOk, IfSome, IsSome, IsSomeAnd, Some, length};
-ghost use Rattle.vdcp_journal_file.specs.Recording.{IsUnbegun, NotesFrom};
+ghost use Rattle.vdcp_journal_file.specs.Recording.{BeganWith, IsUnbegun};
 ghost use Rattle.vdcp_run.specs.Run.{HasRecorder, IsApart, IsBegun, IsPlaceRefused, IsUnkept, first_event, heading_for, name_of, new_controller};
 ghost use Rattle.vdcp_run.specs.Session.{start_of};
 
@@ -14,8 +14,8 @@ use vdcp_journal_file::{Resumption, begin_again, begin_journal, resume_journal};
 use vdcp_list::Rest;
 use vdcp_text::Failure;
 
-/// The controller of a run, and the recorder of its journal, if it has one and its controller hasn't ended there. The
-/// as-run list of a run with a journal has to have a place, and not the journal's file. If it is refused no new journal is left.
+/// The controller of a run, and the recorder of its journal, if it has one and its controller hasn't ended there. If the
+/// run begins with an event that is named, or after another one, the journal says so, and that is safe. The as-run list of a run with a journal has to have a place, and not the journal's file. If it is refused no new journal is left.
 pub fn begin<'a, 'r, 's, R: Files<File = File> + Clock + AllocGlobal, S: Source>(
     rt: &'r R,
     source: &'s S,
@@ -94,7 +94,7 @@ fn begin_new<'a, 'r, 's, R: Files<File = File> + Clock + AllocGlobal, S: Source>
     ensures controller { IfOk result (λ r. r.0.controller ≡ new_controller settings.entry source.entry) }
     ensures recorder { IfOk result (λ r. IfSome r.0.recorder
         (λ recorder. (recorder.name ≡ name.entry) × (recorder.unit ≡ heading.now.unit))) }
-    ensures from { IfOk result (λ r. IfSome r.0.recorder (λ recorder. NotesFrom settings.entry.from recorder.pending)) }
+    ensures from { IfOk result (λ r. IfSome r.0.recorder (BeganWith settings.entry.from)) }
     ensures kept { IfOk result (λ r. IsSome r.0.recorder) }
     ensures apart { IfOk result (λ r. IsSomeAnd r.1 (IsApart settings.entry.asrun name.entry)) }
     ensures refused { IfErr result (λ failure. IsUnbegun name.entry failure

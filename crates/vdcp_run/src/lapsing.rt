@@ -2,32 +2,33 @@
 ghost use Rattle.std.specs.Prelude.{◌≡◌, ◌≤◌, ◌*◌, IfOk, OnErr, OnOk};
 ghost use Rattle.vdcp_wire.specs.Acts.{brings, fails};
 ghost use Rattle.vdcp_wire.specs.Wires.{arrival_of, FitsBuffer};
-ghost use Rattle.vdcp_run.specs.Lapse.{has_lapsed, since_with, IsNoted, Lapses, LapsesAt};
+ghost use Rattle.vdcp_run.specs.Lapse.{has_lapsed, since_after, since_with, silences_of, IsNoted, Lapses, LapsesAt};
 
 use crate::settings::RunSettings;
 use crate::stopwatch::{Stopwatch, nanoseconds};
 use std::rt::Clock;
+use vdcp_log::Hearing;
 use vdcp_wire::{Came, PIECE, Wire, WireFault};
 
-/// What has come since a command went out, and since the last silence.
+/// What has come since a command went out, and since the last silence of the wire below.
 #[derive(Clone, Copy)]
 enum Since {
     Nothing,
     Bytes,
 }
 
-/// A wire whose silences can't be held up. It answers those of the wire below; and if bytes keep coming, but as much
-/// time as a silence takes has passed since the last command went out, it answers a silence too, before it listens
-/// again. Nothing that comes is lost by that.
+/// A wire whose silences can't be held up. It answers those of the wire below; and if bytes keep coming, but the time
+/// of some silences has passed since the last command went out (one where answers are heard at once, else 16), it
+/// answers silences too, and listens no more until the next command goes out. Nothing that comes is lost by that.
 ///
-/// As the wire below is silent after that time itself if nothing comes, a silence is answered before twice that time
-/// has passed, whatever comes, while the caller listens.
+/// As the wire below is silent after one silence itself if nothing comes, a silence is answered before one more than
+/// that has passed, whatever comes, while the caller listens.
 #[derive(Drop)]
 pub struct Lapsing<'a, R: Clock, W: Wire> {
     wire: W,
     stopwatch: Stopwatch<'a, R>,
-    // (in nanoseconds)
-    silence: u64,
+    // How long after a command it listens at most while bytes come, in nanoseconds.
+    patience: u64,
     sent: u64,
     since: Since,
 }
@@ -36,13 +37,13 @@ impl<'a, R: Clock, W: Wire> Lapsing<'a, R, W> {
     /// A wire over this one, with the silences of a run.
     pub fn new(wire: W, clock: &'a R, settings: RunSettings<'_>) -> Self
         ensures wire { result.wire ≡ wire }
-        ensures silence { result.silence ≡ settings.entry.silence * 1000000 }
+        ensures patience { result.patience ≡ settings.entry.silence * 1000000 * silences_of settings.entry.hearing }
         ensures since { result.since ≡ Since.Nothing }
     {
         Lapsing {
             wire,
             stopwatch: Stopwatch::new(clock),
-            silence: nanoseconds(settings.silence),
+            patience: nanoseconds(settings.silence) * silences_of(settings.hearing),
             sent: 0,
             since: Since::Nothing,
         }
@@ -55,22 +56,32 @@ impl<'a, R: Clock, W: Wire> Lapsing<'a, R, W> {
         ensures works { OnOk result (W.failures self.new.wire ≡ 0) }
         ensures failed { OnErr result (W.failures self.new.wire ≡ 1) }
         ensures brings { IfOk result (λ came. LapsesAt W.does
-            (has_lapsed self.old.since self.old.silence self.old.sent self.new.stopwatch.now)
+            (has_lapsed self.old.since self.old.patience self.old.sent self.new.stopwatch.now)
             (arrival_of came buffer.new) self.old.wire self.new.wire) }
         ensures fails { OnErr result (W.does fails self.old.wire self.new.wire) }
-        ensures since { IfOk result (λ came. self.new.since ≡ since_with came self.old.since) }
+        ensures since { IfOk result (λ came. self.new.since ≡ since_after
+            (has_lapsed self.old.since self.old.patience self.old.sent self.new.stopwatch.now) came self.old.since) }
         ensures sent { self.new.sent ≡ self.old.sent }
     {
         let now = self.stopwatch.read();
         if let Since::Bytes = self.since
-            && self.silence <= now.saturating_sub(self.sent)
+            && self.patience <= now.saturating_sub(self.sent)
         {
-            self.since = Since::Nothing;
             return Ok(Came::Silence);
         }
         let came = self.wire.listen(buffer)?;
         self.since = since_with(came, self.since);
         Ok(came)
+    }
+}
+
+// After how many silences it comes by the clock. Where silences end answers, those that the server makes count, too.
+fn silences_of(hearing: Hearing) -> u64
+    ensures { result ≡ silences_of hearing }
+{
+    match hearing {
+        Hearing::AtSilences => 16,
+        Hearing::AtOnce(_) => 1,
     }
 }
 
@@ -88,7 +99,7 @@ fn since_with(came: Came, since: Since) -> Since
 impl<R: Clock, W: Wire> Wire for Lapsing<'_, R, W> {
     ghost use Rattle.std.specs.Prelude.{None, refl};
 
-    ghost does = { λ act old new. Lapses W.does (has_lapsed old.since old.silence old.sent new.stopwatch.now)
+    ghost does = { λ act old new. Lapses W.does (has_lapsed old.since old.patience old.sent new.stopwatch.now)
         (IsNoted new.since new.sent new.stopwatch.now) act old.wire new.wire };
 
     ghost told = { λ _. None };

@@ -4,7 +4,7 @@
 //! standard error, and the exit status is given.
 //!
 //! Files, in reading order: `settings`, `run`, `begin`, `session`, `asking`, `run_end`, `advice`, `asrun`, `saved`, `place`,
-//! `in_list`, `polling`, `lapsing`, `waiting`, `stopwatch`.
+//! `in_list`, `polling`, `lapsing`, `waiting`, `stalling`, `stopwatch`.
 #![tactic(auto)]
 
 mod advice;
@@ -20,9 +20,10 @@ mod run_end;
 mod saved;
 mod session;
 mod settings;
+mod stalling;
 mod stopwatch;
 mod waiting;
 
-pub use advice::Advice;
+pub use advice::{Advice, Next, Reason};
 pub use run::do_run;
-pub use settings::{RunJournal, RunSettings, Showing, Shown};
+pub use settings::{RunJournal, RunSettings, Showing};

@@ -2,11 +2,13 @@
 ghost use Rattle.std.specs.Prelude.{◌≡◌, IfErr, IfOk, Some};
 ghost use Rattle.vdcp_run.specs.Run.{IsApart, IsPlaceRefused, IsUnwritten};
 
+use crate::settings::RunSettings;
 use std::fs::{self, File, OpenFile, OpenOptions};
 use std::io::{self, ErrorKind};
 use std::rt::Files;
 use vdcp_files::is_same_file;
-use vdcp_text::Failure;
+use vdcp_log::Telling;
+use vdcp_text::{Failure, NameText};
 
 /// How many names are tried for a file beside another one.
 const MOST_NAMES: u32 = 100;
@@ -94,6 +96,36 @@ pub fn test_place<'a, R: Files + AllocGlobal>(
         Ok(()) => Ok(apart),
         Err(error) => Err(not_made(&error, name)),
     }
+}
+
+/// Tells, before anything is sent, why the as-run list can't come into the file that is named for it, if it can't, in a run
+/// without a journal, which goes on: the file may have a place once it ends.
+pub fn tell_place<R: Files + AllocGlobal, V: io::Write>(
+    rt: &R,
+    settings: RunSettings<'_>,
+    telling: &mut Telling<V>,
+) {
+    let (Some(name), None) = (settings.asrun, settings.journal) else {
+        return;
+    };
+    let Err(error) = try_place(rt, name) else {
+        return;
+    };
+    match telling {
+        Telling::Nothing => {}
+        Telling::Faults(told) => tell_unmade(name, error, told),
+        Telling::All(told) => tell_unmade(name, error, told),
+    }
+}
+
+fn tell_unmade<V: io::Write>(name: &str, error: io::Error, told: &mut V) {
+    // (that it can't be told keeps no run from its list)
+    let _ = writeln!(
+        told,
+        "  no as-run file can be made of this run: {}: {error}",
+        NameText(name)
+    );
+    let _ = told.flush();
 }
 
 /// Why the file of this name isn't made.

@@ -1,16 +1,17 @@
 //! The subcommand `run`: its files, one session, and the report.
 ghost use Rattle.std.specs.Io.KnownBytes.{Appends, Keeps};
-ghost use Rattle.std.specs.Prelude.{◌≡◌, ◌⊎◌, ◌≤◌, IfErr, IfOk, List, OnOk, length, ℕ};
+ghost use Rattle.std.specs.Prelude.{◌≡◌, ◌⊎◌, ◌≤◌, IfErr, IfOk, IfSome, List, OnOk, length, ℕ};
 ghost use Rattle.vdcp_files.specs.Files.{IsWholeList, file};
 ghost use Rattle.vdcp_list.specs.List.{items_of};
 ghost use Rattle.vdcp_list.specs.Playlists.{IsListOf};
+ghost use Rattle.vdcp_run.specs.Advice.{IsMissing};
 ghost use Rattle.vdcp_run.specs.Run.{IsApart, IsEventRefused, IsListRefused, IsNoEvent, IsNotBegun, IsOverList, IsPlayed, IsRun, IsRunRefused, IsUnplayed, first_event, told_of_list, unbegun_journal};
 ghost use Rattle.vdcp_text.specs.Failure.{failure_line};
 ghost use Rattle.vdcp_wire.specs.Address.{IsAddress};
 
 use crate::advice::Advice;
 use crate::begin::begin;
-use crate::place::Apart;
+use crate::place::{Apart, tell_place};
 use crate::run_end::RunEnd;
 use crate::session::play_at;
 use crate::settings::{RunJournal, RunSettings, Showing};
@@ -18,10 +19,11 @@ use std::fs::{self, File};
 use std::io;
 use std::net::Net;
 use std::rt::{Clock, Files};
-use vdcp_auto::Source;
+use vdcp_auto::{Outcome, Source};
 use vdcp_files::NamedFile;
 use vdcp_operator::Hand;
 use vdcp_text::{Failure, JournalFault};
+use vdcp_value::ClipId;
 use vdcp_wire::address_of;
 
 /// Plays a list through the port of a server at `address`: an IPv4 address, a colon and a TCP port. It
@@ -48,7 +50,7 @@ use vdcp_wire::address_of;
 /// something is cued at it or plays, the run ends. Questions that aren't answered, as many as the limit in a row, end it
 /// as Lost, and an OPEN that is denied as Denied.
 ///
-/// `advice` gets what an operator types next, if this wasn't wanted.
+/// `advice` gets what this means and what an operator types next, if it wasn't wanted.
 ///
 /// If it doesn't come to this, no file is made, `out` gets nothing, and `err` gets one fault line. The
 /// status is 2 if the address is none, which is tested before the list is read; 1 if a row of the list
@@ -106,9 +108,10 @@ pub fn do_run<
         ⊎ IsWholeList settings.entry.rate (file list.entry.name (L.remaining list.entry.reader)) }
     ensures statuses { result ≤ 3 }
 {
-    match run_list(rt, address, list, settings, showing, hand) {
+    let mut missing = None;
+    match run_list(rt, address, list, settings, showing, hand, &mut missing) {
         Ok(end) => {
-            *advice = Advice::of_end(&end, settings.journal);
+            *advice = Advice::of_end(&end, settings.journal, missing);
             end.tell(out, err).unwrap_or(3)
         }
         Err(failure) => {
@@ -118,7 +121,8 @@ pub fn do_run<
     }
 }
 
-// Reads the list, connects, plays the list, and writes what is reported of it.
+// Reads the list, connects, plays the list, and writes what is reported of it. `missing` gets the clip that the server
+// doesn't have, if the run ends by that.
 fn run_list<
     'a,
     R: Net + Files<File = File> + Clock + AllocGlobal,
@@ -131,8 +135,9 @@ fn run_list<
     address: &str,
     list: NamedFile<'a, L>,
     settings: RunSettings<'a>,
-    showing: Showing<V>,
+    mut showing: Showing<V>,
     hand: &mut Hand<'_, R, I, O>,
+    missing: &mut Option<ClipId>,
 ) -> Result<RunEnd<'a>, Failure<'a>>
     requires unit { settings.unit ≤ 15 }
     requires some { 1 ≤ settings.limit }
@@ -153,11 +158,25 @@ fn run_list<
         Ok((begun, _)) => begun,
         Err(failure) => return Err(told_of_list(name, failure)),
     };
+    tell_place(rt, settings, &mut showing.telling);
     let end = play_at(rt, address, begun, settings, showing, hand);
+    if let Ok(end) = &end {
+        *missing = missing_clip(&events, end.told_outcome());
+    }
     if let Some(name) = unbegun_journal(&end, settings.journal) {
         let _ = fs::remove_file(rt, name);
     }
     end
+}
+
+// The clip that the server doesn't have, if a run of the list ended by that.
+fn missing_clip<S: Source>(source: &S, outcome: Option<Outcome>) -> Option<ClipId>
+    ensures { IfSome result (IsMissing (S.items source.now) outcome) }
+{
+    match outcome {
+        Some(Outcome::Missing(k)) if k < source.len() => Some(source.at(k).id),
+        _ => None,
+    }
 }
 
 // The journal that isn't kept of a session that came to this: a new one, if the list wasn't begun.

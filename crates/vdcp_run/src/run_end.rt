@@ -2,7 +2,7 @@
 ghost use Rattle.std.specs.Io.KnownBytes.{Appends};
 ghost use Rattle.std.specs.Prelude.{◌≡◌, IfOk, None, OnOk};
 ghost use Rattle.vdcp_run.specs.Ends.{line_end_of};
-ghost use Rattle.vdcp_run.specs.Run.{HasAsrun, IsEndBy, asrun_failure, end_text, fault_text, faults_text, line_failure, run_status, told_outcome};
+ghost use Rattle.vdcp_run.specs.Run.{HasAsrun, IsEndBy, asrun_failure, end_text, fault_text, faults_text, lack_text, line_failure, run_status, told_outcome};
 
 use crate::asrun::save_asrun;
 use crate::in_list::{outcome_in_list, reported_in_list};
@@ -129,12 +129,14 @@ impl<'a> RunEnd<'a> {
         }
     }
 
-    // Writes the fault lines of the as-run file, the journal and the line, of which there are any.
+    // Writes the fault lines of the as-run file, the journal and the line, of which there are any, and what a journal's may
+    // come to.
     fn write_faults<E: io::Write>(&self, err: &mut E) -> io::Result<()>
         ensures { OnOk result (Appends (E.contents err.old) (E.contents err.new) (faults_text self.now)) }
     {
         write_fault(self.unwritten(), err)?;
         write_fault(self.unkept, err)?;
+        write_lack(self.unkept, err)?;
         write_fault(self.line.failure(), err)
     }
 
@@ -160,6 +162,19 @@ fn write_fault<E: io::Write>(failure: Option<Failure<'_>>, err: &mut E) -> io::R
 {
     match failure {
         Some(failure) => writeln!(err, "vdcp: {failure}"),
+        None => Ok(()),
+    }
+}
+
+// Writes what it may come to that the journal isn't whole, if it isn't.
+fn write_lack<E: io::Write>(unkept: Option<Failure<'_>>, err: &mut E) -> io::Result<()>
+    ensures { OnOk result (Appends (E.contents err.old) (E.contents err.new) (lack_text unkept.entry)) }
+{
+    match unkept {
+        Some(_) => writeln!(
+            err,
+            "  the number reported holds: asrun may list one event less, and say that it may have aired"
+        ),
         None => Ok(()),
     }
 }

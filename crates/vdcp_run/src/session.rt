@@ -8,7 +8,8 @@ use crate::asking::{may_begin, unbegun_line, vacancy_for};
 use crate::lapsing::Lapsing;
 use crate::polling::Polling;
 use crate::run_end::{LineEnd, RunEnd, ended};
-use crate::settings::{RunSettings, Showing, Shown};
+use crate::settings::{RunSettings, Showing};
+use crate::stalling::Stalling;
 use crate::waiting::await_clip;
 use std::fs::File;
 use std::io;
@@ -19,13 +20,16 @@ use vdcp_auto::{Controller, Outcome, Source};
 use vdcp_drive::{AutoDriver, Driver, Ear, KeptFault, PromptDriver, Ran, Unkept, Unwatched, Watch};
 use vdcp_journal_file::{Disk, Recorder, Resumption};
 use vdcp_list::Rest;
-use vdcp_log::{Hearing, Log, Logged, Side, Telling};
+use vdcp_log::{Hearing, Log, Logged, Side};
 use vdcp_operator::{Glances, Hand, Progress, ShownWire};
 use vdcp_text::Failure;
 use vdcp_wire::{StreamWire, Wire, WireFault};
 
 /// How long a connection may take to come about, in seconds.
 const CONNECTING: u64 = 5;
+
+/// Erases a line of a terminal.
+const ERASE: &'static str = "\r\x1b[K";
 
 /// Connects, and plays a list with what its run begins with. If the controller has ended already nothing is sent.
 /// The failure is `Connect` if nobody takes the connection in time, and `NotEmpty` if the port is asked and isn't
@@ -79,8 +83,8 @@ fn silence_of(settings: RunSettings<'_>) -> Duration
     Duration::from_millis(u64::from(settings.silence))
 }
 
-// Plays a list over the wire of a connection, on which time-outs come by the clock if answers are heard at once. One
-// that refuses to be a wire is a line that failed.
+// Plays a list over the wire of a connection, on which a time-out comes by the clock if bytes never pause. One that
+// refuses to be a wire is a line that failed.
 fn play_over<
     'a,
     R: Files + Clock + AllocGlobal,
@@ -108,57 +112,15 @@ fn play_over<
     ensures end { EndsRun settings.entry (journal_of recorder.entry) S.items controller result }
 {
     match wire {
-        Ok(wire) => match settings.hearing {
-            Hearing::AtSilences => play_awaited(
-                rt,
-                controller,
-                &mut recorder,
-                wire,
-                settings,
-                showing,
-                hand,
-            ),
-            Hearing::AtOnce(_) => {
-                let wire = Lapsing::new(wire, rt, settings);
-                play_awaited(rt, controller, &mut recorder, wire, settings, showing, hand)
-            }
-        },
+        Ok(wire) => {
+            let wire = Lapsing::new(wire, rt, settings);
+            play_shown(rt, controller, &mut recorder, wire, settings, showing, hand)
+        }
         Err(_) => ended(rt, &controller, LineEnd::Failed, settings),
     }
 }
 
-// Plays a list over a wire, once the clip before has ended, if that is to be awaited.
-fn play_awaited<
-    'a,
-    R: Files + Clock + AllocGlobal,
-    S: Source + Copy,
-    W: Wire + Drop,
-    V: io::Write + Drop,
-    F: Disk + Drop,
-    I: io::Read + Drop,
-    O: io::Write,
->(
-    rt: &R,
-    controller: Controller<Rest<S>>,
-    recorder: &mut Option<Recorder<'a, '_, R, F>>,
-    wire: W,
-    settings: RunSettings<'a>,
-    showing: Showing<V>,
-    hand: &mut Hand<'_, R, I, O>,
-) -> RunEnd<'a>
-    requires unit { settings.unit ≤ 15 }
-    requires some { 1 ≤ settings.limit }
-    requires works { W.failures wire ≡ 0 }
-    ensures session { HasAwaited W.does F.safe settings.entry (start_of S.items controller) wire recorder.old result }
-    ensures end { EndsRun settings.entry (journal_of recorder.old) S.items controller result }
-{
-    match await_clip(rt, &controller, wire, settings) {
-        Ok(wire) => play_shown(rt, controller, recorder, wire, settings, showing, hand),
-        Err(WireFault) => ended(rt, &controller, LineEnd::Failed, settings),
-    }
-}
-
-// Plays a list over a wire, whose messages are read on the way if something is shown of them, or captured.
+// Plays a list over a wire, whose messages are read on the way if they are told or captured, on a terminal or not.
 fn play_shown<
     'a,
     R: Files + Clock + AllocGlobal,
@@ -180,51 +142,72 @@ fn play_shown<
     requires unit { settings.unit ≤ 15 }
     requires some { 1 ≤ settings.limit }
     requires works { W.failures wire ≡ 0 }
-    ensures session { HasTried W.does F.safe unseen settings.entry (start_of S.items controller)
+    ensures session { HasAwaited W.does F.safe unseen settings.entry (start_of S.items controller)
         (over wire recorder.old) tt result }
     ensures end { EndsRun settings.entry (journal_of recorder.old) S.items controller result }
 {
-    let Showing { shown, capture } = showing;
-    match (shown, capture) {
-        (Shown::Lines(Telling::Nothing), None) => play_asked(
+    let Showing {
+        terminal,
+        telling,
+        capture,
+    } = showing;
+    let log = Log::new(telling, capture, Side::Automation);
+    let wire = Logged::new(wire, &log, settings.hearing);
+    let Some(terminal) = terminal else {
+        return play_awaited(
             rt,
             controller,
             recorder,
             wire,
-            &mut Unwatched,
+            &mut Stalling::new(Unwatched, rt, &log, "", settings),
             settings,
             hand,
-        ),
-        (Shown::Progress(terminal), capture) => {
-            let log = Log::new(Telling::Nothing, capture, Side::Automation);
-            let logged = Logged::new(wire, &log, settings.hearing);
-            let progress = Progress::new(rt, terminal, settings.silence);
-            let wire = ShownWire::new(logged, &progress);
-            let end = play_asked(
-                rt,
-                controller,
-                recorder,
-                wire,
-                &mut Glances::new(&progress),
-                settings,
-                hand,
-            );
-            progress.clear();
-            end
-        }
-        (Shown::Lines(telling), capture) => {
-            let log = Log::new(telling, capture, Side::Automation);
-            let wire = Logged::new(wire, &log, settings.hearing);
-            play_asked(
-                rt,
-                controller,
-                recorder,
-                wire,
-                &mut Unwatched,
-                settings,
-                hand,
-            )
-        }
+        );
+    };
+    let progress = Progress::new(rt, terminal, settings.silence);
+    let wire = ShownWire::new(wire, &progress);
+    let end = play_awaited(
+        rt,
+        controller,
+        recorder,
+        wire,
+        &mut Stalling::new(Glances::new(&progress), rt, &log, ERASE, settings),
+        settings,
+        hand,
+    );
+    progress.clear();
+    end
+}
+
+// Plays a list over a wire, once the clip before has ended, if that is to be awaited.
+fn play_awaited<
+    'a,
+    R: Files + Clock + AllocGlobal,
+    S: Source + Copy,
+    W: Wire + Drop,
+    V: Watch<Rest<S>>,
+    F: Disk + Drop,
+    I: io::Read + Drop,
+    O: io::Write,
+>(
+    rt: &R,
+    controller: Controller<Rest<S>>,
+    recorder: &mut Option<Recorder<'a, '_, R, F>>,
+    wire: W,
+    watcher: &mut V,
+    settings: RunSettings<'a>,
+    hand: &mut Hand<'_, R, I, O>,
+) -> RunEnd<'a>
+    requires unit { settings.unit ≤ 15 }
+    requires some { 1 ≤ settings.limit }
+    requires works { W.failures wire ≡ 0 }
+    ensures session { HasAwaited W.does F.safe V.sees settings.entry (start_of S.items controller)
+        (record { wire = wire; keep = recorder.old; watch = watcher.old }) watcher.new result }
+    ensures end { EndsRun settings.entry (journal_of recorder.old) S.items controller result }
+{
+    match await_clip(rt, &controller, wire, watcher, settings) {
+        Ok(wire) => play_asked(rt, controller, recorder, wire, watcher, settings, hand),
+        Err(WireFault) => ended(rt, &controller, LineEnd::Failed, settings),
     }
 }
 

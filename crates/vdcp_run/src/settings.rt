@@ -62,20 +62,14 @@ impl<'a> RunJournal<'a> {
     }
 }
 
-/// What is shown while a list is played, and captured of its line, and the writers that it goes to. If one of them
+/// What is shown while a list is played, told and captured of its line, and the writers that it goes to. If one of them
 /// fails, it gets no more, and nothing else comes of that.
 #[derive(Drop)]
 pub struct Showing<V> {
-    pub shown: Shown<V>,
+    /// Gets how far the run is, in one line of a terminal, which is drawn again and again.
+    pub terminal: Option<V>,
+    /// A line for each message that came (`<-`) and went out (`->`), with the words that it has, if all is told.
+    pub telling: Telling<V>,
     /// Gets rows of what came and went out, as `judge` reads them.
     pub capture: Option<V>,
-}
-
-/// What is shown while a list is played.
-#[derive(Drop)]
-pub enum Shown<V> {
-    /// How far the run is, in one line of a terminal, which is drawn again and again.
-    Progress(V),
-    /// A line for each message that came (`<-`) and went out (`->`), with the words that it has, if all is told.
-    Lines(Telling<V>),
 }
