@@ -2,12 +2,14 @@
 //! playlists, and plays them: over a line that is run from a script, and over TCP, of which it can be either end,
 //! and also what damages it between them.
 //!
-//! Files, in reading order: `main` (which subcommand, and the exit status), `run`. The words of the command line and
+//! Files, in reading order: `main` (which subcommand, and the exit status), `run`, `told`, `start`. The words of the command line and
 //! the other subcommands are those of `vdcp_options`. `args` and `stdout`, beside `src/`, are the words of one run and
 //! what it prints.
 #![tactic(auto)]
 
 mod run;
+mod start;
+mod told;
 
 use clap::ArgMatches;
 use clap::error::ErrorKind;
@@ -16,7 +18,9 @@ use std::fs::File;
 use std::io::{BufWriter, IsTerminal, Write};
 use std::process::ExitCode;
 use std::{env, io};
-use vdcp_options::{System, command, run_named};
+use told::Told;
+use vdcp_line::{System, command};
+use vdcp_options::run_named;
 use vdcp_text::Failure;
 
 fn main(rt: HostRuntime) -> ExitCode {
@@ -49,7 +53,7 @@ fn run_words(rt: &HostRuntime) -> Result<u8, Failure<'static>> {
         return Err(Failure::Memory);
     };
     let status = match matches.subcommand() {
-        Some((name, matches)) => run_subcommand(rt, name, matches, &mut out, &mut rt.stderr()),
+        Some((name, matches)) => run_subcommand(rt, name, matches, &mut out),
         None => 2,
     };
     // Nothing more is written: dropped, the buffer would try again what a failed write has left in it.
@@ -67,31 +71,49 @@ fn open_nothing(rt: &HostRuntime) -> Result<File, Failure<'static>> {
 }
 
 // Runs the subcommand of this name, and gives the exit status.
-fn run_subcommand<W: Write, E: Write>(
-    rt: &HostRuntime,
+fn run_subcommand<'a, W: Write>(
+    rt: &'a HostRuntime,
     name: &str,
-    matches: &ArgMatches<'_>,
+    matches: &'a ArgMatches<'_>,
     out: &mut W,
-    err: &mut E,
 ) -> u8 {
     let system = System::new(rt);
-    let done = match name {
-        "run" => run_run(&system, matches, out, err),
-        _ => run_named(&system, name, matches, out, err),
+    let mut err = Told::new(rt.stderr());
+    let status = if name == "run" {
+        status_of(run_run(&system, &*matches, out, &mut err), &mut err)
+    } else {
+        status_of(run_named(&system, name, matches, out, &mut err), &mut err)
     };
-    ended(&system, done, err)
+    explain(&system, reads_journal(name, matches), &mut err);
+    status
 }
 
-// The exit status; a failure is told. On a terminal a second line says why an address or a file was refused.
-fn ended<E: Write>(system: &System<'_>, done: Result<u8, Failure<'_>>, err: &mut E) -> u8 {
-    let status = match done {
+// The exit status; a failure is told.
+fn status_of<E: Write>(done: Result<u8, Failure<'_>>, err: &mut E) -> u8 {
+    match done {
         Ok(status) => status,
         Err(failure) => failure.report(err),
-    };
-    if status == 3 && system.rt.stderr().is_terminal() {
+    }
+}
+
+// Whether rows of a journal may be refused.
+fn reads_journal(name: &str, matches: &ArgMatches<'_>) -> bool {
+    match name {
+        "asrun" => true,
+        "run" => matches.get_str("resume").is_some(),
+        _ => false,
+    }
+}
+
+// Tells why an address or a file was refused, and on a terminal what the last fault line means.
+fn explain<E: Write>(system: &System<'_>, of_journal: bool, err: &mut Told<E>) {
+    let sentence = err.sentence(of_journal);
+    if err.is_refusal() {
         system.explain(err);
     }
-    status
+    if let (Some(sentence), true) = (sentence, system.rt.stderr().is_terminal()) {
+        let _ = writeln!(err, "  {sentence}");
+    }
 }
 
 // Prints what `clap` says of the arguments: help, the version, or why it refuses them.

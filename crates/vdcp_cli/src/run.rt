@@ -1,24 +1,26 @@
 //! The subcommand `run`, from the words of the command line to the call of its library.
 ghost use Rattle.std.specs.Prelude.{◌≤◌};
 
+use crate::start::tell_start;
 use clap::ArgMatches;
+use std::alloc::{AllocError, Global};
 use std::io::{IsTerminal, Stderr, Stdin, Write};
 use std::time::Duration;
+use vdcp_line::number::{from_of, limit_of, listens_of, poll_of, port_of, run_silence_of, unit_of};
+use vdcp_line::rate::rate_of;
+use vdcp_line::{Output, Resumable, System, capture_of, open_file};
 use vdcp_list::Table;
 use vdcp_log::{Hearing, Screen, Telling};
-use vdcp_operator::{Hand, Keys, RunPage, start_of};
-use vdcp_options::{
-    Output, System, capture_of, from_of, limit_of, listens_of, mode_of, open_file, poll_of,
-    port_of, rate_of, run_silence_of, unit_of,
-};
+use vdcp_operator::{Hand, Keys, RunNames, RunPage, start_of};
+use vdcp_options::mode_of;
 use vdcp_panel::open_panel;
-use vdcp_run::{RunJournal, RunSettings, Showing, Shown, do_run};
+use vdcp_run::{RunJournal, RunSettings, Showing, do_run};
 use vdcp_text::Failure;
 use vdcp_value::Rate;
 
 /// Runs it, and gives the exit status; a failure isn't told yet.
 pub fn run_run<'a, W: Write, E: Write>(
-    system: &System<'_>,
+    system: &'a System<'_>,
     matches: &'a ArgMatches<'_>,
     out: &mut W,
     err: &mut E,
@@ -38,14 +40,21 @@ pub fn run_run<'a, W: Write, E: Write>(
     )?;
     let stderr = system.rt.stderr();
     let is_terminal = stderr.is_terminal();
-    let shown = if matches.get_flag("log") {
-        Shown::Lines(Telling::All(Output::Terminal(Screen::new(system, stderr))))
+    let told = Output::Terminal(Screen::new(system, system.rt.stderr()));
+    let (terminal, telling) = if matches.get_flag("log") {
+        (None, Telling::All(told))
     } else if is_terminal {
-        Shown::Progress(Output::Terminal(Screen::new(system, stderr)))
+        let journal = settings.journal.map(|journal| journal.name());
+        let screen = Output::Run(Resumable::new(Screen::new(system, stderr), journal));
+        (Some(screen), Telling::Faults(told))
     } else {
-        Shown::Lines(Telling::Nothing)
+        (None, Telling::Faults(told))
     };
-    let showing = Showing { shown, capture };
+    let showing = Showing {
+        terminal,
+        telling,
+        capture,
+    };
     let mut advice = None;
     let status = do_run(
         system,
@@ -94,7 +103,10 @@ fn hand_of<'a, E: Write>(
     let page = match matches.get_str("panel") {
         Some(text) => {
             let panel = open_panel(system.rt, text, true, err)?;
-            Some(RunPage::new(system.alloc(), panel, settings.rate, clips))
+            let Ok(names) = names_of(system.alloc(), matches, settings) else {
+                return Err(Failure::Memory.report(err));
+            };
+            Some(RunPage::new(system.alloc(), panel, names, settings.rate, clips))
         }
         None => None,
     };
@@ -107,10 +119,32 @@ fn hand_of<'a, E: Write>(
     Ok(Hand::new(system, keys, told, page, start, settings.hearing))
 }
 
+// How the run was begun, for its page.
+fn names_of(
+    alloc: Global,
+    matches: &ArgMatches<'_>,
+    settings: RunSettings<'_>,
+) -> Result<RunNames, AllocError> {
+    let journal = match settings.journal {
+        Some(journal) => journal.name(),
+        None => "",
+    };
+    Ok(RunNames {
+        server: String::from_str(alloc, matches.get_str("ADDR").unwrap_or(""))?,
+        list: String::from_str(alloc, matches.get_str("LIST").unwrap_or(""))?,
+        journal: String::from_str(alloc, journal)?,
+    })
+}
+
 // The time at which the first event goes to air.
 fn start_time<E: Write>(system: &System<'_>, text: &str, err: &mut E) -> Result<Duration, u8> {
     match start_of(system.rt, text) {
-        Ok(start) => Ok(start),
+        Ok(start) => {
+            if system.rt.stderr().is_terminal() {
+                tell_start(system, start, err);
+            }
+            Ok(start)
+        }
         Err(fault) => match writeln!(err, "vdcp: {fault}") {
             Ok(()) => Err(2),
             Err(_) => Err(3),
