@@ -41,7 +41,9 @@ _BYTE, _WORD, _LONG = ctypes.c_uint8, ctypes.c_uint32, ctypes.c_uint64
 
 def _library() -> ctypes.CDLL:
     here = os.path.dirname(os.path.abspath(__file__))
-    places = [os.environ.get("VDCP_LIBRARY"), f"{here}/../out/libvdcp.so", "/usr/lib/x86_64-linux-gnu/vdcp/libvdcp.so"]
+    # (in the tree the newer one of that which was built there and that which came with it)
+    of_tree = [it for it in (f"{here}/../out/libvdcp.so", f"{here}/../prebuilt/linux-x86_64/libvdcp.so") if os.path.exists(it)]
+    places = [os.environ.get("VDCP_LIBRARY"), *sorted(of_tree, key=os.path.getmtime)[-1:], "/usr/lib/x86_64-linux-gnu/vdcp/libvdcp.so"]
     return ctypes.CDLL(next((it for it in places if it and os.path.exists(it)), "libvdcp.so"))
 
 
