@@ -1,9 +1,11 @@
 # What is made of the whole tree: docs/SCRIPTS.md says when. (What follows 'wrong-bodies' are the names of crates.)
-names := $(filter-out test wrong-bodies dist bench lib deb,$(MAKECMDGOALS))
+names := $(filter-out test prove wrong-bodies dist bench lib deb,$(MAKECMDGOALS))
 
-.PHONY: test wrong-bodies dist bench lib deb
+.PHONY: test prove wrong-bodies dist bench lib deb
 test:
-	@tools/gate/run
+	@tools/tests/run
+prove:
+	@tools/gate/prove $(MINUTES)
 wrong-bodies:
 	@tools/gate/wrong_bodies $(names)
 dist:

@@ -1,7 +1,9 @@
 #!/usr/bin/env python3
 """page.py port URL SERVER RUN..: opens the page of a port in headless Chromium, plays a list of two clips by the command RUN, and ends the
-process SERVER. page.py run URL: opens the page of a run, takes by a click and by a key, and stops by a key that is asked twice. It fails
-if the page doesn't show each of these, or can't be read. With a last word --picture=FILE it draws the page."""
+process SERVER. page.py run URL: opens the page of a run, takes by a click and by a key, and stops by a key that is asked twice.
+page.py list URL: that of a run that began with event 28 of 40, whose first clips are short. page.py start URL: that of one that waits for its
+start, which a key that is asked twice begins. page.py lost URL SERVER JOURNAL: that of one whose server stops to answer. It fails if the page
+doesn't show each of these, or can't be read. With a last word --picture=FILE it draws the page."""
 import os
 import re
 import signal
@@ -74,8 +76,12 @@ def can_be_read(page):
         must(ratio >= 4.5, f"{mode}: a contrast of {ratio:.1f}: {where}")
     nameless = page.execute_script(NAMELESS)
     must(not nameless, f"no name: {nameless}")
-    types(page, Keys.TAB)
-    must(page.switch_to.active_element.get_attribute("id") == "scroll", "the list can't be reached by the keyboard")
+    # (behind the buttons, if there are some)
+    reached = []
+    while "scroll" not in reached and len(reached) < 3:
+        page.switch_to.active_element.send_keys(Keys.TAB)
+        reached.append(page.switch_to.active_element.get_attribute("id"))
+    must("scroll" in reached, f"the list can't be reached by the keyboard: {reached}")
     page.execute_cdp_cmd("Emulation.setDeviceMetricsOverride", {"width": 360, "height": 740, "deviceScaleFactor": 2, "mobile": True})
     must(not page.execute_script("return document.documentElement.scrollWidth > 360"), "it is wider than a telephone")
     page.execute_cdp_cmd("Emulation.clearDeviceMetricsOverride", {})
@@ -112,9 +118,21 @@ def port(page):
 
 
 def lasts_30(said):
-    """What the page says of the time on air, and of the time that is left, is as long as this in all."""
-    times = re.fullmatch(r"for 00:00:(\d\d), 00:00:(\d\d) left", said)
-    return times is not None and int(times[1]) + int(times[2]) in (30, 31)
+    """What the page says of the time on air, and of the time that is left, with its frames, is as long as this in all."""
+    times = re.fullmatch(r"for 00:00:(\d\d), 00:00:(\d\d):([01]\d|2[0-4]) left", said)
+    return times is not None and int(times[1]) + int(times[2]) in (29, 30)
+
+
+def begins_with(word):
+    return lambda it: it.startswith(word)
+
+
+def by_24_hours(it):
+    return re.fullmatch(r"([01]\d|2[0-3]):[0-5]\d:[0-5]\d", it)
+
+
+def class_of(page, name):
+    return page.find_element(By.ID, name).get_attribute("class")
 
 
 def run(page):
@@ -122,26 +140,91 @@ def run(page):
     awaits(page, "that it has no token", told=lambda it: "To make calls" in it)
     must(not page.find_element(By.ID, "take").is_enabled(), "a page without a token makes calls")
     page.get("about:blank")
+    page.get(URL[:-1] + ("0" if URL[-1] != "0" else "1"))
+    awaits(page, "the first two", air_item="CLIP0001", next_item=begins_with("CLIP0002"))
+    page.find_element(By.ID, "take").click()
+    awaits(page, "that its token isn't right", told=lambda it: "open the new address" in it)
+    page.get("about:blank")
     page.get(URL)
-    awaits(page, "the first two", air_item="CLIP0001", next_item="CLIP0002", next_time="cued", air_time=lasts_30)
+    awaits(page, "the first two", air_item="CLIP0001", next_item="CLIP0002 from 00:00:00:10 for 00:00:00:15", next_time=begins_with("cued, about "), air_time=lasts_30)
+    must(re.fullmatch(r"six \u2192 127\.0\.0\.1:\d+", text(page, "name")), f"no heading: {text(page, 'name')}")
+    must(re.fullmatch(r"\u25b6 CLIP0001 \u00b7 six \u2192 127\.0\.0\.1:\d+", page.title), f"no title: {page.title}")
+    must(by_24_hours(text(page, "clock")), f"no clock of 24 hours: {text(page, 'clock')}")
+    must(all(by_24_hours(it.text.removeprefix("~")) for it in page.find_elements(By.CSS_SELECTOR, "#rows td:last-child")), "no times")
     for picture in PICTURES:
         page.save_screenshot(picture)
+    can_be_read(page)
     page.find_element(By.ID, "take").click()
-    awaits(page, "the second one", air_item="CLIP0002", next_item="CLIP0001")
     awaits(page, "the call", told="take: made")
-    awaits(page, "that the next one is cued", next_time=lambda it: it == "cued" or text(page, "air-item") == "CLIP0001")
-    types(page, "t")
-    awaits(page, "the last one", air_item="CLIP0001", next_item="nothing")
+    awaits(page, "the second one", air_item=begins_with("CLIP0002"))
+    takes_once_at_a_time(page)
     types(page, "s")
     awaits(page, "that it asks again", stop="Stop: once more")
-    must(text(page, "outcome") == "open", "one key stops the run")
+    must("has ended" not in text(page, "health"), "one key stops the run")
     types(page, "s")
-    awaits(page, "how it ended", health=lambda it: "the run has ended: stopped" in it)
+    awaits(page, "how it ended", health="the run has ended: stopped", air_item="nothing")
     must(not page.find_element(By.ID, "take").is_enabled(), "calls can be made once it has ended")
+    time.sleep(2.5)
+    must((text(page, "health"), class_of(page, "health")) == ("the run has ended: stopped", "idle"), "once the run is gone the page says otherwise")
+
+
+def takes_once_at_a_time(page):
+    """Of three presses within half a second one takes."""
+    awaits(page, "that the third one is cued", air_item="CLIP0001", next_item="CLIP0001", next_time=begins_with("cued"))
+    page.execute_script("for (const at of [0, 200, 400]) setTimeout(() => document.dispatchEvent(new KeyboardEvent('keydown', { key: 't' })), at)")
+    awaits(page, "the last one", next_item="CLIP0002")
+    time.sleep(1)
+    must(text(page, "next-item") == "CLIP0002", "more than one press took")
+
+
+def row_is_seen(page):
+    """Whether the row of what is on air lies in the list's box."""
+    return page.execute_script("""
+const row = document.querySelector('#rows tr.air').getBoundingClientRect(), box = document.getElementById('scroll').getBoundingClientRect();
+return box.top <= row.top && row.bottom <= box.bottom;""")
+
+
+def follows(page, what):
+    end = time.monotonic() + 15
+    while not row_is_seen(page):
+        must(time.monotonic() < end, f"the list doesn't follow {what}")
+        time.sleep(0.1)
+
+
+def follow_list(page):
+    page.get(URL)
+    awaits(page, "the first one", air_item="CLIP0001", count=lambda it: "from 28 on in this run" in it)
+    follows(page, "the first one")
+    states = [row.find_elements(By.TAG_NAME, "td")[2].text for row in page.find_elements(By.CSS_SELECTOR, "#rows tr")]
+    must(states[:20] == ["before this run"] * 19 + ["on air"], f"what this run didn't play: {states}")
+    page.execute_script("const box = document.getElementById('scroll'); box.dispatchEvent(new WheelEvent('wheel')); box.scrollTop = 0;")
+    time.sleep(2)
+    must(page.execute_script("return document.getElementById('scroll').scrollTop") == 0, "the list doesn't stay where it was scrolled to")
+    follows(page, "after a while")
+
+
+def start(page):
+    page.get(URL)
+    awaits(page, "that it waits", health="waits for its start", next_item="CLIP0001", next_time=lambda it: re.fullmatch(r"at [\d:]{8}, in 00:00:\d\d:\d\d", it))
+    types(page, "t")
+    awaits(page, "that it asks again", take="Start now: once more")
+    time.sleep(1)
+    must(text(page, "air-item") == "nothing", "one key starts the run")
+    types(page, "t")
+    awaits(page, "the first one", air_item="CLIP0001", take="Take (T)")
+
+
+def lost(page):
+    server, journal = int(WORDS[0]), WORDS[1]
+    page.get(URL)
+    awaits(page, "the first one", air_item="CLIP0001", next_time=begins_with("cued"))
+    os.kill(server, signal.SIGSTOP)
+    awaits(page, "what is known", health="the run has ended: lost", air_item="unknown, last seen CLIP0001", step=lambda it: f"--resume {journal}" in it)
+    must(class_of(page, "health") == "gone", "that isn't told in red")
 
 
 opened = browser()
 try:
-    {"port": port, "run": run}[WHOSE](opened)
+    {"port": port, "run": run, "list": follow_list, "start": start, "lost": lost}[WHOSE](opened)
 finally:
     opened.quit()

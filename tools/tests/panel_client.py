@@ -1,13 +1,16 @@
 #!/usr/bin/env python3
-"""panel_client.py ADDR state|statuses|holds_on|greedy SECONDS|METHOD PATH FIELD..: asks a panel by bytes of its own."""
+"""panel_client.py ADDR state|until PATTERN|statuses|holds_on|flood|keeps TOKEN|greedy SECONDS|METHOD PATH FIELD..: asks a panel by bytes of its own."""
 import contextlib
 import re
+import resource
 import socket
 import sys
+import threading
 import time
 
 NAME = sys.argv[1]
 HOST, PORT = NAME.split(":")
+OPEN = min(resource.getrlimit(resource.RLIMIT_NOFILE)[1], 4096)
 
 
 def connect():
@@ -57,6 +60,9 @@ def statuses():
         "by localhost": code(get("/state", host=f"localhost:{PORT}")),
         "own origin": code(get("/state", f"Origin: http://{NAME}")),
         "page of another origin": code(get("/state", "Origin: http://example.org")),
+        "of two origins": code(get("/state", f"Origin: http://{NAME}", "Origin: http://example.org")),
+        "own target": code(get(f"http://{NAME}/state")),
+        "another target": code(get("http://example.org/state")),
         "another host": code(get("/state", host="example.org")),
         "no host": code(get("/state", host=None)),
         "another path": code(get("/none")),
@@ -70,7 +76,7 @@ def statuses():
         rows[line] = code(ask(request(line, "Content-Length: 0", "Connection: close")))
     for name, it in rows.items():
         print(name, it)
-    print(*sorted(re.findall(r"(?mi)^((?:x-|cache|content-sec)\S+: .*?)\r?$", page[0])), sep="\n")
+    print(*sorted(re.findall(r"(?mi)^((?:x-|cache|content-sec|cross|referrer)\S+: .*?)\r?$", page[0])), sep="\n")
 
 
 def is_closed(line):
@@ -105,6 +111,51 @@ def holds_on():
         sys.exit("nobody is answered then")
 
 
+def floods(most, seconds):
+    """Connects and asks so often, for so long at most, and reads nothing; the last connections stay open."""
+    resource.setrlimit(resource.RLIMIT_NOFILE, (OPEN, OPEN))
+    end, lines = time.monotonic() + seconds, []
+    for _ in range(most):
+        if time.monotonic() > end:
+            break
+        with contextlib.suppress(OSError):
+            line = socket.socket()
+            line.setblocking(False)
+            line.connect_ex((HOST, int(PORT)))
+            lines.append(line)
+            line.send(request("GET /state"))
+        if len(lines) > OPEN - 100:
+            lines.pop(0).close()
+    return lines
+
+
+def flood():
+    """After a flood the page is answered within a second."""
+    lines, begun = floods(3000, 5), time.monotonic()
+    if code(get("/state")) != "200" or time.monotonic() - begun > 1:
+        sys.exit(f"after a flood an answer came after {time.monotonic() - begun} seconds")
+    print(len(lines), "connections were open still")
+
+
+def keeps(token):
+    """A connection that has shown the token is answered on and on while others flood."""
+    line = connect()
+    flooding = threading.Thread(target=floods, args=(3000, 5))
+    for turn in range(12):
+        if turn == 3:
+            flooding.start()
+        answer, begun = b"", time.monotonic()
+        line.sendall(request("GET /state", f"X-Panel-Token: {token}"))
+        while not is_whole(answer):
+            if not (more := line.recv(65536)):
+                sys.exit("it was closed")
+            answer += more
+        if time.monotonic() - begun > 1:
+            sys.exit(f"it waited for {time.monotonic() - begun} seconds")
+        time.sleep(0.4)
+    flooding.join()
+
+
 def greedy(seconds):
     """Some ask as fast as they can; others ask, and never read."""
     end, answered = time.monotonic() + seconds, 0
@@ -128,9 +179,14 @@ if __name__ == "__main__":
     what, *words = sys.argv[2:]
     if what == "greedy":
         greedy(float(words[0]))
+    elif what == "keeps":
+        keeps(words[0])
     elif what == "state":
         print(get("/state")[1])
+    elif what == "until":
+        while not re.search(words[0], get("/state")[1]):
+            time.sleep(0.01)
     elif what.isupper():
         print(code(ask(request(f"{what} {words[0]}", *words[1:], "Connection: close"))))
     else:
-        {"statuses": statuses, "holds_on": holds_on}[what]()
+        {"statuses": statuses, "holds_on": holds_on, "flood": flood}[what]()

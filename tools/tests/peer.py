@@ -70,12 +70,14 @@ class Between:
     """Carries commands to the server, and its answers to a run, after which the next one may come. plain: as they are; cued: but first it cues
     CLIP0001; split: each byte comes alone, and late by N milliseconds at one place after the other; twice: each answer comes twice; late: each
     comes once the Nth command after it does; ahead: an ACK comes before each; trickle: a byte of junk comes every N milliseconds too; mute:
-    such bytes come, and no answer; junk: bytes without end, and no answer; torn: by dice of the seed N three of ten are lost, and the others come
-    in order, but late by 36 to 78 milliseconds, and most torn in two by a pause of 8 to 64."""
+    such bytes come, and no answer; junk: bytes without end, and no answer; acks: an ACK comes every N milliseconds, and no answer; babble: from the
+    Nth command on, when it prints so, a byte comes every 60 milliseconds, and no answer; until: the command of number N and all after it are
+    lost, which it prints; torn: by dice of the seed N three of ten are lost, and the others come in order, but late by 36 to 78 milliseconds,
+    and most torn in two by a pause of 8 to 64."""
 
     def __init__(self, address, how, much="0"):
         self.address, self.how, self.much, self.count, self.held = address, how, int(much), 0, []
-        self.wait = {"junk": 0.001, "trickle": self.much / 1000, "mute": self.much / 1000}.get(how)
+        self.wait = {"junk": 0.001, "trickle": self.much / 1000, "mute": self.much / 1000, "acks": self.much / 1000}.get(how)
         self.dice = random.Random(self.much)
         line = self.cued() if how == "cued" else None
         door = listening()
@@ -97,7 +99,7 @@ class Between:
 
     def carry(self, run, line):
         # (what comes later, each with its time)
-        later = [(time.monotonic() + self.wait, b"\x55" * (64 if self.how == "junk" else 1))] if self.wait else []
+        later = [(time.monotonic() + self.wait, {"junk": b"\x55" * 64, "acks": b"\x04"}.get(self.how, b"\x55"))] if self.wait else []
         while True:
             ready, _, _ = select.select([run, line], [], [], max(0, later[0][0] - time.monotonic()) if later else None)
             while later and later[0][0] <= time.monotonic():
@@ -113,6 +115,15 @@ class Between:
                     continue
                 if self.how == "late" and len(self.held) >= self.much:
                     run.sendall(self.held.pop(0))
+                self.count += self.how == "until"
+                if self.how == "until" and self.count >= self.much:
+                    print("lost", piece.hex(), flush=True)
+                    continue
+                if self.how == "babble":
+                    self.much -= 1
+                    if self.much == 0:
+                        print("babbles", flush=True)
+                        self.wait, later = 0.06, [(0, b"\xff")]
                 line.sendall(piece)
 
     def answer(self, run, answer, later):
@@ -128,7 +139,7 @@ class Between:
                 due = max(time.monotonic() + self.dice.uniform(0.036, 0.078), later[-1][0] if later else 0)
                 at = self.dice.randrange(1, len(answer)) if len(answer) > 1 and self.dice.random() < 0.8 else len(answer)
                 later += [(due, answer[:at]), (due + self.dice.uniform(0.008, 0.064), answer[at:])][: 1 + (at < len(answer))]
-        elif self.how not in ("mute", "junk"):
+        elif self.how not in ("mute", "junk", "acks") and not (self.how == "babble" and self.wait):
             run.sendall({"twice": answer + answer, "ahead": b"\x04" + answer}.get(self.how, answer))
 
 

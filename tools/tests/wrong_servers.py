@@ -7,6 +7,7 @@ import argparse
 import csv
 import socket
 import sys
+import time
 
 sys.dont_write_bytecode = True
 from table_server import ACK, COMMANDS, Port, frames_of, id_of, serve, time_code
@@ -69,6 +70,20 @@ class StateLags(Port):
 
 
 KINDS["state-lags"] = StateLags
+
+
+# Each fortieth answer is late by two tenths of a second.
+class Late(Port):
+    count = 0
+
+    def answer(self, message):
+        self.count += 1
+        if self.count % 40 == 0:
+            time.sleep(0.2)
+        return super().answer(message)
+
+
+KINDS["late"] = Late
 
 
 # Instead of the twelfth answer the connection is closed.
