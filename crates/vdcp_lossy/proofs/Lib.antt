@@ -1,3 +1,2 @@
 -- The lemmas, file by file.
 mod Sending
-mod Uncarried

@@ -5,31 +5,19 @@ use Rattle.std.specs.Io.KnownBytes.{Appends, Keeps}
 use Rattle.std.specs.Prelude.{Option, None, Some, OnOk, Result, Ok, Err}
 use Rattle.vdcp_wire.specs.Wires.{Told, adds_drop, adds_sent}
 use Rattle.vdcp_lossy.specs.Carried.{PassesOn, sent_by}
-use Rattle.vdcp_lossy.specs.Doings.{MayBeDone, adds_part, goes_on, joined, part_on}
-use Rattle.vdcp_lossy.specs.declared.doing.Chances.{Chances}
+use Rattle.vdcp_lossy.specs.Doings.{CanBe, adds_part, goes_on, joined, part_on}
 use Rattle.vdcp_lossy.specs.declared.doing.Doing.{Doing}
 use Rattle.vdcp_lossy.specs.declared.doing.Doing.TheVariants as doing
 use Rattle.vdcp_auto.specs.declared.burst.Way.{Way}
 
 -- what is sent in place of a burst: a copy's first one is the burst itself
 abbrev pub once : Doing → Doing
-once doing.Through = doing.Through
-once doing.Lost = doing.Lost
-once doing.Late = doing.Late
 once doing.Copied = doing.Through
-once (doing.Cut count) = doing.Cut count
-once (doing.Damaged bytes) = doing.Damaged bytes
-once (doing.Forged r) = doing.Forged r
+once d = d
 
-may_once : (chances : Chances) (w : Way) (came : List ℕ) (d : Doing) → MayBeDone chances w came d
-    → MayBeDone chances w came (once d)
-may_once chances w came doing.Through may = may
-may_once chances w came doing.Lost may = may
-may_once chances w came doing.Late may = may
-may_once chances w came doing.Copied (can, (some, few)) = (tt, few)
-may_once chances w came (doing.Cut count) may = may
-may_once chances w came (doing.Damaged bytes) may = may
-may_once chances w came (doing.Forged r) may = may
+can_once : (w : Way) (came : List ℕ) (d : Doing) → CanBe w came d → CanBe w came (once d)
+can_once w came doing.Copied can = tt
+can_once w came d can = can
 
 adds : (bytes : List ℕ) (told : Option Told) → Appends (sent_by told) (sent_by (adds_sent bytes told)) bytes
 adds bytes None = tt
@@ -73,42 +61,42 @@ sent_first : (came : List ℕ) (d : Doing) (old dropped new : Option Told) → d
 sent_first came d old dropped new is_dropped is_sent =
     rw is_sent (rw is_dropped (rw (sym (drops old)) (part came d (adds_drop old))))
 
-pub goes_once : (chances : Chances) (w : Way) (came : List ℕ) (d : Doing) (old dropped new later : Option Told)
-    → MayBeDone chances w came d
+pub goes_once : (w : Way) (came : List ℕ) (d : Doing) (old dropped new later : Option Told)
+    → CanBe w came d
     → dropped ≡ adds_drop old → new ≡ adds_part (part_on d came) dropped → Keeps (sent_by new) (sent_by later)
-    → PassesOn chances w came old later
-goes_once chances w came d old dropped new later may is_dropped is_sent keeps = record {
+    → PassesOn w came old later
+goes_once w came d old dropped new later can is_dropped is_sent keeps = record {
   doing = once d;
-  may = may_once chances w came d may;
+  can = can_once w came d can;
   sent = kept_since (sent_by old) (sent_by new) (sent_by later) (joined (goes_on (once d) came))
       (sent_first came d old dropped new is_dropped is_sent) keeps;
 }
 
-pub goes_twice : (chances : Chances) (w : Way) (came : List ℕ) (old dropped new later : Option Told)
-    → MayBeDone chances w came doing.Copied
+pub goes_twice : (w : Way) (came : List ℕ) (old dropped new later : Option Told)
+    → CanBe w came doing.Copied
     → dropped ≡ adds_drop old → new ≡ adds_part (Some came) dropped
     → Keeps (sent_by new) (sent_by later) ⊎ Appends (sent_by new) (sent_by later) came
-    → PassesOn chances w came old later
-goes_twice chances w came old dropped new later may is_dropped is_sent (inl keeps) =
-    goes_once chances w came doing.Copied old dropped new later may is_dropped is_sent keeps
-goes_twice chances w came old dropped new later may is_dropped is_sent (inr gains) = record {
+    → PassesOn w came old later
+goes_twice w came old dropped new later can is_dropped is_sent (inl keeps) =
+    goes_once w came doing.Copied old dropped new later can is_dropped is_sent keeps
+goes_twice w came old dropped new later can is_dropped is_sent (inr gains) = record {
   doing = doing.Copied;
-  may = may;
+  can = can;
   sent = gained_since (sent_by old) (sent_by new) (sent_by later) came came
       (sent_first came doing.Copied old dropped new is_dropped is_sent) gains;
 }
 
 -- if the second copy was asked for
-pub asked_twice : {A E : Type 0} (result : Result A E) (chances : Chances) (w : Way) (came sent : List ℕ) (d : Doing)
+pub asked_twice : {A E : Type 0} (result : Result A E) (w : Way) (came sent : List ℕ) (d : Doing)
     (old dropped new later : Option Told)
-    → d ≡ doing.Copied → MayBeDone chances w came d → dropped ≡ adds_drop old → sent ≡ came
+    → d ≡ doing.Copied → CanBe w came d → dropped ≡ adds_drop old → sent ≡ came
     → new ≡ adds_part (part_on d sent) dropped
     → OnOk result (Keeps (sent_by new) (sent_by later) ⊎ Appends (sent_by new) (sent_by later) came)
-    → OnOk result (PassesOn chances w came old later)
-asked_twice (Ok x) chances w came sent d old dropped new later is may is_dropped same is_sent h =
+    → OnOk result (PassesOn w came old later)
+asked_twice (Ok x) w came sent d old dropped new later is can is_dropped same is_sent h =
     let copied : new ≡ adds_part (Some sent) dropped = subst (λ (a : Doing). new ≡ adds_part (part_on a sent) dropped)
     is is_sent in
-    goes_twice chances w came old dropped new later (subst (λ (a : Doing). MayBeDone chances w came a) is may)
+    goes_twice w came old dropped new later (subst (λ (a : Doing). CanBe w came a) is can)
     is_dropped
     (subst (λ (b : List ℕ). new ≡ adds_part (Some b) dropped) same copied) h
-asked_twice (Err e) chances w came sent d old dropped new later is may is_dropped same is_sent h = tt
+asked_twice (Err e) w came sent d old dropped new later is can is_dropped same is_sent h = tt

@@ -1,14 +1,11 @@
 -- What can be done with a burst, and what goes on of it then.
 use Rattle.std.specs.Option.{option_to_list}
-use Rattle.std.specs.Prelude.{ℕ, ◌≡◌, ◌<◌, ◌+◌, true, List, [], ◌∷◌, ◌++◌, length, take, Option, None, Some}
+use Rattle.std.specs.Prelude.{ℕ, ◌≡◌, ◌<◌, true, List, [], ◌∷◌, ◌++◌, length, take, Option, None, Some}
 use Rattle.vdcp_wire.specs.Wires.{Told, adds_sent}
 use Rattle.vdcp_frame.specs.Burst.{messages_of}
 use Rattle.vdcp_frame.specs.Message.{Content, ack, nak, spelling}
-use Rattle.vdcp_lossy.specs.declared.doing.Chances.{Chances}
 use Rattle.vdcp_lossy.specs.declared.doing.Doing.{Doing}
 use Rattle.vdcp_lossy.specs.declared.doing.Doing.TheVariants as doing
-use Rattle.vdcp_lossy.specs.declared.doing.Throw.{Throw}
-use Rattle.vdcp_lossy.specs.declared.doing.Throw.TheVariants as throw
 use Rattle.vdcp_lossy.specs.declared.doing.Receipt.{Receipt}
 use Rattle.vdcp_lossy.specs.declared.doing.Receipt.TheVariants as receipt
 use Rattle.vdcp_auto.specs.declared.burst.Way.{Way}
@@ -65,35 +62,7 @@ CanBe w came (doing.Damaged bytes) = can_become came bytes.items ≡ true
 CanBe w came (doing.Forged r) = CanBeForged w r
 CanBe w came d = Unit {0}
 
--- what dice with these chances can throw: nothing that has no chance, and nothing else if the chance is 100
-abbrev pub CanBeThrown : Chances → Throw → Type 0
-CanBeThrown chances throw.Through = (chances.lose < 100) × (chances.copy < 100) × (chances.cut < 100)
-    × (chances.damage < 100)
-CanBeThrown chances throw.Lost = 0 < chances.lose
-CanBeThrown chances throw.Copied = (0 < chances.copy) × (chances.lose < 100)
-CanBeThrown chances throw.Cut = (0 < chances.cut) × (chances.lose < 100) × (chances.copy < 100)
-CanBeThrown chances throw.Damaged = (0 < chances.damage) × (chances.lose < 100) × (chances.copy < 100)
-    × (chances.cut < 100)
-CanBeThrown chances throw.Forged = (0 < chances.forge) × (chances.lose < 100) × (chances.copy < 100)
-    × (chances.cut < 100) × (chances.damage < 100)
-
--- what is done by them. What can't be cut or seen to be damaged is lost, and an answer that can't be copied goes
--- through
-abbrev pub HasChance : Chances → Doing → Type 0
-HasChance chances doing.Through = chances.lose < 100
-HasChance chances doing.Lost = 0 < chances.lose + (chances.cut + chances.damage)
-HasChance chances doing.Late = ⊥
-HasChance chances doing.Copied = (0 < chances.copy) × (chances.lose < 100)
-HasChance chances (doing.Cut count) = (0 < chances.cut) × (chances.lose < 100)
-HasChance chances (doing.Damaged bytes) = (0 < chances.damage) × (chances.lose < 100)
-HasChance chances (doing.Forged r) = (0 < chances.forge) × (chances.lose < 100)
-
 -- a receipt is forged
 abbrev pub IsForged : Doing → Type 0
 IsForged (doing.Forged r) = CanBeForged way.Up r
 IsForged d = ⊥
-
--- what may be done with a burst that came this way: what dice with these chances throw, or it is late
-abbrev pub MayBeDone : Chances → Way → List ℕ → Doing → Type 0
-MayBeDone chances w came doing.Late = Unit {0}
-MayBeDone chances w came d = CanBe w came d × HasChance chances d

@@ -2,4 +2,3 @@
 pub mod Brought
 pub mod Doings
 pub mod Carried
-pub mod Lossy

@@ -2,7 +2,6 @@
 ghost use Rattle.std.specs.Io.KnownBytes.{Appends, Keeps};
 ghost use Rattle.std.specs.Prelude.{◌≡◌, ◌⊎◌, ◌<◌, ◌≤◌, IfOk, OnOk, length};
 ghost use Rattle.vdcp_frame.specs.Message.{spelling};
-ghost use Rattle.vdcp_wire.specs.Wires.{adds_drop, adds_sent};
 ghost use Rattle.vdcp_lossy.specs.Brought.{HasSome};
 ghost use Rattle.vdcp_lossy.specs.Carried.{GoesUp, PassesOn, sent_by};
 ghost use Rattle.vdcp_lossy.specs.Doings.{adds_part, goes_on, joined, part_on, receipt_message};
@@ -15,7 +14,7 @@ use std::rt::Clock;
 use std::time::Instant;
 use vdcp_auto::Way;
 use vdcp_frame::write;
-use vdcp_wire::{Wire, WireFault};
+use vdcp_wire::Wire;
 
 /// Carries bursts between an automation and a server until either closes, or the turns are used up.
 pub fn carry<R: Clock, A: Wire, S: Wire, W: io::Write>(
@@ -49,7 +48,6 @@ fn take<R: Clock, A: Wire, S: Wire, W: io::Write>(
     requires automation { A.failures automation.old ≡ 0 }
     requires server { S.failures server.old ≡ 0 }
     requires some { HasSome brought command.now.items }
-    ensures settings { session.new.settings ≡ session.old.settings }
     ensures no_more { session.new.left ≤ session.old.left }
     ensures automation { OnOk result (A.failures automation.new ≡ 0) }
     ensures server { OnOk result (S.failures server.new ≡ 0) }
@@ -82,14 +80,12 @@ fn ask<R: Clock, S: Wire, W: io::Write>(
 ) -> Result<Brought, CarryFault>
     requires server { S.failures server.old ≡ 0 }
     requires some { 0 < length command.now.items }
-    ensures sent { OnOk result (PassesOn session.old.settings.chances Way.Down command.now.items (S.told server.old)
-        (S.told server.new)) }
-    ensures settings { session.new.settings ≡ session.old.settings }
+    ensures sent { OnOk result (PassesOn Way.Down command.now.items (S.told server.old) (S.told server.new)) }
     ensures no_more { session.new.left ≤ session.old.left }
     ensures some { IfOk result (λ brought. HasSome brought answer.new.items) }
     ensures server { OnOk result (S.failures server.new ≡ 0) }
 {
-    drop_waiting(server)?;
+    server.drop_waiting()?;
     let doing = session.doing(Way::Down, command, began)?;
     send_once(server, &doing, command.as_slice())?;
     session.tell(Way::Down, &doing, command.as_slice(), out)?;
@@ -114,7 +110,6 @@ fn ask_twice<R: Clock, S: Wire>(
     requires server { S.failures server.old ≡ 0 }
     ensures sent { OnOk result (Keeps (sent_by (S.told server.old)) (sent_by (S.told server.new))
         ⊎ Appends (sent_by (S.told server.old)) (sent_by (S.told server.new)) command.now.items) }
-    ensures settings { session.new.settings ≡ session.old.settings }
     ensures no_more { session.new.left ≤ session.old.left }
     ensures some { IfOk result (λ brought. HasSome brought answer.new.items) }
     ensures server { OnOk result (S.failures server.new ≡ 0) }
@@ -126,7 +121,7 @@ fn ask_twice<R: Clock, S: Wire>(
     if session.is_late(began)? {
         return Ok(first);
     }
-    send(server, command.as_slice())?;
+    server.send(command.as_slice())?;
     session.receive(server, answer)
 }
 
@@ -141,9 +136,7 @@ fn answer_with<R: Clock, A: Wire, W: io::Write>(
 ) -> Result<Option<CarryEnd>, CarryFault>
     requires automation { A.failures automation.old ≡ 0 }
     requires some { HasSome brought answer.now.items }
-    ensures sent { OnOk result (GoesUp session.old.settings.chances brought answer.now.items (A.told automation.old)
-        (A.told automation.new)) }
-    ensures settings { session.new.settings ≡ session.old.settings }
+    ensures sent { OnOk result (GoesUp brought answer.now.items (A.told automation.old) (A.told automation.new)) }
     ensures left { session.new.left ≡ session.old.left }
     ensures automation { OnOk result (A.failures automation.new ≡ 0) }
 {
@@ -176,13 +169,12 @@ fn go_up<R: Clock, A: Wire, W: io::Write>(
     requires automation { A.failures automation.old ≡ 0 }
     ensures sent { OnOk result (Appends (sent_by (A.told automation.old)) (sent_by (A.told automation.new))
         (joined (goes_on doing.now came.now))) }
-    ensures settings { session.new.settings ≡ session.old.settings }
     ensures left { session.new.left ≡ session.old.left }
     ensures automation { OnOk result (A.failures automation.new ≡ 0) }
 {
     send_once(automation, doing, came)?;
     if let Doing::Copied = doing {
-        send(automation, came)?;
+        automation.send(came)?;
     }
     session.tell(Way::Up, doing, came, out)?;
     Ok(None)
@@ -195,11 +187,11 @@ fn send_once<W: Wire>(wire: &mut W, doing: &Doing, came: &[u8]) -> Result<(), Ca
     ensures works { OnOk result (W.failures wire.new ≡ 0) }
 {
     match doing {
-        Doing::Through | Doing::Copied => send(wire, came),
+        Doing::Through | Doing::Copied => Ok(wire.send(came)?),
         Doing::Lost | Doing::Late => Ok(()),
-        Doing::Cut(count) => send(wire, &came[..(*count).min(came.len())]),
-        Doing::Damaged(bytes) => send(wire, bytes.as_slice()),
-        Doing::Forged(receipt) => send(wire, bytes_of(*receipt).as_slice()),
+        Doing::Cut(count) => Ok(wire.send(&came[..(*count).min(came.len())])?),
+        Doing::Damaged(bytes) => Ok(wire.send(bytes.as_slice())?),
+        Doing::Forged(receipt) => Ok(wire.send(bytes_of(*receipt).as_slice())?),
     }
 }
 
@@ -210,28 +202,4 @@ fn bytes_of(receipt: Receipt) -> ArrayVec<u8, 2>
     let mut bytes = ArrayVec::new();
     write(&receipt.message(), &mut bytes).unwrap();
     bytes
-}
-
-// Sends bytes, mapping a wire failure to `CarryFault::Line`.
-fn send<W: Wire>(wire: &mut W, bytes: &[u8]) -> Result<(), CarryFault>
-    requires { W.failures wire.old ≡ 0 }
-    ensures sent { OnOk result (W.told wire.new ≡ adds_sent bytes.now (W.told wire.old)) }
-    ensures works { OnOk result (W.failures wire.new ≡ 0) }
-{
-    match wire.send(bytes) {
-        Ok(()) => Ok(()),
-        Err(WireFault) => Err(CarryFault::Line),
-    }
-}
-
-// Drops what waits, mapping a wire failure to `CarryFault::Line`.
-fn drop_waiting<W: Wire>(wire: &mut W) -> Result<(), CarryFault>
-    requires { W.failures wire.old ≡ 0 }
-    ensures dropped { OnOk result (W.told wire.new ≡ adds_drop (W.told wire.old)) }
-    ensures works { OnOk result (W.failures wire.new ≡ 0) }
-{
-    match wire.drop_waiting() {
-        Ok(()) => Ok(()),
-        Err(WireFault) => Err(CarryFault::Line),
-    }
 }

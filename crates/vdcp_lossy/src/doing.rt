@@ -1,10 +1,9 @@
 //! What can be done with a burst, and how that is thrown.
-ghost use Rattle.std.specs.Prelude.{◌≡◌, ◌≢◌, ◌⊎◌, ◌<◌, ◌≤◌, ◌∷◌, List, length, true, IfSome};
+ghost use Rattle.std.specs.Prelude.{◌≡◌, ◌≢◌, ◌<◌, ◌≤◌, ◌∷◌, List, length, true, IfSome};
 ghost use Rattle.vdcp_auto.specs.declared.burst.Way.{Way};
 ghost use Rattle.vdcp_frame.specs.Burst.{messages_of};
 ghost use Rattle.vdcp_frame.specs.Message.{Content, content_of};
-ghost use Rattle.vdcp_lossy.specs.Doings.{CanBe, CanBeForged, CanBeThrown, HasChance, IsForged, receipt_message};
-ghost use Rattle.vdcp_lossy.specs.declared.doing.Chances.{Chances};
+ghost use Rattle.vdcp_lossy.specs.Doings.{CanBe, CanBeForged, IsForged, receipt_message};
 
 use crate::dice::Dice;
 use arrayvec::ArrayVec;
@@ -80,8 +79,7 @@ enum Throw {
 
 // Throws each chance in its turn, and says which one hits first.
 fn throw_chances(dice: &mut Dice, chances: &Chances, way: Way) -> Throw
-    ensures thrown { CanBeThrown chances.now result }
-    ensures down { way ≡ Way.Down → result ≢ Throw.Forged }
+    ensures { way ≡ Way.Down → result ≢ Throw.Forged }
 {
     if dice.hits(chances.lose) {
         return Throw::Lost;
@@ -106,8 +104,7 @@ impl Doing {
     pub fn of_burst(dice: &mut Dice, chances: &Chances, way: Way, came: &[u8]) -> Doing
         requires some { 0 < length came.now }
         requires held { length came.now ≤ MOST_BYTES }
-        ensures chance { HasChance chances.now result }
-        ensures can { CanBe way came.now result }
+        ensures { CanBe way came.now result }
     {
         match throw_chances(dice, chances, way) {
             Throw::Through => Doing::Through,
@@ -121,8 +118,7 @@ impl Doing {
 
     /// The forged receipt, if any, for a command that gets no answer.
     pub fn of_nothing(dice: &mut Dice, chances: &Chances) -> Option<Doing>
-        ensures chance { IfSome result (HasChance chances.now) }
-        ensures forged { IfSome result IsForged }
+        ensures { IfSome result IsForged }
     {
         match throw_chances(dice, chances, Way::Up) {
             Throw::Forged => Some(Doing::Forged(throw_receipt(dice))),
@@ -133,8 +129,7 @@ impl Doing {
 
 // Two copies go up as one burst, of which the first message is heard: so they are made if there is one.
 fn copied(way: Way, came: &[u8]) -> Doing
-    ensures kind { (result ≡ Doing.Through) ⊎ (result ≡ Doing.Copied) }
-    ensures can { CanBe way came.now result }
+    ensures { CanBe way came.now result }
 {
     match way {
         Way::Down => Doing::Copied,
@@ -153,8 +148,7 @@ fn begins_with_message(burst: &[u8]) -> bool
 // Some of the first bytes go on, not all; of a burst of one byte none, so it is lost.
 fn cut(dice: &mut Dice, came: &[u8]) -> Doing
     requires { 0 < length came.now }
-    ensures chance { (chances : Chances) → 0 < chances.cut → chances.lose < 100 → HasChance chances result }
-    ensures can { (way : Way) → CanBe way came.now result }
+    ensures { (way : Way) → CanBe way came.now result }
 {
     if came.len() == 1 {
         return Doing::Lost;
@@ -171,8 +165,7 @@ fn cut(dice: &mut Dice, came: &[u8]) -> Doing
 fn damaged(dice: &mut Dice, came: &[u8]) -> Doing
     requires some { 0 < length came.now }
     requires held { length came.now ≤ MOST_BYTES }
-    ensures chance { (chances : Chances) → 0 < chances.damage → chances.lose < 100 → HasChance chances result }
-    ensures can { (way : Way) → CanBe way came.now result }
+    ensures { (way : Way) → CanBe way came.now result }
 {
     let mut bytes = HeldBurst::new();
     bytes.try_extend_from_slice(came).unwrap();

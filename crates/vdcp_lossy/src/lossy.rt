@@ -1,10 +1,4 @@
 //! The subcommand `lossy`: it joins an automation and a server.
-ghost use Rattle.std.specs.Io.KnownBytes.{Appends, Keeps};
-ghost use Rattle.std.specs.Prelude.{◌≡◌, ◌⊎◌, ◌++◌, IfErr, OnOk};
-ghost use Rattle.vdcp_lossy.specs.Lossy.{IsUncarried};
-ghost use Rattle.vdcp_wire.specs.Address.{IsAddress};
-ghost use Rattle.vdcp_text.specs.Failure.{failure_line, status_of};
-
 use crate::carry::carry;
 use crate::doing::Chances;
 use crate::session::{CarryEnd, CarryFault, Session};
@@ -50,16 +44,7 @@ pub fn do_lossy<R: Net + Clock, L: io::Write + Drop, W: io::Write, E: io::Write>
     capture: Option<L>,
     out: &mut W,
     err: &mut E,
-) -> u8
-    ensures whole { result ≡ 0 → IsAddress address.now × IsAddress server.now }
-    ensures untold { result ≡ 0 → Keeps (E.contents err.old) (E.contents err.new) }
-    // The status is 2 for an address that is none, unless this can't be told.
-    ensures no_address { result ≡ 2 → ((¬ IsAddress address.now) ⊎ (¬ IsAddress server.now))
-        × Appends (E.contents err.old) (E.contents err.new) (failure_line Failure.Address) }
-    ensures address { ((¬ IsAddress address.now) ⊎ (¬ IsAddress server.now))
-        → ((result ≡ 2) ⊎ (result ≡ 3)) × Keeps (W.contents out.old) (W.contents out.new) }
-    ensures statuses { (result ≡ 0) ⊎ (result ≡ 2) ⊎ (result ≡ 3) }
-{
+) -> u8 {
     let log = Log::new(Telling::Nothing, capture, Side::Server);
     match lossy(rt, address, server, settings, log, out) {
         Ok(()) => 0,
@@ -75,10 +60,7 @@ fn lossy<R: Net + Clock, L: io::Write + Drop, W: io::Write>(
     settings: LossySettings,
     log: Log<L>,
     out: &mut W,
-) -> Result<(), Failure<'static>>
-    ensures whole { OnOk result (IsAddress address.now × IsAddress server.now) }
-    ensures uncarried { IfErr result (IsUncarried address.now server.now (W.contents out.old) (W.contents out.new)) }
-{
+) -> Result<(), Failure<'static>> {
     let Ok(address) = address_of(address) else {
         return Err(Failure::Address);
     };
@@ -97,9 +79,7 @@ fn carry_between<R: Net + Clock, L: io::Write + Drop, W: io::Write>(
     settings: LossySettings,
     log: &Log<L>,
     out: &mut W,
-) -> Result<(), Failure<'static>>
-    ensures failed { IfErr result (λ e. status_of e ≡ 3) }
-{
+) -> Result<(), Failure<'static>> {
     let near = match accept_one(rt, address, out) {
         Ok(stream) => stream,
         Err(AcceptFault::Bind) => return Err(Failure::Bind),

@@ -1,10 +1,9 @@
 //! The state of a line while it is run, and why it ends.
 ghost use Rattle.std.specs.Io.KnownBytes.{Keeps};
 ghost use Rattle.std.specs.Prelude.{◌≡◌, ◌<◌, ◌≤◌, OnOk, IfOk, IfSome, length};
-ghost use Rattle.vdcp_wire.specs.Wires.{FitsBuffer, adds_came, arrival_of};
 ghost use Rattle.vdcp_lossy.specs.Brought.{HasSome};
 ghost use Rattle.vdcp_lossy.specs.Carried.{sent_by};
-ghost use Rattle.vdcp_lossy.specs.Doings.{HasChance, IsForged, MayBeDone};
+ghost use Rattle.vdcp_lossy.specs.Doings.{CanBe, IsForged};
 
 use crate::dice::Dice;
 use crate::doing::{Doing, HeldBurst};
@@ -35,6 +34,12 @@ pub enum CarryFault {
     Writer,
 }
 
+impl From<WireFault> for CarryFault {
+    fn from(_: WireFault) -> Self {
+        CarryFault::Line
+    }
+}
+
 /// What a wire brought.
 #[derive(Clone, Copy, PartialEq, Eq)]
 pub enum Brought {
@@ -59,9 +64,7 @@ pub struct Session<'a, R: Clock> {
 
 impl<'a, R: Clock> Session<'a, R> {
     /// Nothing came yet.
-    pub fn new(clock: &'a R, settings: LossySettings) -> Self
-        ensures settings { result.settings ≡ settings }
-    {
+    pub fn new(clock: &'a R, settings: LossySettings) -> Self {
         Session {
             clock,
             settings,
@@ -94,7 +97,6 @@ impl<'a, R: Clock> Session<'a, R> {
         ensures some { IfOk result (λ brought. HasSome brought burst.new.items) }
         ensures sent { OnOk result (Keeps (sent_by (W.told wire.old)) (sent_by (W.told wire.new))) }
         ensures works { OnOk result (W.failures wire.new ≡ 0) }
-        ensures settings { self.new.settings ≡ self.old.settings }
     {
         burst.clear();
         let mut began = None;
@@ -102,7 +104,7 @@ impl<'a, R: Clock> Session<'a, R> {
         let mut buffer = [0; PIECE];
         'listens: while self.left > 0 {
             self.left -= 1;
-            match listen(wire, &mut buffer)? {
+            match wire.listen(&mut buffer)? {
                 Came::Bytes(0) => {}
                 Came::Bytes(n) => {
                     if began.is_none() {
@@ -125,16 +127,14 @@ impl<'a, R: Clock> Session<'a, R> {
 
     /// Counts a command.
     pub fn count_command(&mut self)
-        ensures left { self.new.left ≡ self.old.left }
-        ensures settings { self.new.settings ≡ self.old.settings }
+        ensures { self.new.left ≡ self.old.left }
     {
         self.tally.count_command();
     }
 
     /// Counts an answer.
     pub fn count_answer(&mut self)
-        ensures left { self.new.left ≡ self.old.left }
-        ensures settings { self.new.settings ≡ self.old.settings }
+        ensures { self.new.left ≡ self.old.left }
     {
         self.tally.count_answer();
     }
@@ -148,7 +148,7 @@ impl<'a, R: Clock> Session<'a, R> {
     /// What is done with a burst that came on this way.
     pub fn doing(&self, way: Way, burst: &HeldBurst, began: Instant) -> Result<Doing, CarryFault>
         requires { 0 < length burst.now.items }
-        ensures { IfOk result (MayBeDone self.now.settings.chances way burst.now.items) }
+        ensures { IfOk result (CanBe way burst.now.items) }
     {
         if self.is_late(began)? {
             return Ok(Doing::Late);
@@ -159,8 +159,7 @@ impl<'a, R: Clock> Session<'a, R> {
 
     /// The forged receipt, if any, for a command that came then and got no answer.
     pub fn forged(&self, began: Instant) -> Result<Option<Doing>, CarryFault>
-        ensures chance { IfOk result (λ forged. IfSome forged (HasChance self.now.settings.chances)) }
-        ensures forged { IfOk result (λ forged. IfSome forged IsForged) }
+        ensures { IfOk result (λ forged. IfSome forged IsForged) }
     {
         if self.is_late(began)? {
             return Ok(None);
@@ -186,8 +185,7 @@ impl<'a, R: Clock> Session<'a, R> {
         came: &[u8],
         out: &mut W,
     ) -> Result<(), CarryFault>
-        ensures left { self.new.left ≡ self.old.left }
-        ensures settings { self.new.settings ≡ self.old.settings }
+        ensures { self.new.left ≡ self.old.left }
     {
         let number = self.tally.commands;
         self.tally.count(doing);
@@ -195,19 +193,6 @@ impl<'a, R: Clock> Session<'a, R> {
             Ok(()) => Ok(()),
             Err(_) => Err(CarryFault::Writer),
         }
-    }
-}
-
-// Listens once, mapping a wire failure to `CarryFault::Line`.
-fn listen<W: Wire>(wire: &mut W, buffer: &mut [u8; PIECE]) -> Result<Came, CarryFault>
-    requires { W.failures wire.old ≡ 0 }
-    ensures fits { IfOk result FitsBuffer }
-    ensures came { IfOk result (λ c. W.told wire.new ≡ adds_came (arrival_of c buffer.new) (W.told wire.old)) }
-    ensures works { OnOk result (W.failures wire.new ≡ 0) }
-{
-    match wire.listen(buffer) {
-        Ok(came) => Ok(came),
-        Err(WireFault) => Err(CarryFault::Line),
     }
 }
 

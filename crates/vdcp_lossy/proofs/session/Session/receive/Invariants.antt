@@ -9,7 +9,6 @@ abbrev pub invariant-listens : goal.invariant-listens
 invariant-listens g l = record {
   works : g.W.Wire.failures l.wire ≡ 0;
   sent : Keeps (sent_by (g.W.Wire.told l.initial.wire)) (sent_by (g.W.Wire.told l.wire));
-  settings : l.self.settings ≡ l.initial.self.settings;
   left : l.self.left ≤ l.initial.self.left;
   some : IsNone l.began ⊎ (l.is_long ≡ true) ⊎ (0 < length l.burst.items);
 }
