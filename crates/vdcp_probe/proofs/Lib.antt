@@ -1,2 +1,2 @@
 -- The lemmas, file by file.
-pub mod Turns
+mod Clips

@@ -2,12 +2,9 @@
 -- got done, and what plays may have ended.
 use Rattle.std.specs.Prelude.{ℕ, ◌≡◌, ◌≢◌, List, [], ◌∷◌, ◌++◌}
 use Rattle.vdcp_port.specs.Answers.{after_burst, sent_for}
-use Rattle.vdcp_port.specs.Clock.{ClockedPort, after_ended, after_ready, new_port}
+use Rattle.vdcp_port.specs.Clock.{ClockedPort, after_ended, after_ready}
 use Rattle.vdcp_probe.specs.declared.follower.Meanwhile.{Meanwhile}
 use Rattle.vdcp_probe.specs.declared.follower.Meanwhile.TheVariants.{Nothing, CueDone, ClipEnded, Both}
-use Rattle.vdcp_probe.specs.declared.follower.Turn.{Turn}
-use Rattle.vdcp_value.specs.declared.clip_id.ClipId.{ClipId}
-use Rattle.vdcp_value.specs.declared.timecode.Timecode.{Timecode}
 
 abbrev pub changed_by : Meanwhile → ClockedPort → ClockedPort
 changed_by Nothing p = p
@@ -37,11 +34,3 @@ pub record LacksCut (p : ClockedPort) (burst came : List ℕ) : Type 0 where
 -- what came for a burst is none of what the port may answer
 abbrev pub IsUnforeseen : ClockedPort → List ℕ → List ℕ → Type 0
 IsUnforeseen p burst came = (meanwhile : Meanwhile) → came ≢ answer_after meanwhile p burst
-
--- the port after these turns, one after another
-abbrev pub after_turns : ClockedPort → List Turn → ClockedPort
-after_turns p [] = p
-after_turns p (turn ∷ turns) = after_turns (port_after turn.meanwhile p turn.burst.items) turns
-
-abbrev pub followed : List (ClipId × Timecode) → ℕ → ℕ → List Turn → ClockedPort
-followed clips unit number turns = after_turns (new_port clips unit number 1) turns

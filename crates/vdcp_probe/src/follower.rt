@@ -1,12 +1,12 @@
 //! The port that a server is held against, and its answers.
-ghost use Rattle.std.specs.Prelude.{◌≡◌, ◌≢◌, ◌≤◌, IfOk, IfSome, IfNone, OnOk, true, false};
-ghost use Rattle.vdcp_port.specs.Clock.{ClockedPort};
+ghost use Rattle.std.specs.Prelude.{◌≡◌, ◌*◌, ◌≤◌, IfNone, IfOk, IfSome};
+ghost use Rattle.vdcp_port.specs.Clock.{new_port};
 ghost use Rattle.vdcp_port.specs.Port.{state_byte};
-ghost use Rattle.vdcp_probe.specs.Following.{IsUnforeseen, after_turns, answer_after, changed_by, followed, port_after};
+ghost use Rattle.vdcp_probe.specs.Following.{IsForeseen, IsUnforeseen, answer_after, changed_by, port_after};
 
-use crate::naming::Naming;
 use std::alloc::{AllocError, Global};
-use vdcp_port::{Catalogue, Port};
+use std::marker::Model;
+use vdcp_port::{Catalogue, Kept, Port};
 use vdcp_value::{ClipId, Timecode};
 
 /// What happened at a port by itself.
@@ -20,12 +20,13 @@ pub enum Meanwhile {
     Both,
 }
 
-/// A burst that was sent, and what happened at the port before it.
-#[derive(Drop)]
-pub struct Turn {
-    pub meanwhile: Meanwhile,
-    pub burst: Vec<u8>,
-}
+/// What may have happened, the least first.
+const ALL: [Meanwhile; 4] = [
+    Meanwhile::Nothing,
+    Meanwhile::CueDone,
+    Meanwhile::ClipEnded,
+    Meanwhile::Both,
+];
 
 /// The clips of a catalogue that is lent.
 #[derive(Clone, Copy)]
@@ -39,40 +40,105 @@ impl<C: Catalogue> Catalogue for Lent<'_, C> {
     }
 }
 
-/// The port that these turns leave of a new one, with the catalogue's clips, this unit address and this number.
-fn replay<'a, C: Catalogue>(
-    alloc: Global,
+/// The port that a server is held against: it gets the bursts that the server gets.
+#[derive(Drop)]
+pub struct Follower<'a, C: Catalogue> {
     catalogue: &'a C,
-    unit: u8,
-    number: u8,
-    turns: &[Turn],
-) -> Result<Port<Lent<'a, C>>, AllocError>
-    requires { unit ≤ 15 }
-    ensures { IfOk result (λ port. port ≡ followed (C.clips catalogue.now) unit number turns.now) }
-{
-    let mut port = Port::new(Lent(catalogue), unit, number);
-    for k in 0..turns.len() {
-        let turn = &turns[k];
-        answer_after(alloc, turn.meanwhile, turn.burst.as_slice(), &mut port)?;
-    }
-    Ok(port)
+    kept: Kept,
 }
 
-/// This happens at the port, and then it answers the burst.
-fn answer_after<C: Catalogue>(
-    alloc: Global,
-    meanwhile: Meanwhile,
-    burst: &[u8],
-    port: &mut Port<C>,
-) -> Result<Vec<u8>, AllocError>
-    ensures answer { IfOk result (λ answer. answer.items ≡ answer_after meanwhile port.old burst.now) }
-    ensures next { OnOk result (port.new ≡ port_after meanwhile port.old burst.now) }
-{
-    let mut answer = Vec::new(alloc);
-    let mut aired = Vec::new(alloc);
-    change(meanwhile, port);
-    port.burst_answer(burst, &mut answer, &mut aired)?;
-    Ok(answer)
+impl<'a, C: Catalogue> Model for Follower<'a, C> {
+    ghost use Rattle.vdcp_port.specs.Clock.{ClockedPort};
+    ghost use Rattle.vdcp_port.specs.Held.{CanKeep, port_of};
+
+    ghost Value = { ClockedPort };
+
+    ghost view = { λ f. port_of (C.clips f.catalogue.now) f.kept };
+
+    ghost invariant = { λ f. CanKeep (C.clips f.catalogue.now) f.kept };
+}
+
+impl<'a, C: Catalogue> Follower<'a, C> {
+    /// A new port with the catalogue's clips, this unit address and this number.
+    pub fn new(catalogue: &'a C, unit: u8, number: u8) -> Self
+        requires { unit ≤ 15 }
+        ensures { result ≡ new_port (C.clips catalogue.now) unit number 1 }
+    {
+        let kept = Port::new(Lent(catalogue), unit, number).kept();
+        Follower { catalogue, kept }
+    }
+
+    // The port as it stands.
+    fn port(&self) -> Port<Lent<'a, C>>
+        ensures { result ≡ self.now }
+    {
+        Port::of_kept(Lent(self.catalogue), &self.kept)
+    }
+
+    // The same with this port.
+    fn moved_to(&self, port: &Port<Lent<'a, C>>) -> Self
+        requires { port.now.clips ≡ self.now.clips }
+        ensures { result ≡ port.now }
+    {
+        Follower {
+            catalogue: self.catalogue,
+            kept: port.kept(),
+        }
+    }
+
+    /// The port's state byte.
+    pub fn status_byte(&self) -> u8
+        ensures { result ≡ state_byte self.now.state }
+    {
+        self.port().status_byte()
+    }
+
+    // What comes for a burst if this happened before it, and the port then.
+    fn answer_after(
+        &self,
+        alloc: Global,
+        meanwhile: Meanwhile,
+        burst: &[u8],
+    ) -> Result<(Vec<u8>, Self), AllocError>
+        ensures { IfOk result (λ after. (after.0.items ≡ answer_after meanwhile self.now burst.now)
+            × (after.1 ≡ port_after meanwhile self.now burst.now)) }
+    {
+        let mut port = self.port();
+        let mut answer = Vec::new(alloc);
+        let mut aired = Vec::new(alloc);
+        change(meanwhile, &mut port);
+        port.burst_answer(burst, &mut answer, &mut aired)?;
+        Ok((answer, self.moved_to(&port)))
+    }
+
+    /// The port after a burst, if what came is what it may answer.
+    pub fn after(
+        &self,
+        alloc: Global,
+        burst: &[u8],
+        came: &[u8],
+    ) -> Result<Option<Self>, AllocError>
+        ensures foreseen { IfOk result (λ found. IfSome found (λ next. IsForeseen self.now burst.now came.now next)) }
+        ensures unforeseen { IfOk result (λ found. IfNone found (IsUnforeseen self.now burst.now came.now)) }
+    {
+        for meanwhile in ALL {
+            let (answer, next) = self.answer_after(alloc, meanwhile, burst)?;
+            if answer.as_slice() == came {
+                return Ok(Some(next));
+            }
+        }
+        Ok(None)
+    }
+
+    /// What may come for a burst, each of it once.
+    pub fn may_come(&self, alloc: Global, burst: &[u8]) -> Result<Vec<Vec<u8>>, AllocError> {
+        let mut answers = Vec::new(alloc);
+        for meanwhile in ALL {
+            let (answer, _) = self.answer_after(alloc, meanwhile, burst)?;
+            add_new(answer, &mut answers)?;
+        }
+        Ok(answers)
+    }
 }
 
 /// This happens at the port.
@@ -90,127 +156,6 @@ fn change<C: Catalogue>(meanwhile: Meanwhile, port: &mut Port<C>)
     }
 }
 
-/// What comes for a burst after these turns, if this happened before it.
-fn answer_so<C: Catalogue>(
-    alloc: Global,
-    catalogue: &C,
-    naming: &Naming,
-    turns: &[Turn],
-    meanwhile: Meanwhile,
-    burst: &[u8],
-) -> Result<Vec<u8>, AllocError>
-    requires { naming.now.unit ≤ 15 }
-    ensures { IfOk result (λ answer. answer.items
-        ≡ answer_after meanwhile (followed (C.clips catalogue.now) naming.now.unit naming.now.port turns.now) burst.now) }
-{
-    let mut port = replay(alloc, catalogue, naming.unit, naming.port, turns)?;
-    answer_after(alloc, meanwhile, burst, &mut port)
-}
-
-/// Whether this is what comes for a burst after these turns, if this happened before it.
-fn is_answer<C: Catalogue>(
-    alloc: Global,
-    catalogue: &C,
-    naming: &Naming,
-    turns: &[Turn],
-    meanwhile: Meanwhile,
-    burst: &[u8],
-    came: &[u8],
-) -> Result<bool, AllocError>
-    requires { naming.now.unit ≤ 15 }
-    ensures yes { IfOk result (λ is. is ≡ true → came.now
-        ≡ answer_after meanwhile (followed (C.clips catalogue.now) naming.now.unit naming.now.port turns.now) burst.now) }
-    ensures no { IfOk result (λ is. is ≡ false → came.now
-        ≢ answer_after meanwhile (followed (C.clips catalogue.now) naming.now.unit naming.now.port turns.now) burst.now) }
-{
-    let answer = answer_so(alloc, catalogue, naming, turns, meanwhile, burst)?;
-    Ok(answer.as_slice() == came)
-}
-
-/// What happened before a burst after these turns, if what came is what the port may answer.
-pub fn happened<C: Catalogue>(
-    alloc: Global,
-    catalogue: &C,
-    naming: &Naming,
-    turns: &[Turn],
-    burst: &[u8],
-    came: &[u8],
-) -> Result<Option<Meanwhile>, AllocError>
-    requires { naming.now.unit ≤ 15 }
-    ensures foreseen { IfOk result (λ found. IfSome found (λ meanwhile. came.now
-        ≡ answer_after meanwhile (followed (C.clips catalogue.now) naming.now.unit naming.now.port turns.now) burst.now)) }
-    ensures unforeseen { IfOk result (λ found. IfNone found (IsUnforeseen
-        (followed (C.clips catalogue.now) naming.now.unit naming.now.port turns.now) burst.now came.now)) }
-{
-    if is_answer(
-        alloc,
-        catalogue,
-        naming,
-        turns,
-        Meanwhile::Nothing,
-        burst,
-        came,
-    )? {
-        return Ok(Some(Meanwhile::Nothing));
-    }
-    if is_answer(
-        alloc,
-        catalogue,
-        naming,
-        turns,
-        Meanwhile::CueDone,
-        burst,
-        came,
-    )? {
-        return Ok(Some(Meanwhile::CueDone));
-    }
-    if is_answer(
-        alloc,
-        catalogue,
-        naming,
-        turns,
-        Meanwhile::ClipEnded,
-        burst,
-        came,
-    )? {
-        return Ok(Some(Meanwhile::ClipEnded));
-    }
-    if is_answer(
-        alloc,
-        catalogue,
-        naming,
-        turns,
-        Meanwhile::Both,
-        burst,
-        came,
-    )? {
-        return Ok(Some(Meanwhile::Both));
-    }
-    Ok(None)
-}
-
-/// What may come for a burst after these turns, each of it once.
-pub fn may_come<C: Catalogue>(
-    alloc: Global,
-    catalogue: &C,
-    naming: &Naming,
-    turns: &[Turn],
-    burst: &[u8],
-) -> Result<Vec<Vec<u8>>, AllocError>
-    requires { naming.now.unit ≤ 15 }
-{
-    let mut answers = Vec::new(alloc);
-    let answer = answer_so(alloc, catalogue, naming, turns, Meanwhile::Nothing, burst)?;
-    add_new(answer, &mut answers)?;
-    let answer = answer_so(alloc, catalogue, naming, turns, Meanwhile::CueDone, burst)?;
-    add_new(answer, &mut answers)?;
-    let answer = answer_so(alloc, catalogue, naming, turns, Meanwhile::ClipEnded, burst)?;
-    add_new(answer, &mut answers)?;
-    let answer = answer_so(alloc, catalogue, naming, turns, Meanwhile::Both, burst)?;
-    add_new(answer, &mut answers)?;
-    Ok(answers)
-}
-
 fn add_new(answer: Vec<u8>, answers: &mut Vec<Vec<u8>>) -> Result<(), AllocError> {
     for known in answers.iter() {
         if known.as_slice() == answer.as_slice() {
@@ -218,35 +163,5 @@ fn add_new(answer: Vec<u8>, answers: &mut Vec<Vec<u8>>) -> Result<(), AllocError
         }
     }
     answers.push(answer)?;
-    Ok(())
-}
-
-/// The state byte of the port after these turns.
-pub fn state_after<C: Catalogue>(
-    alloc: Global,
-    catalogue: &C,
-    naming: &Naming,
-    turns: &[Turn],
-) -> Result<u8, AllocError>
-    requires { naming.now.unit ≤ 15 }
-    ensures { IfOk result (λ state. state
-        ≡ state_byte (followed (C.clips catalogue.now) naming.now.unit naming.now.port turns.now).state) }
-{
-    Ok(replay(alloc, catalogue, naming.unit, naming.port, turns)?.status_byte())
-}
-
-/// Appends a turn.
-#[tactic(auto, using(crate::proofs::Turns::one_more))]
-pub fn add_turn(
-    alloc: Global,
-    meanwhile: Meanwhile,
-    burst: &[u8],
-    turns: &mut Vec<Turn>,
-) -> Result<(), AllocError>
-    ensures { (p : ClockedPort) → OnOk result
-        (after_turns p turns.new.items ≡ port_after meanwhile (after_turns p turns.old.items) burst.now) }
-{
-    let burst = Vec::from_slice(alloc, burst)?;
-    turns.push(Turn { meanwhile, burst })?;
     Ok(())
 }

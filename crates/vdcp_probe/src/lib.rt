@@ -3,8 +3,8 @@
 //!
 //! `do_probe` puts rows of the table to a server over TCP, `probe_rows` over any `Wire`. `rows` gives the rows of the
 //! program. A `Row` brings the port to a `Start`, and then takes its `Step`s. Each burst that a step sends is
-//! also given to a port of `vdcp_port`, and `hold_answer` holds what comes against what that may answer, whatever got
-//! done or ended by itself before the burst.
+//! also given to a `Follower`, a port of `vdcp_port`, and `hold_answer` holds what comes against what that may answer,
+//! whatever got done or ended by itself before the burst.
 //!
 //! Files, in reading order: `row`, `table`, `naming`, `asking`, `follower`, `walk`, `reading`, `report`, `settings`,
 //! `probe`, `bounded`, `inventory`.
@@ -23,7 +23,7 @@ mod settings;
 mod table;
 mod walk;
 
-pub use follower::{Meanwhile, Turn};
+pub use follower::Follower;
 pub use inventory::{AskSettings, do_ask};
 pub use naming::Naming;
 pub use probe::{do_probe, probe_rows};

@@ -1,10 +1,10 @@
 //! How a row is put to a server, step by step.
 ghost use Rattle.std.specs.Prelude.{◌≡◌, ◌≤◌, IfOk, IfSome, IsSome, None, OnOk};
-ghost use Rattle.vdcp_probe.specs.Following.{IsForeseen, IsUnforeseen, LacksCut, followed};
+ghost use Rattle.vdcp_probe.specs.Following.{IsForeseen, IsUnforeseen, LacksCut};
 ghost use Rattle.vdcp_probe.specs.Walks.{is_reached};
 
 use crate::asking::ask;
-use crate::follower::{Turn, add_turn, happened, may_come, state_after};
+use crate::follower::Follower;
 use crate::naming::Naming;
 use crate::reading::difference;
 use crate::report::{Cause, Difference};
@@ -65,11 +65,11 @@ fn walk<C: Catalogue, W: Wire>(
     requires works { W.failures wire.old ≡ 0 }
     ensures works { OnOk result (W.failures wire.new ≡ 0) }
 {
-    let mut turns = Vec::new(alloc);
+    let mut follower = Follower::new(catalogue, naming.unit, naming.port);
     let mut burst = Vec::new(alloc);
     for k in 0..steps.len() {
         let step = &steps[k];
-        let differs = take_step(alloc, catalogue, naming, step, &mut burst, &mut turns, wire)?;
+        let differs = take_step(alloc, naming, step, &mut burst, &mut follower, wire)?;
         if differs.is_some() {
             return Ok(differs);
         }
@@ -79,11 +79,10 @@ fn walk<C: Catalogue, W: Wire>(
 
 fn take_step<C: Catalogue, W: Wire>(
     alloc: Global,
-    catalogue: &C,
     naming: &Naming,
     step: &Step,
     burst: &mut Vec<u8>,
-    turns: &mut Vec<Turn>,
+    follower: &mut Follower<C>,
     wire: &mut W,
 ) -> Result<Option<Difference>, Failure<'static>>
     requires unit { naming.now.unit ≤ 15 }
@@ -92,11 +91,11 @@ fn take_step<C: Catalogue, W: Wire>(
 {
     match step {
         Step::Send => {
-            let differs = hold(alloc, catalogue, naming, burst.as_slice(), turns, wire)?;
+            let differs = hold(alloc, burst.as_slice(), follower, wire)?;
             burst.clear();
             Ok(differs)
         }
-        Step::Await(awaited) => wait(alloc, catalogue, naming, *awaited, turns, wire),
+        Step::Await(awaited) => wait(alloc, naming, *awaited, follower, wire),
         _ => {
             naming.add_step(step, burst)?;
             Ok(None)
@@ -107,10 +106,9 @@ fn take_step<C: Catalogue, W: Wire>(
 // Asks for the state until it is as awaited.
 fn wait<C: Catalogue, W: Wire>(
     alloc: Global,
-    catalogue: &C,
     naming: &Naming,
     awaited: Awaited,
-    turns: &mut Vec<Turn>,
+    follower: &mut Follower<C>,
     wire: &mut W,
 ) -> Result<Option<Difference>, Failure<'static>>
     requires unit { naming.now.unit ≤ 15 }
@@ -121,16 +119,15 @@ fn wait<C: Catalogue, W: Wire>(
     naming.add_ask(&Status(0x01), &mut status)?;
     let status = status.as_slice();
     'polls: for _ in 0..MOST_POLLS {
-        let differs = hold(alloc, catalogue, naming, status, turns, wire)?;
+        let differs = hold(alloc, status, follower, wire)?;
         if differs.is_some() {
             return Ok(differs);
         }
-        let state = state_after(alloc, catalogue, naming, turns.as_slice())?;
-        if is_reached(awaited, state) {
+        if is_reached(awaited, follower.status_byte()) {
             return Ok(None);
         }
     }
-    let answers = may_come(alloc, catalogue, naming, turns.as_slice(), status)?;
+    let answers = follower.may_come(alloc, status)?;
     let text = overdue(alloc, status, answers.as_slice())?;
     let cause = Cause::Overdue;
     Ok(Some(Difference { text, cause }))
@@ -154,82 +151,57 @@ fn overdue(alloc: Global, status: &[u8], answers: &[Vec<u8>]) -> Result<String, 
     }
 }
 
-// Sends a burst to a server that has got these turns, and holds what comes against the port.
+// Sends a burst to a server, and holds what comes against the port that got the same before.
 fn hold<C: Catalogue, W: Wire>(
     alloc: Global,
-    catalogue: &C,
-    naming: &Naming,
     burst: &[u8],
-    turns: &mut Vec<Turn>,
+    follower: &mut Follower<C>,
     wire: &mut W,
 ) -> Result<Option<Difference>, Failure<'static>>
-    requires unit { naming.now.unit ≤ 15 }
     requires works { W.failures wire.old ≡ 0 }
     ensures works { OnOk result (W.failures wire.new ≡ 0) }
 {
     let came = ask(alloc, burst, wire)?;
-    Ok(hold_answer(alloc, catalogue, naming, burst, came.as_slice(), turns)?)
+    Ok(hold_answer(alloc, burst, came.as_slice(), follower)?)
 }
 
-/// Holds what came for a burst, after these turns, against what the port may answer that got the same. If it is none of
-/// this, that is the difference; else the burst is one turn more.
+/// Holds what came for a burst against what the port may answer that got the same before. If it is none of this, that is
+/// the difference; else the port has got the burst, too.
 pub fn hold_answer<C: Catalogue>(
     alloc: Global,
-    catalogue: &C,
-    naming: &Naming,
     burst: &[u8],
     came: &[u8],
-    turns: &mut Vec<Turn>,
+    follower: &mut Follower<C>,
 ) -> Result<Option<Difference>, AllocError>
-    requires { naming.now.unit ≤ 15 }
-    ensures differs { IfOk result (λ found. IsSome found → IsUnforeseen
-        (followed (C.clips catalogue.now) naming.now.unit naming.now.port turns.old.items) burst.now came.now) }
-    ensures awaiting { IfOk result (λ found. IfSome found (λ difference. difference.cause ≡ Cause.Awaiting → LacksCut
-        (followed (C.clips catalogue.now) naming.now.unit naming.now.port turns.old.items) burst.now came.now)) }
-    ensures kept { IfOk result (λ found. found ≡ None → IsForeseen
-        (followed (C.clips catalogue.now) naming.now.unit naming.now.port turns.old.items) burst.now came.now
-        (followed (C.clips catalogue.now) naming.now.unit naming.now.port turns.new.items)) }
+    ensures differs { IfOk result (λ found. IsSome found → IsUnforeseen follower.old burst.now came.now) }
+    ensures awaiting { IfOk result (λ found. IfSome found (λ difference. difference.cause ≡ Cause.Awaiting →
+        LacksCut follower.old burst.now came.now)) }
+    ensures kept { IfOk result (λ found. found ≡ None → IsForeseen follower.old burst.now came.now follower.new) }
 {
-    match happened(alloc, catalogue, naming, turns.as_slice(), burst, came)? {
-        Some(meanwhile) => {
-            add_turn(alloc, meanwhile, burst, turns)?;
-            Ok(None)
-        }
-        None => {
-            let answers = may_come(alloc, catalogue, naming, turns.as_slice(), burst)?;
-            let text = difference(alloc, burst, came, answers.as_slice())?;
-            let is_late = may_be_late(came, answers.as_slice());
-            let cause = cause_of(
-                alloc,
-                catalogue,
-                naming,
-                burst,
-                came,
-                turns.as_slice(),
-                is_late,
-            )?;
-            Ok(Some(Difference { text, cause }))
-        }
+    if let Some(next) = follower.after(alloc, burst, came)? {
+        *follower = next;
+        return Ok(None);
     }
+    let answers = follower.may_come(alloc, burst)?;
+    let text = difference(alloc, burst, came, answers.as_slice())?;
+    let is_late = may_be_late(came, answers.as_slice());
+    let cause = cause_of(alloc, burst, came, follower, is_late)?;
+    Ok(Some(Difference { text, cause }))
 }
 
-// How that differs which came for a burst after these turns.
+// How that differs which came for a burst.
 fn cause_of<C: Catalogue>(
     alloc: Global,
-    catalogue: &C,
-    naming: &Naming,
     burst: &[u8],
     came: &[u8],
-    turns: &[Turn],
+    follower: &Follower<C>,
     is_late: bool,
 ) -> Result<Cause, AllocError>
-    requires { naming.now.unit ≤ 15 }
-    ensures awaiting { IfOk result (λ cause. cause ≡ Cause.Awaiting → LacksCut
-        (followed (C.clips catalogue.now) naming.now.unit naming.now.port turns.now) burst.now came.now) }
+    ensures { IfOk result (λ cause. cause ≡ Cause.Awaiting → LacksCut follower.now burst.now came.now) }
 {
     let mut whole = Vec::from_slice(alloc, came)?;
     whole.extend_from_slice(&[0x05, 0x80])?;
-    match happened(alloc, catalogue, naming, turns, burst, whole.as_slice())? {
+    match follower.after(alloc, burst, whole.as_slice())? {
         Some(_) => Ok(Cause::Awaiting),
         None if is_late => Ok(Cause::Late),
         None => Ok(Cause::Otherwise),
