@@ -1,11 +1,10 @@
 -- A port that is kept from one connection to the next.
-use Rattle.std.specs.Prelude.{ℕ, suc, ◌≡◌, ◌⊎◌, ◌-◌, ◌++◌, ◌∷◌, Bool, List, ⊤, [], Option, None, Some, Result, Ok, Err}
+use Rattle.std.specs.Prelude.{ℕ, suc, ◌≡◌, ◌-◌, Bool, ⊤, [], Option, None, Some, Result, Ok, Err}
 use Rattle.vdcp_frame.specs.Progress.{reading}
 use Rattle.vdcp_port.specs.Clock.{ClockedPort, after_frame}
 use Rattle.vdcp_drive.specs.ServeLeaves.{ServeLeaves}
 use Rattle.vdcp_drive.specs.Serving.{Serving}
 use Rattle.vdcp_drive.specs.declared.line.DriveFault.{DriveFault}
-use Rattle.vdcp_drive.specs.declared.line.DriveFault.TheVariants as fault
 use Rattle.vdcp_drive.specs.declared.line.Ran.{Ran}
 use Rattle.vdcp_drive.specs.declared.line.Ran.TheVariants as ran
 use Rattle.vdcp_wire.specs.Acts.{Act}
@@ -57,33 +56,18 @@ abbrev pub silences_after : Result ServeEnd DriveFault → Option ℕ → ℕ
 silences_after (Ok how.Idle) (Some most) = most - 1
 silences_after end most = 0
 
-abbrev pub HasWaited : Option ℕ → List (Result ServeEnd DriveFault) → ℕ → Type 0
-HasWaited most told silences = (silences ≡ 0)
-    ⊎ ((before : List (Result ServeEnd DriveFault)) × (told ≡ before ++ Ok how.Idle ∷ [])
-    × (silences ≡ silences_after (Ok how.Idle) most))
-
--- these ends are told too
-abbrev pub adds_ends : List (Result ServeEnd DriveFault) → Option (List (Result ServeEnd DriveFault))
-    → Option (List (Result ServeEnd DriveFault))
-adds_ends more None = None
-adds_ends more (Some ends) = Some (ends ++ more)
-
--- what becomes of a port in these turns: a port, how many turns are left, and how the lines ended. Each wait for a
--- connection is a turn, in which a frame passes if nobody comes. Over each line that is taken a server goes on with the
--- port as it is
+-- what becomes of a port in these turns: a port, how many turns are left, and for how many silences the next line was
+-- silent already. Each wait for a connection is a turn, in which a frame passes if nobody comes. Over each line that is
+-- taken a server goes on with the port as it is
 pub data IsKept {W : Type 0} (does : Act → W → W → Type 0) (failures : W → ℕ) (most : Option ℕ) (port : ClockedPort)
-    (turns : ℕ) : ClockedPort → ℕ → List (Result ServeEnd DriveFault) → Type 0 where
-  at_first : IsKept does failures most port turns port turns []
-  nobody_came : {now : ClockedPort} {left : ℕ} {ends : List (Result ServeEnd DriveFault)}
-      → IsKept does failures most port turns now (suc left) ends
-      → IsKept does failures most port turns (after_frame now) left ends
-  no_line_came : {now : ClockedPort} {left : ℕ} {ends : List (Result ServeEnd DriveFault)}
-      → IsKept does failures most port turns now (suc left) ends
-      → IsKept does failures most port turns now left (ends ++ Err fault.Device ∷ [])
-  served : {now : ClockedPort} {left : ℕ} {ends : List (Result ServeEnd DriveFault)}
-      → IsKept does failures most port turns now (suc left) ends
-      → (silences : ℕ) → HasWaited most ends silences
+    (turns : ℕ) : ClockedPort → ℕ → ℕ → Type 0 where
+  at_first : IsKept does failures most port turns port turns 0
+  nobody_came : {now : ClockedPort} {left silences : ℕ} → IsKept does failures most port turns now (suc left) silences
+      → IsKept does failures most port turns (after_frame now) left 0
+  no_line_came : {now : ClockedPort} {left silences : ℕ} → IsKept does failures most port turns now (suc left) silences
+      → IsKept does failures most port turns now left 0
+  served : {now : ClockedPort} {left silences : ℕ} → IsKept does failures most port turns now (suc left) silences
       → (old new : Serving (Idling W)) → (answer : Result Ran DriveFault) → IsTakenWith failures most silences now old
       → ServeLeaves (IdlingDoes does) (λ _. ⊤) (idling_failures failures) left old new answer
       → IsKept does failures most port turns new.port (left_after answer left new.wire.listens)
-      (ends ++ ended_by answer (has_given_up new.wire.patience) ∷ [])
+      (silences_after (ended_by answer (has_given_up new.wire.patience)) most)

@@ -1,9 +1,8 @@
 //! A port that is kept from one connection to the next.
-ghost use Rattle.std.specs.Prelude.{◌≡◌, ◌*◌, List, Result, ⊤, IfOk};
+ghost use Rattle.std.specs.Prelude.{ℕ, ◌≡◌, ◌*◌, Result, ⊤, IfOk};
 ghost use Rattle.vdcp_drive.specs.ServeLeaves.{ServeLeaves};
 ghost use Rattle.vdcp_serve.specs.Idle.{IdlingDoes, has_given_up, idle_of, idling_failures};
-ghost use Rattle.vdcp_serve.specs.Stay.{IsKept, adds_ends, coming_of, ended_by, left_after, silences_after};
-ghost use Rattle.vdcp_serve.specs.declared.serve.ServeEnd.{ServeEnd};
+ghost use Rattle.vdcp_serve.specs.Stay.{IsKept, coming_of, ended_by, left_after, silences_after};
 ghost use Rattle.vdcp_drive.specs.declared.line.DriveFault.{DriveFault};
 
 use crate::idling::{Hears, Idling};
@@ -29,25 +28,18 @@ pub enum Coming<W> {
 
 /// Connections, one after another. Those that come meanwhile wait.
 pub trait Connections<W: Wire> {
-    ghost use Rattle.std.specs.Prelude.{◌≡◌, [], ◌∷◌, IfOk, List, None, Option, Result};
-    ghost use Rattle.vdcp_drive.specs.declared.line.DriveFault.{DriveFault};
-    ghost use Rattle.vdcp_serve.specs.Stay.{IfLine, adds_ends};
-    ghost use Rattle.vdcp_serve.specs.declared.serve.ServeEnd.{ServeEnd};
-
-    /// How the lines ended, as it was told, in order, if it tells that.
-    ghost ends: { Self → Option (List (Result ServeEnd DriveFault)) } = { λ _. None };
+    ghost use Rattle.std.specs.Prelude.{◌≡◌, IfOk};
+    ghost use Rattle.vdcp_serve.specs.Stay.{IfLine};
 
     /// Waits for the next line, no longer than a silence or, by the clock, a frame lasts.
     fn wait(&mut self) -> Result<Coming<W>, WireFault>
-        ensures works { IfOk result (λ coming. IfLine coming (λ line. W.failures line ≡ 0)) }
-        ensures ends { ends self.new ≡ ends self.old };
+        ensures { IfOk result (λ coming. IfLine coming (λ line. W.failures line ≡ 0)) };
 
     /// The address at the other end of the last line, if it is known.
     fn from(&self) -> Option<SocketAddr>;
 
     /// It is told how the last connection ended, or that it failed to be a line.
-    fn tell_end(&mut self, end: Result<ServeEnd, DriveFault>)
-        ensures { ends self.new ≡ adds_ends (end ∷ []) (ends self.old) };
+    fn tell_end(&mut self, end: Result<ServeEnd, DriveFault>);
 }
 
 /// Serves a port over one line after another, for the turns of the settings in all, each a wait for a line, for bytes or for
@@ -67,9 +59,8 @@ pub fn stay<
     settings: ServeSettings,
     watcher: &mut Watcher<'_, R, L>,
 ) -> Result<Port<C>, WireFault>
-    ensures kept { IfOk result (λ kept. (ends : List (Result ServeEnd DriveFault)) ×
-        IsKept W.does W.failures (idle_of settings) port settings.turns kept 0 ends
-        × (D.ends connections.new ≡ adds_ends ends (D.ends connections.old))) }
+    ensures { IfOk result (λ kept. (silences : ℕ) ×
+        IsKept W.does W.failures (idle_of settings) port settings.turns kept 0 silences) }
 {
     let most = idle_silences(settings);
     let mut port = port;
@@ -77,27 +68,26 @@ pub fn stay<
     let mut silences = 0;
     'turns: while left > 0 {
         left -= 1;
-        match connections.wait()? {
+        let end = match connections.wait()? {
             Coming::Nobody => {
                 silences = 0;
                 port.frame();
                 watcher.look(&port, None);
+                continue;
             }
-            Coming::Failed => {
-                silences = 0;
-                connections.tell_end(Err(DriveFault::Device));
-            }
+            Coming::Failed => Err(DriveFault::Device),
             Coming::Line(line) => {
                 watcher.connected(connections.from());
                 let mut server = Server::new(port, Idling::new(line, most, silences));
                 let (rest, end) = serve_one(&mut server, left, watcher);
                 left = rest;
-                silences = silences_after(end, most);
-                connections.tell_end(end);
                 (port, _) = server.into_parts();
                 watcher.connected(None);
+                end
             }
-        }
+        };
+        silences = silences_after(end, most);
+        connections.tell_end(end);
     }
     Ok(port)
 }
