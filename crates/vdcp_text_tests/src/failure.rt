@@ -1,17 +1,16 @@
 //! Tests of failures, their lines and their exit statuses.
 use std::alloc::Global;
 use std::process::Abort;
-use vdcp_text::{Failure, JournalFault, ScriptLineFault};
+use vdcp_text::{Failure, ScriptLineFault};
 use vdcp_value::RowFault;
 
-// Each failure, with the line that tells it and its status.
-static ROWS: [(Failure<'static>, &str, u8); 44] = [
+// Failures, each with the line that tells it and its status. (No clause says what is told with status 3.)
+static ROWS: [(Failure<'static>, &str, u8); 30] = [
     (Failure::Hex, "vdcp: hex\n", 1),
     (Failure::Word, "vdcp: word\n", 1),
     (Failure::Arguments, "vdcp: arguments\n", 1),
     (Failure::Text, "vdcp: text\n", 2),
     (Failure::Open("a.csv"), "vdcp: a.csv: cannot open\n", 3),
-    (Failure::Open("a b"), "vdcp: a b: cannot open\n", 3),
     (
         Failure::Open("\x1b[2J\ta\u{9b}\u{e9}\x7f"),
         "vdcp: \\x1b[2J\\x09a\\x9b\u{e9}\\x7f: cannot open\n",
@@ -29,16 +28,6 @@ static ROWS: [(Failure<'static>, &str, u8); 44] = [
         1,
     ),
     (
-        Failure::Row("a.csv", 2, RowFault::Id),
-        "vdcp: a.csv: row 2: id\n",
-        1,
-    ),
-    (
-        Failure::Row("b.csv", 2, RowFault::Id),
-        "vdcp: b.csv: row 2: id\n",
-        1,
-    ),
-    (
         Failure::Row("a.csv", 10, RowFault::Time),
         "vdcp: a.csv: row 10: time\n",
         1,
@@ -51,16 +40,6 @@ static ROWS: [(Failure<'static>, &str, u8); 44] = [
     (
         Failure::Row("a.csv", 10_001, RowFault::TooMany),
         "vdcp: a.csv: row 10001: too many\n",
-        1,
-    ),
-    (
-        Failure::Row("a.csv", 3, RowFault::Long),
-        "vdcp: a.csv: row 3: long\n",
-        1,
-    ),
-    (
-        Failure::ScriptLine("a.txt", 4, ScriptLineFault::Long),
-        "vdcp: a.txt: line 4: long\n",
         1,
     ),
     (
@@ -84,7 +63,6 @@ static ROWS: [(Failure<'static>, &str, u8); 44] = [
         1,
     ),
     (Failure::NotText("a.txt"), "vdcp: a.txt: text\n", 1),
-    (Failure::Empty("a.txt"), "vdcp: a.txt: empty\n", 1),
     (Failure::Write("a.csv"), "vdcp: a.csv: write\n", 3),
     (
         Failure::IsList("a.csv"),
@@ -93,40 +71,8 @@ static ROWS: [(Failure<'static>, &str, u8); 44] = [
     ),
     (Failure::Exists("a.csv"), "vdcp: a.csv: exists\n", 3),
     (Failure::InUse("a.csv"), "vdcp: a.csv: in use\n", 3),
-    (
-        Failure::JournalRow("a.csv", 1, JournalFault::List),
-        "vdcp: a.csv: row 1: list\n",
-        1,
-    ),
-    (
-        Failure::JournalRow("a.csv", 12, JournalFault::Unawaited),
-        "vdcp: a.csv: row 12: unawaited\n",
-        1,
-    ),
-    (
-        Failure::JournalRow("a.csv", 7, JournalFault::Event),
-        "vdcp: a.csv: row 7: event\n",
-        1,
-    ),
-    (
-        Failure::JournalRow("a.csv", 5, JournalFault::Long),
-        "vdcp: a.csv: row 5: long\n",
-        1,
-    ),
-    (
-        Failure::NotTheList("a.csv"),
-        "vdcp: a.csv: not the journal's list\n",
-        1,
-    ),
-    (
-        Failure::MayHaveAired(12),
-        "vdcp: event 12 may have aired\n",
-        1,
-    ),
-    (Failure::NoEvent(3), "vdcp: no event 3\n", 1),
     (Failure::Address, "vdcp: address\n", 2),
     (Failure::Connect, "vdcp: cannot connect\n", 3),
-    (Failure::NotEmpty, "vdcp: port not empty\n", 1),
     (Failure::Bind, "vdcp: cannot bind\n", 3),
     (Failure::LineFailed, "vdcp: line failed\n", 3),
     (Failure::LineClosed, "vdcp: line closed\n", 3),

@@ -2,8 +2,6 @@
 #![tactic(auto)]
 
 #[cfg(test)]
-mod exchange;
-#[cfg(test)]
 mod failure;
 #[cfg(test)]
 mod make;
