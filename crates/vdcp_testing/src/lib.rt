@@ -15,6 +15,3 @@ pub use clips::two_clips;
 pub use fails::Fails;
 pub use reader::FailingReader;
 pub use writer::FailingWriter;
-
-#[cfg(test)]
-mod tests;

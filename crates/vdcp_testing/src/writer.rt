@@ -8,12 +8,8 @@ use std::io::{self, Write};
 pub struct FailingWriter {
     /// The bytes that were taken.
     pub bytes: Vec<u8>,
-    /// How many bytes one write takes at most.
-    pub piece: usize,
     /// Which calls fail.
     pub fails: Fails,
-    /// What a failed call answers.
-    pub kind: io::ErrorKind,
     /// How many calls were made, the failed ones with them.
     pub calls: usize,
     /// How many flushes didn't fail.
@@ -25,9 +21,7 @@ impl FailingWriter {
     pub fn new(alloc: Global, fails: Fails) -> FailingWriter {
         FailingWriter {
             bytes: Vec::new(alloc),
-            piece: usize::MAX,
             fails,
-            kind: io::ErrorKind::BrokenPipe,
             calls: 0,
             flushes: 0,
         }
@@ -37,7 +31,7 @@ impl FailingWriter {
         let call = self.calls;
         self.calls = call.saturating_add(1);
         if self.fails.fails_at(call) {
-            return Err(io::Error::from(self.kind));
+            return Err(io::Error::from(io::ErrorKind::BrokenPipe));
         }
         Ok(())
     }
@@ -46,9 +40,8 @@ impl FailingWriter {
 impl Write for FailingWriter {
     fn write(&mut self, bytes: &[u8]) -> io::Result<usize> {
         self.call()?;
-        let count = bytes.len().min(self.piece);
-        self.bytes.extend_from_slice(&bytes[..count])?;
-        Ok(count)
+        self.bytes.extend_from_slice(bytes)?;
+        Ok(bytes.len())
     }
 
     fn flush(&mut self) -> io::Result<()> {
