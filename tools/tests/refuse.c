@@ -3,7 +3,7 @@
 // REFUSED_WRITE=N it refuses the write to standard output of this number, as a pipe does that is full, and tells '!'; each later one is
 // let through, as by a pipe that was drained, and it tells '+'. With REFUSED_LOCKS it refuses each lock of a file, as a file system does that has
 // none. With REFUSED_TEXT=TEXT it refuses each write to a file that has this text, as a disk does that is full, and each renaming to a
-// name that ends so, and tells 'refused'. With WATCHED it tells, in a line each and in their order, which files are written to, made
+// name that ends so, and tells 'refused'. With REFUSED_CONNECTIONS it takes no connection. With WATCHED it tells, in a line each and in their order, which files are written to, made
 // safe and renamed, and when something is sent: 'write FILE', 'sync FILE', 'rename FILE TO', without folders, and 'send TYPE', with a
 // message's type and command, in hexadecimal digits. With SLOW_SYNCS=N each sync of data takes so many milliseconds more.
 #define _GNU_SOURCE
@@ -103,6 +103,10 @@ int rename(const char *file, const char *to) {
     if (text && strlen(to) >= length && !strcmp(to + strlen(to) - length, text)) return refused(ENOSPC, "refused\n");
     TELL("rename %s %s\n", last_part(file), last_part(to));
     return NEXT(rename)(file, to);
+}
+
+int accept4(int socket, struct sockaddr *from, socklen_t *length, int flags) {
+    return getenv("REFUSED_CONNECTIONS") ? (errno = EMFILE, -1) : NEXT(accept4)(socket, from, length, flags);
 }
 
 int flock(int file, int operation) { return getenv("REFUSED_LOCKS") ? (errno = ENOLCK, -1) : NEXT(flock)(file, operation); }
