@@ -1,4 +1,4 @@
-//! The worked rows of both drivers over a wire in memory.
+//! The worked rows of both drivers over a wire in memory, and what a connection does below a wire.
 mod automation;
 mod calls;
 mod clips;
@@ -9,3 +9,4 @@ mod memory;
 mod messages;
 mod scripts;
 mod server;
+mod wire;

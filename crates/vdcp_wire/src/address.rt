@@ -21,6 +21,3 @@ pub fn address_of(text: &str) -> Result<SocketAddrV4, AddressFault>
         Err(_) => Err(AddressFault),
     }
 }
-
-#[cfg(test)]
-mod tests;

@@ -221,6 +221,3 @@ fn came_of(read: io::Result<usize>) -> io::Result<Came>
         },
     }
 }
-
-#[cfg(test)]
-mod tests;

@@ -3,8 +3,9 @@ use super::calls::{send, turn};
 use super::clips::{Clips, Playlist};
 use super::ends::port;
 use super::expecting::expect;
+use super::wire::pair;
 use std::io::Write;
-use std::net::{Ipv4Addr, SocketAddr, TcpListener, TcpStream};
+use std::net::TcpStream;
 use std::test::Fail;
 use std::time::Duration;
 use vdcp_auto::{Controller, Outcome};
@@ -13,9 +14,7 @@ use vdcp_wire::StreamWire;
 
 /// The two ends of a connection, the second of which has sent a NAK.
 fn streams(rt: &HostRuntime) -> Result<(TcpStream, TcpStream), Fail> {
-    let listener = TcpListener::bind(rt, SocketAddr::from((Ipv4Addr::LOCALHOST, 0)))?;
-    let near = TcpStream::connect(rt, listener.local_addr()?)?;
-    let (mut far, _) = listener.accept()?;
+    let (near, mut far) = pair(rt)?;
     far.write_all(b"\x05\x01")?;
     near.peek(&mut [0])?;
     Ok((near, far))
