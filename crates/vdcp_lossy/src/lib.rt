@@ -18,6 +18,3 @@ mod text;
 
 pub use doing::Chances;
 pub use lossy::{LossySettings, do_lossy};
-
-#[cfg(test)]
-mod tests;
