@@ -48,7 +48,7 @@ pub enum Doing {
 }
 
 /// What stands in an answer's place.
-#[derive(Clone, Copy, Debug, PartialEq, Eq)]
+#[derive(Clone, Copy)]
 pub enum Receipt {
     Ack,
     Nak(u8),
@@ -67,7 +67,7 @@ impl Receipt {
 }
 
 /// What is thrown for a burst.
-#[derive(Clone, Copy, Debug, PartialEq, Eq)]
+#[derive(Clone, Copy)]
 enum Throw {
     Through,
     Lost,

@@ -17,7 +17,7 @@ use vdcp_auto::Way;
 use vdcp_wire::{Came, PIECE, Wire, WireFault};
 
 /// Why nothing more is carried.
-#[derive(Clone, Copy, Debug, PartialEq, Eq)]
+#[derive(Clone, Copy)]
 pub enum CarryEnd {
     /// Either end has closed.
     Closed,
@@ -26,7 +26,7 @@ pub enum CarryEnd {
 }
 
 /// Why a line gives up.
-#[derive(Clone, Copy, Debug, PartialEq, Eq)]
+#[derive(Clone, Copy)]
 pub enum CarryFault {
     /// A wire failed, or the clock did.
     Line,
@@ -41,7 +41,7 @@ impl From<WireFault> for CarryFault {
 }
 
 /// What a wire brought.
-#[derive(Clone, Copy, PartialEq, Eq)]
+#[derive(Clone, Copy)]
 pub enum Brought {
     /// A burst, whose first bytes came then.
     Burst(Instant),

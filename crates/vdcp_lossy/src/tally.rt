@@ -3,7 +3,7 @@ use crate::doing::Doing;
 use std::io;
 
 /// How many bursts came, and what was done with how many of them, both ways together.
-#[derive(Clone, Copy, Debug, PartialEq, Eq)]
+#[derive(Clone, Copy)]
 pub struct Tally {
     pub commands: u32,
     pub answers: u32,
