@@ -1,15 +1,9 @@
 //! The subcommand `serve`, its settings, and how it ends.
-ghost use Rattle.std.specs.Io.KnownBytes.{Appends, Keeps};
-ghost use Rattle.std.specs.Prelude.{◌≡◌, ◌≢◌, ◌⊎◌, ◌≤◌, IfErr, OnOk, Result, false, true, ⊤};
+ghost use Rattle.std.specs.Prelude.{◌≡◌, ◌≢◌, ◌≤◌, ⊤};
 ghost use Rattle.vdcp_drive.specs.ServeLeaves.{ServeLeaves};
-ghost use Rattle.vdcp_files.specs.Files.{IsWholeCatalogue, file};
-ghost use Rattle.vdcp_wire.specs.Address.{IsAddress};
-ghost use Rattle.vdcp_wire.specs.Listening.{PrintsListening};
-ghost use Rattle.vdcp_serve.specs.Idle.{IdlingDoes, has_given_up, idle_of, idling_failures};
-ghost use Rattle.vdcp_serve.specs.Serve.{EndsAs, IsCatalogueRefused, IsServedThere, IsUnheard, IsUnserved, PrintsEnd};
-ghost use Rattle.vdcp_serve.specs.Serve.{end_of, word_of};
+ghost use Rattle.vdcp_serve.specs.Idle.{IdlingDoes, idle_of, idling_failures};
+ghost use Rattle.vdcp_serve.specs.Serve.{end_of};
 ghost use Rattle.vdcp_port.specs.Clock.{new_port};
-ghost use Rattle.vdcp_text.specs.Failure.{failure_line};
 
 use crate::entrance::{Entrance, line_over};
 use crate::idling::{Hears, Idling};
@@ -81,9 +75,7 @@ impl ServeEnd {
     }
 
     /// Its word.
-    pub(crate) fn word(self) -> &'static str
-        ensures { result.now ≡ word_of self }
-    {
+    pub(crate) fn word(self) -> &'static str {
         match self {
             ServeEnd::Closed => "closed",
             ServeEnd::Idle => "idle",
@@ -135,22 +127,6 @@ pub fn do_serve<
     requires unit { settings.unit ≤ 15 }
     requires some_frames { 1 ≤ settings.cue_frames }
     requires few_frames { settings.cue_frames ≤ 1000 }
-    ensures served { result ≡ 0 → IsServedThere settings (W.contents out.old) (W.contents out.new) }
-    ensures whole { result ≡ 0 → IsAddress address.now
-        × IsWholeCatalogue settings.rate (file catalogue.entry.name (C.remaining catalogue.entry.reader)) }
-    ensures untold { result ≡ 0 → Keeps (E.contents err.old) (E.contents err.new) }
-    // The status is 1 for a row that is refused.
-    ensures others { result ≡ 1 →
-        IsCatalogueRefused settings.rate (file catalogue.entry.name (C.remaining catalogue.entry.reader))
-        (W.contents out.old) (W.contents out.new) (E.contents err.old) (E.contents err.new) }
-    // The status is 2 for an address that is none, unless this can't be told.
-    ensures no_address { result ≡ 2 → ¬ IsAddress address.now
-        × Appends (E.contents err.old) (E.contents err.new) (failure_line Failure.Address) }
-    ensures address { ¬ IsAddress address.now → ((result ≡ 2) ⊎ (result ≡ 3))
-        × Keeps (W.contents out.old) (W.contents out.new) }
-    ensures silent { Keeps (W.contents out.old) (W.contents out.new)
-        ⊎ IsWholeCatalogue settings.rate (file catalogue.entry.name (C.remaining catalogue.entry.reader)) }
-    ensures statuses { result ≤ 3 }
 {
     let log = Log::new(telling, capture, Side::Server);
     match serve(rt, address, catalogue, settings, log, panel, out) {
@@ -172,13 +148,6 @@ fn serve<'a, R: Net + AllocGlobal + Clock, C: io::Read + Drop, L: io::Write + Dr
     requires unit { settings.unit ≤ 15 }
     requires some_frames { 1 ≤ settings.cue_frames }
     requires few_frames { settings.cue_frames ≤ 1000 }
-    ensures served { OnOk result (IsServedThere settings (W.contents out.old) (W.contents out.new)) }
-    ensures address { OnOk result (IsAddress address.now) }
-    ensures whole { OnOk result (IsWholeCatalogue settings.rate
-        (file catalogue.entry.name (C.remaining catalogue.entry.reader))) }
-    ensures unserved { IfErr result (IsUnserved settings.rate address.now
-        (file catalogue.entry.name (C.remaining catalogue.entry.reader))
-        (W.contents out.old) (W.contents out.new)) }
 {
     let Ok(address) = address_of(address) else {
         return Err(Failure::Address);
@@ -218,10 +187,7 @@ fn serve_port<R: Net + AllocGlobal + Clock, C: Catalogue + Drop, L: io::Write + 
     log: &Log<L>,
     panel: Option<Panel>,
     out: &mut W,
-) -> Result<(), Failure<'static>>
-    ensures served { OnOk result (IsServedThere settings (W.contents out.old) (W.contents out.new)) }
-    ensures unheard { IfErr result (IsUnheard (W.contents out.old) (W.contents out.new)) }
-{
+) -> Result<(), Failure<'static>> {
     if settings.stay {
         serve_each(rt, address, port, settings, log, panel, out)
     } else {
@@ -242,11 +208,7 @@ fn serve_first<
     settings: ServeSettings,
     log: &Log<L>,
     out: &mut W,
-) -> Result<(), Failure<'static>>
-    requires { settings.stay ≡ false }
-    ensures served { OnOk result (IsServedThere settings (W.contents out.old) (W.contents out.new)) }
-    ensures unheard { IfErr result (IsUnheard (W.contents out.old) (W.contents out.new)) }
-{
+) -> Result<(), Failure<'static>> {
     let stream = match accept_one(rt, address, out) {
         Ok(stream) => stream,
         Err(AcceptFault::Bind) => return Err(Failure::Bind),
@@ -267,20 +229,14 @@ fn serve_each<R: Net + AllocGlobal + Clock, C: Catalogue + Drop, L: io::Write + 
     log: &Log<L>,
     panel: Option<Panel>,
     out: &mut W,
-) -> Result<(), Failure<'static>>
-    ensures served { OnOk result (IsServedThere settings (W.contents out.old) (W.contents out.new)) }
-    ensures unheard { IfErr result (IsUnheard (W.contents out.old) (W.contents out.new)) }
-{
+) -> Result<(), Failure<'static>> {
     let mut entrance = entrance_at(rt, address, settings, log, out)?;
     let panel = port_panel(rt, panel, settings.rate)?;
     let mut watcher = Watcher::new(log, settings.rate, panel);
     if stay(port, &mut entrance, settings, &mut watcher).is_err() {
         return Err(Failure::Bind);
     }
-    match write_end(ServeEnd::Spent, out) {
-        Ok(()) => Ok(()),
-        Err(_) => Err(Failure::Writer),
-    }
+    write_end(ServeEnd::Spent, out).map_err(|_| Failure::Writer)
 }
 
 // Listens at an address. What it gives takes the connections there.
@@ -290,10 +246,7 @@ fn entrance_at<'a, R: Net + AllocGlobal + Clock, L: io::Write + Drop, W: io::Wri
     settings: ServeSettings,
     log: &'a Log<L>,
     out: &mut W,
-) -> Result<Entrance<'a, R, L>, Failure<'static>>
-    ensures listens { OnOk result (PrintsListening (W.contents out.old) (W.contents out.new)) }
-    ensures unheard { IfErr result (IsUnheard (W.contents out.old) (W.contents out.new)) }
-{
+) -> Result<Entrance<'a, R, L>, Failure<'static>> {
     let listener = match listen_at(rt, address, out) {
         Ok(listener) => listener,
         Err(AcceptFault::Bind) => return Err(Failure::Bind),
@@ -327,33 +280,14 @@ fn serve_line<'f, C: Catalogue + Drop, S: Hears + Drop, L: io::Write + Drop, W: 
     out: &mut W,
 ) -> Result<(), Failure<'f>>
     requires { S.failures wire ≡ 0 }
-    ensures ended { OnOk result ((end : ServeEnd) × PrintsEnd end (W.contents out.old) (W.contents out.new)) }
-    ensures failed { IfErr result (λ e. (e ≡ Failure.Writer)
-        ⊎ ((e ≡ Failure.LineFailed) × Keeps (W.contents out.old) (W.contents out.new))) }
 {
     let wire = Idling::new(
         Logged::new(wire, log, Hearing::AtSilences),
         idle_silences(settings),
         0,
     );
-    let mut watcher = AirLog::new(log, settings.rate);
-    serve_turns(&mut Server::new(port, wire), settings, &mut watcher, out)
-}
-
-// Makes at most as many turns of a server as the settings say, and prints how they ended.
-fn serve_turns<'f, C: Catalogue, S: Hears, V: WatchPort<C>, W: io::Write>(
-    server: &mut Server<C, Idling<S>>,
-    settings: ServeSettings,
-    watcher: &mut V,
-    out: &mut W,
-) -> Result<(), Failure<'f>>
-    requires { server.old.wire.most ≡ idle_of settings }
-    // What the server's turns left and answered, and what is printed of that.
-    ensures leaves { (ran : Result Ran DriveFault) ×
-        ServeLeaves (IdlingDoes S.does) (λ _. ⊤) (idling_failures S.failures) settings.turns server.old server.new ran
-        × EndsAs ran (has_given_up server.new.wire.patience) result (W.contents out.old) (W.contents out.new) }
-{
-    match server.serve(u64::from(settings.turns), watcher) {
+    let mut server = Server::new(port, wire);
+    match serve_turns(&mut server, settings, &mut AirLog::new(log, settings.rate)) {
         Ok(ran) => {
             let end = ServeEnd::of_turns(ran, server.wire().has_given_up());
             write_end(end, out).map_err(|_| Failure::Writer)
@@ -362,10 +296,21 @@ fn serve_turns<'f, C: Catalogue, S: Hears, V: WatchPort<C>, W: io::Write>(
     }
 }
 
-// Tells how the turns of a server ended.
-fn write_end<W: io::Write>(end: ServeEnd, out: &mut W) -> io::Result<()>
-    ensures { OnOk result (PrintsEnd end (W.contents out.old) (W.contents out.new)) }
+// Makes at most as many turns of a server as the settings say.
+fn serve_turns<C: Catalogue, S: Hears, V: WatchPort<C>>(
+    server: &mut Server<C, Idling<S>>,
+    settings: ServeSettings,
+    watcher: &mut V,
+) -> Result<Ran, DriveFault>
+    requires { server.old.wire.most ≡ idle_of settings }
+    ensures { ServeLeaves (IdlingDoes S.does) (λ _. ⊤) (idling_failures S.failures) settings.turns server.old server.new
+        result }
 {
+    server.serve(u64::from(settings.turns), watcher)
+}
+
+// Tells how the turns of a server ended.
+fn write_end<W: io::Write>(end: ServeEnd, out: &mut W) -> io::Result<()> {
     writeln!(out, "{}", end.word())?;
     out.flush()
 }
