@@ -1,13 +1,13 @@
 //! What an operator is told of a run that didn't end as it was to: how it came to that, and what to type next.
-ghost use Rattle.std.specs.Prelude.{◌≡◌, None, Some, ℕ};
-ghost use Rattle.vdcp_run.specs.Advice.{advice_after, next_after, reason_of};
+ghost use Rattle.std.specs.Prelude.{◌≡◌, false, None, Some, ℕ};
+ghost use Rattle.vdcp_run.specs.Advice.{advice_after, is_before_play, next_after, reason_of};
 ghost use Rattle.vdcp_run.specs.Run.{told_outcome};
 ghost use Rattle.vdcp_run.specs.declared.advice.Next.TheVariants as next;
 
 use crate::run_end::RunEnd;
 use crate::settings::RunJournal;
 use std::fmt;
-use vdcp_auto::Outcome;
+use vdcp_auto::{Outcome, Phase};
 use vdcp_text::{Failure, ItemText, NameText};
 use vdcp_value::{ClipId, Item, Rate};
 
@@ -18,11 +18,37 @@ pub struct Advice<'a> {
     pub next: Next<'a>,
 }
 
+/// What was seen of a run, beside how it ended.
+#[derive(Clone, Copy)]
+pub struct Seen {
+    /// The clip that the server doesn't have, if the run ended by that.
+    pub missing: Option<ClipId>,
+    /// What the last command was for.
+    pub last: Option<Phase>,
+    /// Bytes came over the connection.
+    pub came: bool,
+}
+
+impl Seen {
+    /// Nothing yet.
+    pub fn new() -> Seen
+        ensures { result ≡ record { missing = None; last = None; came = false } }
+    {
+        Seen {
+            missing: None,
+            last: None,
+            came: false,
+        }
+    }
+}
+
 /// What an outcome means. Events have their numbers in the whole list.
 #[derive(Clone, Copy)]
 pub enum Reason {
     /// The server doesn't have this clip of this event.
     Missing(usize, ClipId),
+    /// No PLAY went out for this event, since the server refused a command before, or lost the cue again and again.
+    RefusedCue(usize),
     /// NAK 01h came for a command of this event.
     Refused(usize),
     /// Another clip plays than that of this event.
@@ -30,6 +56,8 @@ pub enum Reason {
     /// The port's state doesn't fit this event.
     Strange(usize),
     Denied,
+    /// Nothing came over the line.
+    Unheard,
     Lost,
 }
 
@@ -49,19 +77,18 @@ pub enum Next<'a> {
 }
 
 impl<'a> Advice<'a> {
-    /// After a run that ended so, and had this journal, if it had one; and the clip that the server doesn't have, if it
-    /// ended by that.
+    /// After a run that ended so, and had this journal, if it had one, and of which this was seen.
     pub fn of_end(
         end: &RunEnd<'_>,
         journal: Option<RunJournal<'a>>,
-        missing: Option<ClipId>,
+        seen: Seen,
     ) -> Option<Advice<'a>>
-        ensures { result ≡ advice_after (told_outcome end.now.line end.now.outcome) journal.entry end.now.reported missing }
+        ensures { result ≡ advice_after (told_outcome end.now.line end.now.outcome) journal.entry end.now.reported seen }
     {
         let outcome = end.told_outcome();
         match Next::after(outcome, journal, end.reported) {
             Some(next) => Some(Advice {
-                reason: Reason::of(outcome, missing),
+                reason: Reason::of(outcome, seen),
                 next,
             }),
             None => None,
@@ -106,21 +133,33 @@ impl<'a> Next<'a> {
 }
 
 impl Reason {
-    // What this outcome means, and if it is a clip that the server doesn't have, by that clip.
-    fn of(outcome: Option<Outcome>, missing: Option<ClipId>) -> Option<Reason>
-        ensures { result ≡ reason_of outcome missing }
+    // What this outcome means of a run of which this was seen.
+    fn of(outcome: Option<Outcome>, seen: Seen) -> Option<Reason>
+        ensures { result ≡ reason_of outcome seen }
     {
-        match (outcome?, missing) {
+        match (outcome?, seen.missing) {
             (Outcome::Missing(k), Some(clip)) => Some(Reason::Missing(k, clip)),
             (Outcome::Missing(_), None) => None,
+            (Outcome::Refused(k), _) if is_before_play(seen.last) => Some(Reason::RefusedCue(k)),
             (Outcome::Refused(k), _) => Some(Reason::Refused(k)),
             (Outcome::Foreign(k), _) => Some(Reason::Foreign(k)),
             (Outcome::Strange(k), _) => Some(Reason::Strange(k)),
             (Outcome::Denied, _) => Some(Reason::Denied),
-            (Outcome::Lost, _) => Some(Reason::Lost),
+            (Outcome::Lost, _) if seen.came => Some(Reason::Lost),
+            (Outcome::Lost, _) => Some(Reason::Unheard),
             (Outcome::Done | Outcome::Stopped, _) => None,
         }
     }
+}
+
+// Whether the last command stood before the PLAY of its event, if that is known. (After the PLAY none of these comes.)
+fn is_before_play(last: Option<Phase>) -> bool
+    ensures { result ≡ is_before_play last }
+{
+    matches!(
+        last,
+        Some(Phase::Exists(_) | Phase::Cue(_) | Phase::Wait(_))
+    )
 }
 
 impl fmt::Display for Advice<'_> {
@@ -144,10 +183,11 @@ impl fmt::Display for Reason {
                     ItemText { rate, item }
                 )
             }
-            Reason::Refused(event) => write!(
+            Reason::RefusedCue(event) => write!(
                 f,
-                "the server refused a command of event {event}; if that was its cue, as of a part that is too long, no PLAY was sent for it"
+                "the server refused to cue event {event}, as a part that is too long for its clip: no PLAY was sent for it"
             ),
+            Reason::Refused(event) => write!(f, "the server refused a command of event {event}"),
             Reason::Foreign(event) => write!(
                 f,
                 "another clip was on air than that of event {event}: does another automation drive the port?"
@@ -160,9 +200,13 @@ impl fmt::Display for Reason {
                 f,
                 "the server doesn't open or select the port: is --port another, or does another automation have it?"
             ),
-            Reason::Lost => write!(
+            Reason::Unheard => write!(
                 f,
                 "connected, but nothing answers: has the server stopped, or does another automation drive the port?"
+            ),
+            Reason::Lost => write!(
+                f,
+                "the last commands had no answer: has the server stopped, or was the line cut? What is on air isn't known until it answers again"
             ),
         }
     }

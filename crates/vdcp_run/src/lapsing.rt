@@ -6,6 +6,7 @@ ghost use Rattle.vdcp_run.specs.Lapse.{has_lapsed, since_after, since_with, sile
 
 use crate::settings::RunSettings;
 use crate::stopwatch::{Stopwatch, nanoseconds};
+use std::cell::Cell;
 use std::rt::Clock;
 use vdcp_log::Hearing;
 use vdcp_wire::{Came, PIECE, Wire, WireFault};
@@ -31,11 +32,13 @@ pub struct Lapsing<'a, R: Clock, W: Wire> {
     patience: u64,
     sent: u64,
     since: Since,
+    // Whether bytes have come at all.
+    came: &'a Cell<bool>,
 }
 
 impl<'a, R: Clock, W: Wire> Lapsing<'a, R, W> {
-    /// A wire over this one, with the silences of a run.
-    pub fn new(wire: W, clock: &'a R, settings: RunSettings<'_>) -> Self
+    /// A wire over this one, with the silences of a run. Once bytes come that is noted.
+    pub fn new(wire: W, clock: &'a R, settings: RunSettings<'_>, came: &'a Cell<bool>) -> Self
         ensures wire { result.wire ≡ wire }
         ensures patience { result.patience ≡ settings.entry.silence * 1000000 * silences_of settings.entry.hearing }
         ensures since { result.since ≡ Since.Nothing }
@@ -46,6 +49,7 @@ impl<'a, R: Clock, W: Wire> Lapsing<'a, R, W> {
             patience: nanoseconds(settings.silence) * silences_of(settings.hearing),
             sent: 0,
             since: Since::Nothing,
+            came,
         }
     }
 
@@ -71,6 +75,9 @@ impl<'a, R: Clock, W: Wire> Lapsing<'a, R, W> {
         }
         let came = self.wire.listen(buffer)?;
         self.since = since_with(came, self.since);
+        if let Since::Bytes = self.since {
+            self.came.set(true);
+        }
         Ok(came)
     }
 }

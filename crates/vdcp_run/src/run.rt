@@ -9,7 +9,7 @@ ghost use Rattle.vdcp_run.specs.Run.{IsApart, IsEventRefused, IsListRefused, IsN
 ghost use Rattle.vdcp_text.specs.Failure.{failure_line};
 ghost use Rattle.vdcp_wire.specs.Address.{IsAddress};
 
-use crate::advice::Advice;
+use crate::advice::{Advice, Seen};
 use crate::begin::begin;
 use crate::place::{Apart, tell_place};
 use crate::run_end::RunEnd;
@@ -108,10 +108,10 @@ pub fn do_run<
         ⊎ IsWholeList settings.entry.rate (file list.entry.name (L.remaining list.entry.reader)) }
     ensures statuses { result ≤ 3 }
 {
-    let mut missing = None;
-    match run_list(rt, address, list, settings, showing, hand, &mut missing) {
+    let mut seen = Seen::new();
+    match run_list(rt, address, list, settings, showing, hand, &mut seen) {
         Ok(end) => {
-            *advice = Advice::of_end(&end, settings.journal, missing);
+            *advice = Advice::of_end(&end, settings.journal, seen);
             end.tell(out, err).unwrap_or(3)
         }
         Err(failure) => {
@@ -121,8 +121,7 @@ pub fn do_run<
     }
 }
 
-// Reads the list, connects, plays the list, and writes what is reported of it. `missing` gets the clip that the server
-// doesn't have, if the run ends by that.
+// Reads the list, connects, plays the list, and writes what is reported of it. `seen` gets what was seen of the run.
 fn run_list<
     'a,
     R: Net + Files<File = File> + Clock + AllocGlobal,
@@ -137,7 +136,7 @@ fn run_list<
     settings: RunSettings<'a>,
     mut showing: Showing<V>,
     hand: &mut Hand<'_, R, I, O>,
-    missing: &mut Option<ClipId>,
+    seen: &mut Seen,
 ) -> Result<RunEnd<'a>, Failure<'a>>
     requires unit { settings.unit ≤ 15 }
     requires some { 1 ≤ settings.limit }
@@ -159,9 +158,9 @@ fn run_list<
         Err(failure) => return Err(told_of_list(name, failure)),
     };
     tell_place(rt, settings, &mut showing.telling);
-    let end = play_at(rt, address, begun, settings, showing, hand);
+    let end = play_at(rt, address, begun, settings, showing, hand, seen);
     if let Ok(end) = &end {
-        *missing = missing_clip(&events, end.told_outcome());
+        seen.missing = missing_clip(&events, end.told_outcome());
     }
     if let Some(name) = unbegun_journal(&end, settings.journal) {
         let _ = fs::remove_file(rt, name);

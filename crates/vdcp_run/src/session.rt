@@ -4,6 +4,7 @@ ghost use Rattle.std.specs.Prelude.{◌≡◌, ◌⊎◌, ◌≤◌, ◌*◌, If
 ghost use Rattle.vdcp_run.specs.Run.{EndsRun, MayBeUnkept, journal_of};
 ghost use Rattle.vdcp_run.specs.Session.{HasAwaited, HasPlayed, HasSession, HasTried, IsClosed, Plays, TriesOver, over, start_of, unseen};
 
+use crate::advice::Seen;
 use crate::asking::{may_begin, unbegun_line, vacancy_for};
 use crate::lapsing::Lapsing;
 use crate::polling::Polling;
@@ -11,6 +12,7 @@ use crate::run_end::{LineEnd, RunEnd, ended};
 use crate::settings::{RunSettings, Showing};
 use crate::stalling::Stalling;
 use crate::waiting::await_clip;
+use std::cell::Cell;
 use std::fs::File;
 use std::io;
 use std::net::{Net, SocketAddr, SocketAddrV4};
@@ -31,7 +33,8 @@ const CONNECTING: u64 = 5;
 /// Erases a line of a terminal.
 const ERASE: &'static str = "\r\x1b[K";
 
-/// Connects, and plays a list with what its run begins with. If the controller has ended already nothing is sent.
+/// Connects, and plays a list with what its run begins with. If the controller has ended already nothing is sent. `seen`
+/// gets what was seen of that.
 /// The failure is `Connect` if nobody takes the connection in time, and `NotEmpty` if the port is asked and isn't
 /// empty.
 pub fn play_at<
@@ -48,6 +51,7 @@ pub fn play_at<
     settings: RunSettings<'a>,
     showing: Showing<V>,
     hand: &mut Hand<'_, R, I, O>,
+    seen: &mut Seen,
 ) -> Result<RunEnd<'a>, Failure<'a>>
     requires unit { settings.unit ≤ 15 }
     requires some { 1 ≤ settings.limit }
@@ -69,7 +73,9 @@ pub fn play_at<
         return Err(Failure::Connect);
     };
     let wire = StreamWire::new(stream, silence_of(settings));
-    let end = play_over(rt, controller, recorder, wire, settings, showing, hand);
+    let end = play_over(
+        rt, controller, recorder, wire, settings, showing, hand, seen,
+    );
     if end.line == LineEnd::Occupied {
         return Err(Failure::NotEmpty);
     }
@@ -102,6 +108,7 @@ fn play_over<
     settings: RunSettings<'a>,
     showing: Showing<V>,
     hand: &mut Hand<'_, R, I, O>,
+    seen: &mut Seen,
 ) -> RunEnd<'a>
     requires unit { settings.unit ≤ 15 }
     requires some { 1 ≤ settings.limit }
@@ -113,8 +120,14 @@ fn play_over<
 {
     match wire {
         Ok(wire) => {
-            let wire = Lapsing::new(wire, rt, settings);
-            play_shown(rt, controller, &mut recorder, wire, settings, showing, hand)
+            let came = Cell::new(false);
+            let wire = Lapsing::new(wire, rt, settings, &came);
+            let recorder = &mut recorder;
+            let end = play_shown(
+                rt, controller, recorder, wire, settings, showing, hand, seen,
+            );
+            seen.came = came.get();
+            end
         }
         Err(_) => ended(rt, &controller, LineEnd::Failed, settings),
     }
@@ -138,6 +151,7 @@ fn play_shown<
     settings: RunSettings<'a>,
     showing: Showing<V>,
     hand: &mut Hand<'_, R, I, O>,
+    seen: &mut Seen,
 ) -> RunEnd<'a>
     requires unit { settings.unit ≤ 15 }
     requires some { 1 ≤ settings.limit }
@@ -154,28 +168,17 @@ fn play_shown<
     let log = Log::new(telling, capture, Side::Automation);
     let wire = Logged::new(wire, &log, settings.hearing);
     let Some(terminal) = terminal else {
-        return play_awaited(
-            rt,
-            controller,
-            recorder,
-            wire,
-            &mut Stalling::new(Unwatched, rt, &log, "", settings),
-            settings,
-            hand,
-        );
+        let mut watcher = Stalling::new(Unwatched, rt, &log, "", settings);
+        let unshown = play_awaited(rt, controller, recorder, wire, &mut watcher, settings, hand);
+        seen.last = watcher.last();
+        return unshown;
     };
     let progress = Progress::new(rt, terminal, settings.silence);
     let wire = ShownWire::new(wire, &progress);
-    let end = play_awaited(
-        rt,
-        controller,
-        recorder,
-        wire,
-        &mut Stalling::new(Glances::new(&progress), rt, &log, ERASE, settings),
-        settings,
-        hand,
-    );
+    let mut watcher = Stalling::new(Glances::new(&progress), rt, &log, ERASE, settings);
+    let end = play_awaited(rt, controller, recorder, wire, &mut watcher, settings, hand);
     progress.clear();
+    seen.last = watcher.last();
     end
 }
 

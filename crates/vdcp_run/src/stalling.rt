@@ -1,8 +1,8 @@
 //! A run whose first cue isn't done for long says so.
-ghost use Rattle.std.specs.Prelude.{◌≡◌, ◌↔◌, Bool, IsTrue, true};
+ghost use Rattle.std.specs.Prelude.{◌≡◌, ◌↔◌, Bool, IsTrue, None, true};
 ghost use Rattle.vdcp_auto.specs.State.{Awaiting};
 ghost use Rattle.vdcp_auto.specs.declared.phase.Phase.{Phase};
-ghost use Rattle.vdcp_run.specs.Stalls.{first_stall, stall_after};
+ghost use Rattle.vdcp_run.specs.Stalls.{awaited_phase, first_stall, stall_after};
 
 use crate::settings::RunSettings;
 use crate::stopwatch::Stopwatch;
@@ -37,6 +37,8 @@ pub struct Stalling<'a, R: Clock, L: io::Write, V> {
     // What ends the line that stands where the log is told.
     erases: &'static str,
     stall: Stall,
+    // What the last command was for.
+    last: Option<Phase>,
 }
 
 impl<'a, R: Clock, L: io::Write, V> Stalling<'a, R, L, V> {
@@ -50,6 +52,7 @@ impl<'a, R: Clock, L: io::Write, V> Stalling<'a, R, L, V> {
     ) -> Self
         ensures watcher { result.watcher ≡ watcher }
         ensures stall { result.stall ≡ first_stall settings.entry.hearing }
+        ensures last { result.last ≡ None }
     {
         Stalling {
             watcher,
@@ -60,7 +63,15 @@ impl<'a, R: Clock, L: io::Write, V> Stalling<'a, R, L, V> {
                 Hearing::AtSilences => Stall::Told,
                 Hearing::AtOnce(_) => Stall::Nothing,
             },
+            last: None,
         }
+    }
+
+    /// What the last command was for whose answer was awaited.
+    pub fn last(&self) -> Option<Phase>
+        ensures { result ≡ self.now.last }
+    {
+        self.last
     }
 }
 
@@ -69,8 +80,10 @@ impl<S: Source, R: Clock, L: io::Write + Drop, V: Watch<Rest<S>>> Watch<Rest<S>>
     fn look(&mut self, controller: &Controller<Rest<S>>)
         ensures told { (cues : Bool) → (cues ≡ true ↔ controller.now.state.stage ≡ Awaiting (Phase.Wait 0)) →
             self.new.stall ≡ stall_after cues self.old.stall self.new.stopwatch.now }
+        ensures last { self.new.last ≡ awaited_phase controller.now.state.stage }
     {
         self.watcher.look(controller);
+        self.last = awaited_phase(controller);
         let stall = self.stall;
         self.stall = stall_after(is_cued_first(controller), stall, self.stopwatch.read());
         if let (Stall::Since(_), Stall::Told) = (stall, self.stall) {
@@ -80,6 +93,16 @@ impl<S: Source, R: Clock, L: io::Write + Drop, V: Watch<Rest<S>>> Watch<Rest<S>>
                 "{erases}vdcp: event {event} is still being cued: if frames pass at the server's silences, serve with --real-time, or run with a longer --poll"
             ));
         }
+    }
+}
+
+// What the command is for whose answer is awaited.
+fn awaited_phase<S: Source>(controller: &Controller<S>) -> Option<Phase>
+    ensures { result ≡ awaited_phase controller.now.state.stage }
+{
+    match controller.snapshot().standing {
+        Standing::Awaiting(phase) => Some(phase),
+        Standing::Ready(_) | Standing::Ended(_) => None,
     }
 }
 
