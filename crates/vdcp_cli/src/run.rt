@@ -29,7 +29,7 @@ pub fn run_run<'a, W: Write, E: Write>(
     let address = matches.get_str("ADDR").unwrap_or("");
     let settings = run_settings_of(matches);
     let clips = clips_of(system, matches, settings.rate)?;
-    let mut hand = match hand_of(system, matches, settings, clips, err) {
+    let hand = match hand_of(system, matches, settings, clips, err) {
         Ok(hand) => hand,
         Err(status) => return Ok(status),
     };
@@ -62,7 +62,7 @@ pub fn run_run<'a, W: Write, E: Write>(
         list,
         settings,
         showing,
-        &mut hand,
+        hand,
         &mut advice,
         out,
         err,

@@ -69,6 +69,11 @@ pub data Asks {S I : Type 0} (items : S → List Item) (remaining : I → Option
       → Asks items remaining c page typed None page' typed' → IsNext items remaining c page' typed' call page'' typed''
       → Asks items remaining c page typed call page'' typed''
 
+-- a call that is made goes before one that is held
+abbrev pub latest : (said held : Option Call) → Option Call
+latest None held = held
+latest (Some call) held = Some call
+
 -- how long a command waits, in nanoseconds, by the time since 1970, when the last STATUS went out and this moment: PLAY up to
 -- the start, if one is said, and STATUS as long as the port isn't to be asked
 abbrev pub wait_nanos : Option Command → (start now : Option Duration) → (poll : Duration) → (last moment : Option Instant) → ℕ

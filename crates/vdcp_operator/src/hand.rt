@@ -1,11 +1,11 @@
 //! The operator in a driver's turns: calls are taken, and commands wait.
 ghost use Rattle.std.specs.Duration.{as_nanos};
-ghost use Rattle.std.specs.Prelude.{◌≡◌, ◌≢◌, ◌↔◌, ◌-◌, min, IsSome, None, Some, ℕ};
+ghost use Rattle.std.specs.Prelude.{◌≡◌, ◌≢◌, ◌↔◌, ◌-◌, min, IsSome, None, Option, Some, ℕ};
 ghost use Rattle.vdcp_auto.specs.Plan.{plan_of};
 ghost use Rattle.vdcp_auto.specs.Turn.{given};
 ghost use Rattle.vdcp_drive.specs.declared.operator.Call.{Call};
 ghost use Rattle.vdcp_list.specs.Rests.{items_left};
-ghost use Rattle.vdcp_operator.specs.Hands.{Asks, IsNext, PageCalls, TypedCalls, as_call, lead_nanos, wait_nanos};
+ghost use Rattle.vdcp_operator.specs.Hands.{Asks, IsNext, PageCalls, TypedCalls, as_call, latest, lead_nanos, wait_nanos};
 ghost use Rattle.vdcp_operator.specs.declared.hand.Until.{Until};
 ghost use Rattle.vdcp_words.specs.declared.command.Command.{Command};
 
@@ -46,8 +46,8 @@ pub struct Hand<'a, R: Clock, I: Read, E: Write> {
     time: Option<Duration>,
     moment: Option<Instant>,
     commands: u64,
-    // A call that was made before the driver asked for it.
-    held: Option<Call>,
+    /// A call that was made before the driver asked for it.
+    pub held: Option<Call>,
 }
 
 /// Until when calls are asked for.
@@ -107,6 +107,27 @@ impl<'a, R: Clock, I: Read + Drop, E: Write> Hand<'a, R, I, E> {
             return;
         };
         self.held = self.ask_until(controller, Until::Lead);
+    }
+
+    /// The call that is held, once the operator was asked for a later one, unless it is stop: what was called then is
+    /// held. Requests for the page are answered.
+    pub fn heed<S: Source>(&mut self, controller: &Controller<Rest<S>>) -> Option<Call>
+        ensures held { result ≡ self.new.held }
+        ensures stop { self.old.held ≡ Some Call.Stop → self.new ≡ self.old }
+        ensures asks { self.old.held ≢ Some Call.Stop → (said : Option Call)
+            × IsNext S.items I.remaining controller.now self.old.page self.old.typed said self.new.page self.new.typed
+            × (self.new.held ≡ latest said self.old.held) }
+    {
+        if let Some(Call::Stop) = self.held {
+            return self.held;
+        }
+        match self.next(controller) {
+            Some(call) => {
+                self.held = Some(call);
+                Some(call)
+            }
+            None => self.held,
+        }
     }
 
     /// Shows how the run ended, for a second.

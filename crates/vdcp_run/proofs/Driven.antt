@@ -25,7 +25,7 @@ use Rattle.vdcp_run.proofs.Seen.{Shows, run_seen}
 use Rattle.vdcp_run.specs.Ends.{line_end_of, outcome_in_list}
 use Rattle.vdcp_run.specs.Run.{ComesTo, HasAsrun, IsEndBy}
 use Rattle.vdcp_run.specs.Session.{CallsBy, HasOperated, IsClosed, IsGiven, LastRound, MissesBy, Parts, Playing, Plays, Rounds, Runs, RunsBy, ended, missed, rules_of, run_over, spent, start_of}
-use Rattle.vdcp_run.specs.Waiting.{AsksState, IsRefused, OnlyAsks, alone, asking}
+use Rattle.vdcp_run.specs.Waiting.{AsksState, Attended, GoesOn, IsHeldBack, OnlyAsks, asking, attended}
 use Rattle.vdcp_run.specs.declared.run_end.LineEnd.TheVariants as line_end
 use Rattle.vdcp_run.specs.declared.run_end.RunEnd.{RunEnd}
 use Rattle.vdcp_run.specs.declared.settings.RunSettings.{RunSettings}
@@ -99,21 +99,31 @@ kept_shown does safe sees = record {
 
 -- ---- An automation that only asks
 
-pub asks_so : {S E W K V : Type 0} (items : S → List Item) (does : Act → W → W → Type 0) (sees : State → V → V → Type 0)
-    (fold : Fold E) (failures : W → ℕ) (n listens : ℕ) → n ≡ listens
+pub asks_so : {S E W K V : Type 0} (items : S → List Item) (does : Act → W → W → Type 0) (state : K → Attended)
+    (sees : State → V → V → Type 0) (fold : Fold E) (failures : W → ℕ) (n listens : ℕ) → n ≡ listens
     → (old new : Driving S E W) (keep keep' : K) (watch watch' : V) (answer : Result Ran KeptFault)
-    → RunLeaves items (record
-    { does = does; adds = λ kept _ _. OnlyAsks kept; loses = λ command _ _. IsRefused command; sees = sees }) fold failures n
-    old new keep keep' watch watch' answer → failures old.wire ≡ 0
-    → AsksState does fold old.ear (plan_of items old.controller) old.unit listens old.controller.state old.wire new.wire
-asks_so items does sees fold failures n listens is old new keep keep' watch watch' answer left works = record {
+    → RunLeaves items (record {
+      does = does;
+      adds = λ kept o w. OnlyAsks kept × GoesOn kept (state o) (state w);
+      loses = λ command o w. IsHeldBack command (state o) (state w);
+      sees = sees;
+    }) fold failures n old new keep keep' watch watch' answer → failures old.wire ≡ 0
+    → AsksState (state keep).operated does fold old.ear (plan_of items old.controller) old.unit listens old.controller.state
+    old.wire new.wire
+asks_so items does state sees fold failures n listens is old new keep keep' watch watch' answer left works = record {
   left = auto_of new;
   answer = answer;
+  before = state keep;
+  after = state keep';
+  operated_is = refl;
   ran = subst (λ (m : ℕ). HasRun (asking does) fold (plan_of items old.controller) old.unit m (auto_of old) (auto_of new)
-      (alone old.wire) (alone new.wire) answer) is
-      (run_seen (record
-      { does = does; adds = λ kept _ _. OnlyAsks kept; loses = λ command _ _. IsRefused command; sees = sees }) (asking does)
-      (λ wire. wire) (λ k. tt {0}) (λ v. tt {0}) (record {
+      (attended old.wire (state keep)) (attended new.wire (state keep')) answer) is
+      (run_seen (record {
+        does = does;
+        adds = λ kept o w. OnlyAsks kept × GoesOn kept (state o) (state w);
+        loses = λ command o w. IsHeldBack command (state o) (state w);
+        sees = sees;
+      }) (asking does) (λ wire. wire) state (λ v. tt {0}) (record {
         does = λ a o w h. h;
         adds = λ r o w h. h;
         loses = λ c o w h. h;

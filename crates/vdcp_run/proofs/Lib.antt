@@ -2,5 +2,6 @@
 mod Begun
 mod Driven
 mod Ends
+mod Heeding
 mod Unplayed
 pub mod Seen

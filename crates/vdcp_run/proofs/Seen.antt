@@ -19,13 +19,14 @@ use Rattle.vdcp_log.specs.declared.hearing.Hearing.{Hearing}
 use Rattle.vdcp_log.specs.declared.hearing.Hearing.TheVariants as hears
 use Rattle.vdcp_journal_file.specs.Recording.{Recording}
 use Rattle.vdcp_run.specs.Lapse.{Lapses, MayLapse}
-use Rattle.vdcp_run.specs.Session.{HasAwaited, HasPlayed, HasSession, HasTried, IsAsked, IsGiven, LastRound, Parts, Playing, Plays, Rounds, Runs, RunsBy, Start, TriesOver, broke, ended, missed, no_wire, over, played, rules_of, run_over, spent, tried, unbegun, went_on}
+use Rattle.vdcp_run.specs.Session.{HasAwaited, HasPlayed, HasSession, HasTried, IsAsked, IsGiven, LastRound, MayStop, Parts, Playing, Plays, Rounds, Runs, RunsBy, Start, TriesOver, broke, ended, left_off, missed, no_wire, over, played, rules_of, run_over, spent, tried, unbegun, went_on}
 use Rattle.vdcp_run.specs.Waiting.{AsksState, AwaitsIn, waiting_in}
 use Rattle.vdcp_run.specs.declared.run_end.LineEnd.TheVariants as line_end
 use Rattle.vdcp_run.specs.declared.run_end.RunEnd.{RunEnd}
 use Rattle.vdcp_run.specs.declared.settings.RunSettings.{RunSettings}
 use Rattle.vdcp_wire.specs.Acts.{Act, sends, brings, drops, fails}
 use Rattle.vdcp_wire.specs.Streams.{StreamDoes, Streamed}
+use Rattle.vdcp_wire.specs.Wires as arrives
 use Rattle.vdcp_wire.specs.declared.stream.Connection.TheVariants as connection
 use Rattle.vdcp_wire.specs.declared.wire.WireFault.{WireFault}
 use Rattle.vdcp_words.specs.declared.command.Command.{Command}
@@ -176,7 +177,7 @@ chain_seen does does' w acting [] old new h = ap w h
 chain_seen does does' w acting (act ∷ later) old new (next, one, rest) =
     (w next, acting act old next one, chain_seen does does' w acting later next new rest)
 
-asked_seen : {W W' : Type 0} (does : Act → W → W → Type 0) (does' : Act → W' → W' → Type 0) (w : W → W')
+pub asked_seen : {W W' : Type 0} (does : Act → W → W → Type 0) (does' : Act → W' → W' → Type 0) (w : W → W')
     → ((a : Act) (old new : W) → does a old new → does' a (w old) (w new)) → (settings : RunSettings) (start : Start)
     (wire wire' : W) (left : ℕ) (answer : Result Vacancy WireFault) → IsAsked does settings start wire wire' left answer
     → IsAsked does' settings start (w wire) (w wire') left answer
@@ -196,6 +197,17 @@ asked_seen {W} {W'} does does' w acting settings start wire wire' left answer as
   };
 }
 
+stop_seen : {W W' : Type 0} (does : Act → W → W → Type 0) (does' : Act → W' → W' → Type 0) (w : W → W')
+    → ((a : Act) (old new : W) → does a old new → does' a (w old) (w new))
+    → (act : Act) (old new : W) → MayStop does act old new → MayStop does' act (w old) (w new)
+stop_seen does does' w acting (sends bytes) old new h = acting (sends bytes) old new h
+stop_seen does does' w acting (brings (arrives.bytes piece)) old new h = acting (brings (arrives.bytes piece)) old new h
+stop_seen does does' w acting (brings arrives.silence) old new h = acting (brings arrives.silence) old new h
+stop_seen does does' w acting (brings arrives.close) old new (inl h) = inl (acting (brings arrives.close) old new h)
+stop_seen does does' w acting (brings arrives.close) old new (inr h) = inr (acting (brings arrives.silence) old new h)
+stop_seen does does' w acting drops old new h = acting drops old new h
+stop_seen does does' w acting fails old new h = acting fails old new h
+
 tries_seen : {W W' V V' F : Type 0} (does : Act → W → W → Type 0) (does' : Act → W' → W' → Type 0)
     (safe : F → Option (List ℕ)) (sees : State → V → V → Type 0)
     (sees' : State → V' → V' → Type 0) (w : W → W') (v : V → V')
@@ -212,17 +224,24 @@ tries_seen does does' safe sees sees' w v acting looking settings start world wa
 tries_seen does does' safe sees sees' w v acting looking settings start world watch end
     (unbegun answer wire left asked may line) = unbegun answer (w wire) left
     (asked_seen does does' w acting settings start world.wire wire left answer asked) may line
+tries_seen does does' safe sees sees' w v acting looking settings start world watch end
+    (left_off operated answer wire left asked line) = left_off operated answer (w wire) left
+    (asked_seen (MayStop does) (MayStop does') w (stop_seen does does' w acting) settings start world.wire wire left answer
+    asked) line
 
 -- ---- a clip that is waited for
 
-asks_seen : {E W W' : Type 0} (does : Act → W → W → Type 0) (does' : Act → W' → W' → Type 0) (w : W → W')
+asks_seen : {E W W' : Type 0} (operated : Bool) (does : Act → W → W → Type 0) (does' : Act → W' → W' → Type 0) (w : W → W')
     → ((a : Act) (old new : W) → does a old new → does' a (w old) (w new))
     → (fold : Fold E) (ear : E) (plan : Plan) (unit listens : ℕ) (state : State) (old new : W)
-    → AsksState does fold ear plan unit listens state old new
-    → AsksState does' fold ear plan unit listens state (w old) (w new)
-asks_seen does does' w acting fold ear plan unit listens state old new h = record {
+    → AsksState operated does fold ear plan unit listens state old new
+    → AsksState operated does' fold ear plan unit listens state (w old) (w new)
+asks_seen operated does does' w acting fold ear plan unit listens state old new h = record {
   left = h.left;
   answer = h.answer;
+  before = h.before;
+  after = h.after;
+  operated_is = h.operated_is;
   ran = run_seen _ _ w (λ keep. keep) (λ watch. watch) (record {
     does = acting;
     adds = λ r old new h. h;
@@ -238,10 +257,10 @@ awaits_in_seen : {W W' : Type 0} (does : Act → W → W → Type 0) (does' : Ac
     → AwaitsIn stage does' settings plan state (w old) (w new)
 awaits_in_seen does does' w acting hearing None settings is plan state old new h = ap w h
 awaits_in_seen does does' w acting hears.AtSilences (Some stage) settings is plan state old new h =
-    rw is (asks_seen does does' w acting ears.at_silences (ears.begun (holds [])) plan settings.unit settings.listens
+    rw is (asks_seen settings.operated does does' w acting ears.at_silences (ears.begun (holds [])) plan settings.unit settings.listens
     (record state { stage = stage }) old new (rw is at h))
 awaits_in_seen does does' w acting (hears.AtOnce poll) (Some stage) settings is plan state old new h =
-    rw is (asks_seen does does' w acting ears.at_once (holds []) plan settings.unit settings.listens
+    rw is (asks_seen settings.operated does does' w acting ears.at_once (holds []) plan settings.unit settings.listens
     (record state { stage = stage }) old new (rw is at h))
 
 pub awaited_seen : {W W' V V' F : Type 0} (does : Act → W → W → Type 0) (does' : Act → W' → W' → Type 0)

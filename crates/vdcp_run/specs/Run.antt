@@ -70,6 +70,7 @@ line_failure line_end.Failed = Some failures.LineFailed
 line_failure line_end.Unkept = None
 line_failure line_end.Occupied = Some failures.NotEmpty
 line_failure line_end.Unanswered = None
+line_failure line_end.Stopped = None
 
 -- ---- the as-run file
 
@@ -134,6 +135,7 @@ wanted_after line_end.Failed name = name
 wanted_after line_end.Unkept name = name
 wanted_after line_end.Occupied name = None
 wanted_after line_end.Unanswered name = name
+wanted_after line_end.Stopped name = name
 
 -- so it is after a run of these items
 abbrev pub HasAsrun : RunSettings → List Item → RunEnd → Type 0
@@ -201,9 +203,10 @@ MayBeUnkept (Some name) (Some failure) = (failure ≡ failures.Write name) ⊎ (
 
 -- ---- what is printed and reported
 
--- a port that didn't answer its questions is lost
+-- a port that didn't answer its questions is lost, and one at which the operator stopped them stopped
 abbrev pub told_outcome : LineEnd → Option Outcome → Option Outcome
 told_outcome line_end.Unanswered outcome = Some Lost
+told_outcome line_end.Stopped outcome = Some Stopped
 told_outcome line_end.Unneeded outcome = outcome
 told_outcome line_end.Closed outcome = outcome
 told_outcome line_end.Spent outcome = outcome

@@ -1,5 +1,5 @@
 -- What a session did: it asked the port, if it was to, and ran a driver, with the journal that it has, if it has one.
-use Rattle.std.specs.Prelude.{ℕ, ◌≡◌, ◌≢◌, ◌≤◌, ◌+◌, Bool, true, false, List, [], length, Option, None, Some, IsSome, Result, Ok, Err}
+use Rattle.std.specs.Prelude.{ℕ, ◌≡◌, ◌≢◌, ◌⊎◌, ◌≤◌, ◌+◌, Bool, true, false, List, [], length, Option, None, Some, IsSome, Result, Ok, Err}
 use Rattle.vdcp_auto.specs.Plan.{Plan, View, plan_of}
 use Rattle.vdcp_auto.specs.State.{State}
 use Rattle.vdcp_auto.specs.Turn.{given, outcome_of}
@@ -18,6 +18,7 @@ use Rattle.vdcp_drive.specs.declared.keep.KeptFault.TheVariants as fault
 use Rattle.vdcp_drive.specs.declared.line.Ran.{Ran}
 use Rattle.vdcp_drive.specs.declared.line.Ran.TheVariants as ran
 use Rattle.vdcp_drive.specs.declared.operator.Call.{Call}
+use Rattle.vdcp_drive.specs.declared.operator.Call.TheVariants.{Stop}
 use Rattle.vdcp_drive.specs.declared.vacancy.Vacancy.{Vacancy}
 use Rattle.vdcp_drive.specs.declared.vacancy.Vacancy.TheVariants as vacancy
 use Rattle.vdcp_journal.specs.declared.moment.Moment.{Moment}
@@ -34,8 +35,9 @@ use Rattle.vdcp_run.specs.declared.run_end.RunEnd.{RunEnd}
 use Rattle.vdcp_run.specs.declared.settings.RunSettings.{RunSettings}
 use Rattle.vdcp_text.specs.declared.failure.Failure.{Failure}
 use Rattle.vdcp_value.specs.declared.part.Item.{Item}
-use Rattle.vdcp_wire.specs.Acts.{Act}
+use Rattle.vdcp_wire.specs.Acts.{Act, sends, brings, drops, fails}
 use Rattle.vdcp_wire.specs.Streams.{StreamDoes, Streamed}
+use Rattle.vdcp_wire.specs.Wires as arrives
 use Rattle.vdcp_wire.specs.declared.stream.Connection.TheVariants as connection
 use Rattle.vdcp_wire.specs.declared.wire.WireFault.{WireFault}
 use Rattle.vdcp_words.specs.declared.command.Command.{Command}
@@ -201,13 +203,34 @@ pub record IsAsked {W : Type 0} (does : Act → W → W → Type 0) (settings : 
   pub asks : settings.ask ≡ true → IsOpening (given start.plan start.state)
       → HasAsked does settings.unit settings.port settings.limit settings.listens left wire wire' answer
 
+-- while it is asked the operator may stop at the end of an exchange: the silence is told as a close, and nothing more is asked
+abbrev pub MayStop : {W : Type 0} → (Act → W → W → Type 0) → Act → W → W → Type 0
+MayStop does (sends bytes) old new = does (sends bytes) old new
+MayStop does (brings (arrives.bytes piece)) old new = does (brings (arrives.bytes piece)) old new
+MayStop does (brings arrives.silence) old new = does (brings arrives.silence) old new
+MayStop does (brings arrives.close) old new = does (brings arrives.close) old new ⊎ does (brings arrives.silence) old new
+MayStop does drops old new = does drops old new
+MayStop does fails old new = does fails old new
+
+-- whether he has stopped, before and after, with what he called: each silence is told that comes before
+abbrev pub Heeds : {W : Type 0} → (Act → W → W → Type 0) → Option Call → (is_stopped is_stopped' : Bool) → Act → W → W → Type 0
+Heeds does held was is (sends bytes) old new = does (sends bytes) old new × (is ≡ was)
+Heeds does held was is (brings (arrives.bytes piece)) old new =
+    does (brings (arrives.bytes piece)) old new × (is ≡ was)
+Heeds does held was is (brings arrives.silence) old new =
+    does (brings arrives.silence) old new × (is ≡ was) × (held ≢ Some Stop)
+Heeds does held was is (brings arrives.close) old new =
+    (does (brings arrives.close) old new × (is ≡ was)) ⊎ (does (brings arrives.silence) old new × (is ≡ true))
+Heeds does held was is drops old new = does drops old new × (is ≡ was)
+Heeds does held was is fails old new = does fails old new × (is ≡ was)
+
 -- the list may be begun: nothing is cued there and nothing plays. One that was denied is denied again
 abbrev pub MayBegin : Result Vacancy WireFault → Type 0
 MayBegin (Ok vacancy.Vacant) = Unit {0}
 MayBegin (Ok vacancy.Denied) = Unit {0}
 MayBegin _ = ⊥
 
--- the list was played over a wire, if the answer let it be begun
+-- the list was played over a wire, if the answer let it be begun, and the operator didn't stop before
 pub data HasTried {W V F : Type 0} (does : Act → W → W → Type 0) (safe : F → Option (List ℕ))
     (sees : State → V → V → Type 0) (settings : RunSettings) (start : Start) (world : World W (Option (Recording F)) V)
     (watch : V) (end : RunEnd) : Type 0 where
@@ -219,6 +242,9 @@ pub data HasTried {W V F : Type 0} (does : Act → W → W → Type 0) (safe : F
   unbegun : (answer : Result Vacancy WireFault) (wire : W) (left : ℕ)
       → IsAsked does settings start world.wire wire left answer → ¬ MayBegin answer
       → end.line ≡ unbegun_line answer
+      → HasTried does safe sees settings start world watch end
+  left_off : settings.operated ≡ true → (answer : Result Vacancy WireFault) (wire : W) (left : ℕ)
+      → IsAsked (MayStop does) settings start world.wire wire left answer → end.line ≡ line_end.Stopped
       → HasTried does safe sees settings start world watch end
 
 -- ---- over a connection

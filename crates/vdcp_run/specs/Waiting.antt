@@ -1,5 +1,5 @@
 -- What goes out while a run waits for the clip before to end.
-use Rattle.std.specs.Prelude.{ℕ, ◌≡◌, [], Option, None, Some, Result}
+use Rattle.std.specs.Prelude.{ℕ, ◌≡◌, ◌⊎◌, Bool, true, [], Option, None, Some, IsSome, Result}
 use Rattle.vdcp_auto.specs.Plan.{Plan}
 use Rattle.vdcp_auto.specs.State.{State, Stage, Ready}
 use Rattle.vdcp_auto.specs.declared.phase.Phase.TheVariants as phase
@@ -13,6 +13,7 @@ use Rattle.vdcp_drive.specs.declared.keep.Kept.{Kept}
 use Rattle.vdcp_drive.specs.declared.keep.Kept.TheVariants as kept
 use Rattle.vdcp_drive.specs.declared.keep.KeptFault.{KeptFault}
 use Rattle.vdcp_drive.specs.declared.line.Ran.{Ran}
+use Rattle.vdcp_drive.specs.declared.operator.Call.{Call}
 use Rattle.vdcp_log.specs.declared.hearing.Hearing.{Hearing}
 use Rattle.vdcp_log.specs.declared.hearing.Hearing.TheVariants as hears
 use Rattle.vdcp_run.specs.declared.settings.RunSettings.{RunSettings}
@@ -27,37 +28,57 @@ OnlyAsks (kept.Sent other) = ⊥
 OnlyAsks (kept.Heard heard) = Unit {0}
 OnlyAsks kept.Silence = Unit {0}
 
--- a wire over which nothing is kept and nobody watches
-abbrev pub alone : {W : Type 0} → W → World W (Unit {0}) (Unit {0})
-alone wire = record { wire = wire; keep = tt; watch = tt }
-
--- only another command is refused
+-- another command is refused
 abbrev pub IsRefused : Command → Type 0
 IsRefused (command.Status groups) = ⊥
 IsRefused other = Unit {0}
 
-abbrev pub asking : {W : Type 0} → (Act → W → W → Type 0) → Rules W (Unit {0}) (Unit {0})
+-- whether an operator has a hand in it, and what he called
+pub record Attended : Type 0 where
+  pub operated : Bool
+  pub held : Option Call
+
+-- a command goes out only if the operator hasn't called, who was asked before
+abbrev pub GoesOn : Kept → Attended → Attended → Type 0
+GoesOn (kept.Sent command) old new = (new.operated ≡ old.operated) × (old.operated ≡ true → new.held ≡ None)
+GoesOn (kept.Heard heard) old new = new ≡ old
+GoesOn kept.Silence old new = new ≡ old
+
+-- one doesn't since it is another, or since he called
+abbrev pub IsHeldBack : Command → Attended → Attended → Type 0
+IsHeldBack command old new = IsRefused command ⊎ ((old.operated ≡ true) × IsSome new.held)
+
+-- a wire that nobody watches
+abbrev pub attended : {W : Type 0} → W → Attended → World W Attended (Unit {0})
+attended wire keep = record { wire = wire; keep = keep; watch = tt }
+
+abbrev pub asking : {W : Type 0} → (Act → W → W → Type 0) → Rules W Attended (Unit {0})
 asking does = record {
   does = does;
-  adds = λ kept _ _. OnlyAsks kept;
-  loses = λ command _ _. IsRefused command;
+  adds = λ kept old new. OnlyAsks kept × GoesOn kept old new;
+  loses = λ command old new. IsHeldBack command old new;
   sees = λ state _ _. Unit {0};
 }
 
--- an automation ran over this wire from this state on, and nothing went out but what asks for the state
-pub record AsksState {W E : Type 0} (does : Act → W → W → Type 0) (fold : Fold E) (ear : E) (plan : Plan)
+-- an automation ran over this wire from this state on, and nothing went out but what asks for the state, until an operator
+-- called, if one has a hand in it
+pub record AsksState {W E : Type 0} (operated : Bool) (does : Act → W → W → Type 0) (fold : Fold E) (ear : E) (plan : Plan)
     (unit listens : ℕ) (state : State) (wire wire' : W) : Type 0 where
   pub left : Auto E
   pub answer : Result Ran KeptFault
-  pub ran : HasRun (asking does) fold plan unit listens (record { ear = ear; state = state }) left (alone wire)
-      (alone wire') answer
+  pub before : Attended
+  pub after : Attended
+  pub operated_is : before.operated ≡ operated
+  pub ran : HasRun (asking does) fold plan unit listens (record { ear = ear; state = state }) left (attended wire before)
+      (attended wire' after) answer
 
 -- so by the ear that a run has
-abbrev pub AsksBy : {W : Type 0} → Hearing → (Act → W → W → Type 0) → Plan → (unit listens : ℕ) → State → W → W → Type 0
-AsksBy hears.AtSilences does plan unit listens state wire wire' =
-    AsksState does ears.at_silences (ears.begun (holds [])) plan unit listens state wire wire'
-AsksBy (hears.AtOnce poll) does plan unit listens state wire wire' =
-    AsksState does ears.at_once (holds []) plan unit listens state wire wire'
+abbrev pub AsksBy : {W : Type 0} → Hearing → (operated : Bool) → (Act → W → W → Type 0) → Plan → (unit listens : ℕ) → State → W → W
+    → Type 0
+AsksBy hears.AtSilences operated does plan unit listens state wire wire' =
+    AsksState operated does ears.at_silences (ears.begun (holds [])) plan unit listens state wire wire'
+AsksBy (hears.AtOnce poll) operated does plan unit listens state wire wire' =
+    AsksState operated does ears.at_once (holds []) plan unit listens state wire wire'
 
 -- where the controller waits for the clip before, if it asks whether its PLAY was lost
 abbrev pub waiting_in : Stage → Option Stage
@@ -68,7 +89,7 @@ waiting_in _ = None
 abbrev pub AwaitsIn : {W : Type 0} → Option Stage → (Act → W → W → Type 0) → RunSettings → Plan → State → W → W → Type 0
 AwaitsIn None does settings plan state wire wire' = wire' ≡ wire
 AwaitsIn (Some stage) does settings plan state wire wire' =
-    AsksBy settings.hearing does plan settings.unit settings.listens (record state { stage = stage }) wire wire'
+    AsksBy settings.hearing settings.operated does plan settings.unit settings.listens (record state { stage = stage }) wire wire'
 
 -- over this wire the clip before was waited for, if that is needed
 abbrev pub AwaitsClip : {W : Type 0} → (Act → W → W → Type 0) → RunSettings → Plan → State → W → W → Type 0

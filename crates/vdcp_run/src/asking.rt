@@ -1,21 +1,138 @@
-//! What the port is asked before a list is begun.
+//! What the port is asked before a list is begun, unless the operator stops.
 ghost use Rattle.std.specs.Prelude.{◌≡◌, ◌≢◌, ◌≤◌, ◌↔◌, true, false, IsTrue, Ok, OnOk};
 ghost use Rattle.vdcp_auto.specs.Plan.{plan_of};
 ghost use Rattle.vdcp_auto.specs.Turn as turns;
 ghost use Rattle.vdcp_drive.specs.Vacancy.{HasAsked};
 ghost use Rattle.vdcp_run.specs.Ends.{IsOpening, unbegun_line};
-ghost use Rattle.vdcp_run.specs.Session.{MayBegin};
+ghost use Rattle.vdcp_list.specs.Rests.{items_left};
+ghost use Rattle.vdcp_run.specs.Session.{IsAsked, MayBegin, MayStop, start_of};
 
 use crate::run_end::LineEnd;
 use crate::settings::RunSettings;
+use std::io;
+use std::rt::Clock;
 use vdcp_auto::{Controller, Source};
-use vdcp_drive::{Vacancy, ask_port};
-use vdcp_wire::{Wire, WireFault};
+use vdcp_drive::{Call, Vacancy, ask_port};
+use vdcp_list::Rest;
+use vdcp_operator::Hand;
+use vdcp_wire::{Came, PIECE, Wire, WireFault};
 use vdcp_words::Command;
 
-/// Asks the port whether it is empty, if it is to be asked, until it was opened for the list, since from then on what is
-/// cued may be the list's own. `left` is how many listens may be made.
-pub fn vacancy_for<S: Source, W: Wire>(
+/// What the questions to a port came to, and what they left.
+#[derive(Drop)]
+pub struct Asked<'h, R: Clock, I: io::Read, O: io::Write, W> {
+    pub answer: Result<Vacancy, WireFault>,
+    pub wire: W,
+    pub hand: Hand<'h, R, I, O>,
+    /// How many listens may still be made.
+    pub left: u32,
+    /// The operator stopped at the end of an exchange, and nothing was asked after it.
+    pub is_stopped: bool,
+}
+
+/// Asks the port over this wire whether it is empty, if it is to be asked, unless the operator stops; what he called is held.
+pub fn ask_first<'h, R: Clock, S: Source, W: Wire + Drop, I: io::Read + Drop, O: io::Write + Drop>(
+    controller: &Controller<Rest<S>>,
+    wire: W,
+    settings: RunSettings<'_>,
+    hand: Hand<'h, R, I, O>,
+) -> Asked<'h, R, I, O, W>
+    requires unit { settings.unit ≤ 15 }
+    requires some { 1 ≤ settings.limit }
+    requires works { W.failures wire ≡ 0 }
+    ensures works { OnOk result.answer (W.failures result.wire ≡ 0) }
+    ensures asked { result.is_stopped ≡ false → IsAsked W.does settings.entry (start_of S.items controller.now) wire
+        result.wire result.left result.answer }
+    ensures stopped { result.is_stopped ≡ true → (settings.entry.operated ≡ true)
+        × IsAsked (MayStop W.does) settings.entry (start_of S.items controller.now) wire result.wire result.left result.answer }
+    ensures opened { ¬ IsOpening (turns.given (plan_of (items_left S.items) controller.now) controller.now.state) →
+        result.is_stopped ≡ false }
+{
+    let mut left = settings.listens;
+    if !settings.operated {
+        let mut wire = wire;
+        let answer = vacancy_for(controller, settings, &mut left, &mut wire);
+        return Asked {
+            answer,
+            wire,
+            hand,
+            left,
+            is_stopped: false,
+        };
+    }
+    let mut heeding = Heeding {
+        wire,
+        hand,
+        controller,
+        is_stopped: false,
+    };
+    let answer = vacancy_for(controller, settings, &mut left, &mut heeding);
+    let Heeding {
+        wire,
+        hand,
+        is_stopped,
+        ..
+    } = heeding;
+    Asked {
+        answer,
+        wire,
+        hand,
+        left,
+        is_stopped,
+    }
+}
+
+/// A wire at the end of each of whose bursts the operator is asked: once he stops, it looks closed.
+#[derive(Drop)]
+struct Heeding<'c, 'h, S: Source, R: Clock, I: io::Read, O: io::Write, W: Wire> {
+    wire: W,
+    hand: Hand<'h, R, I, O>,
+    // That of the run, which the operator is shown.
+    controller: &'c Controller<Rest<S>>,
+    is_stopped: bool,
+}
+
+impl<S: Source, R: Clock, I: io::Read + Drop, O: io::Write, W: Wire> Wire
+    for Heeding<'_, '_, S, R, I, O, W> {
+    ghost use Rattle.std.specs.Prelude.{None, refl};
+    ghost use Rattle.vdcp_run.specs.Session.{Heeds};
+
+    ghost does = { λ act old new. Heeds W.does new.hand.held old.is_stopped new.is_stopped act old.wire new.wire };
+
+    ghost told = { λ _. None };
+
+    ghost failures = { λ w. W.failures w.wire };
+
+    fn send(&mut self, bytes: &[u8]) -> Result<(), WireFault> {
+        self.wire.send(bytes)
+    }
+
+    fn listen(&mut self, buffer: &mut [u8; PIECE]) -> Result<Came, WireFault> {
+        match self.wire.listen(buffer)? {
+            Came::Bytes(n) => Ok(Came::Bytes(n)),
+            Came::Silence => {
+                if let Some(Call::Stop) = self.hand.heed(self.controller) {
+                    self.is_stopped = true;
+                    return Ok(Came::Closed);
+                }
+                Ok(Came::Silence)
+            }
+            Came::Closed => Ok(Came::Closed),
+        }
+    }
+
+    fn drop_waiting(&mut self) -> Result<(), WireFault> {
+        self.wire.drop_waiting()
+    }
+
+    ghost fails_once = { λ w. W.fails_once w.wire };
+
+    ghost tells = { λ _ _ _ _. refl };
+}
+
+// Asks the port whether it is empty, if it is to be asked, until it was opened for the list, since from then on what is
+// cued may be the list's own. `left` is how many listens may be made.
+fn vacancy_for<S: Source, W: Wire>(
     controller: &Controller<S>,
     settings: RunSettings<'_>,
     left: &mut u32,

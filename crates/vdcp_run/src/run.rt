@@ -42,7 +42,7 @@ use vdcp_wire::address_of;
 /// What the headline says of a controller and its log holds of the reported events: they are those that the
 /// exchanges over the line show to be settled.
 ///
-/// The status is 0 if the controller ended Done or Stopped, and 1 if it ended Denied, Missing, Refused,
+/// The status is 0 if the controller ended Done or Stopped, or the operator stopped while the port was asked, and 1 if it ended Denied, Missing, Refused,
 /// Foreign or Strange. It is 3 if it ended Lost, if the other end closed, the listens are used up or
 /// the line failed, or if the as-run list or a row of the journal isn't written.
 ///
@@ -65,7 +65,7 @@ pub fn do_run<
     L: io::Read + Drop,
     V: io::Write + Drop,
     I: io::Read + Drop,
-    O: io::Write,
+    O: io::Write + Drop,
     W: io::Write,
     E: io::Write,
 >(
@@ -74,7 +74,7 @@ pub fn do_run<
     list: NamedFile<'_, L>,
     settings: RunSettings<'s>,
     showing: Showing<V>,
-    hand: &mut Hand<'_, R, I, O>,
+    hand: Hand<'_, R, I, O>,
     advice: &mut Option<Advice<'s>>,
     out: &mut W,
     err: &mut E,
@@ -128,14 +128,14 @@ fn run_list<
     L: io::Read + Drop,
     V: io::Write + Drop,
     I: io::Read + Drop,
-    O: io::Write,
+    O: io::Write + Drop,
 >(
     rt: &R,
     address: &str,
     list: NamedFile<'a, L>,
     settings: RunSettings<'a>,
     mut showing: Showing<V>,
-    hand: &mut Hand<'_, R, I, O>,
+    hand: Hand<'_, R, I, O>,
     seen: &mut Seen,
 ) -> Result<RunEnd<'a>, Failure<'a>>
     requires unit { settings.unit ≤ 15 }

@@ -32,6 +32,8 @@ pub enum LineEnd {
     Occupied,
     /// The port didn't answer what it was asked, and the list wasn't begun.
     Unanswered,
+    /// The operator stopped while the port was asked, and the list wasn't begun.
+    Stopped,
 }
 
 impl LineEnd {
@@ -54,7 +56,7 @@ impl LineEnd {
     {
         match self {
             // (that of the journal is reported, and that nothing was answered is the outcome)
-            LineEnd::Unneeded | LineEnd::Unkept | LineEnd::Unanswered => None,
+            LineEnd::Unneeded | LineEnd::Unkept | LineEnd::Unanswered | LineEnd::Stopped => None,
             LineEnd::Closed => Some(Failure::LineClosed),
             LineEnd::Spent => Some(Failure::Spent),
             LineEnd::Failed => Some(Failure::LineFailed),
@@ -104,12 +106,14 @@ impl<'a> RunEnd<'a> {
         out.flush()
     }
 
-    /// How the run ended, as it is printed: one whose port didn't answer its questions is lost.
+    /// How the run ended, as it is printed: one whose port didn't answer its questions is lost, and one that ended while the
+    /// port was asked is stopped.
     pub fn told_outcome(&self) -> Option<Outcome>
         ensures { result ≡ told_outcome self.now.line self.now.outcome }
     {
         match self.line {
             LineEnd::Unanswered => Some(Outcome::Lost),
+            LineEnd::Stopped => Some(Outcome::Stopped),
             LineEnd::Unneeded
             | LineEnd::Closed
             | LineEnd::Spent

@@ -5,7 +5,7 @@ ghost use Rattle.vdcp_run.specs.Run.{EndsRun, MayBeUnkept, journal_of};
 ghost use Rattle.vdcp_run.specs.Session.{HasAwaited, HasPlayed, HasSession, HasTried, IsClosed, Plays, TriesOver, over, start_of, unseen};
 
 use crate::advice::Seen;
-use crate::asking::{may_begin, unbegun_line, vacancy_for};
+use crate::asking::{Asked, ask_first, may_begin, unbegun_line};
 use crate::lapsing::Lapsing;
 use crate::polling::Polling;
 use crate::run_end::{LineEnd, RunEnd, ended};
@@ -43,14 +43,14 @@ pub fn play_at<
     S: Source + Copy,
     V: io::Write + Drop,
     I: io::Read + Drop,
-    O: io::Write,
+    O: io::Write + Drop,
 >(
     rt: &R,
     address: SocketAddrV4,
     begun: Resumption<'a, '_, R, S>,
     settings: RunSettings<'a>,
     showing: Showing<V>,
-    hand: &mut Hand<'_, R, I, O>,
+    hand: Hand<'_, R, I, O>,
     seen: &mut Seen,
 ) -> Result<RunEnd<'a>, Failure<'a>>
     requires unit { settings.unit ≤ 15 }
@@ -67,6 +67,7 @@ pub fn play_at<
     if controller.outcome().is_some() {
         return Ok(ended(rt, &controller, LineEnd::Unneeded, settings));
     }
+    let mut hand = hand;
     hand.await_lead(&controller);
     let within = Duration::from_secs(CONNECTING);
     let Ok(stream) = rt.connect_timeout(SocketAddr::V4(address), within) else {
@@ -99,7 +100,7 @@ fn play_over<
     V: io::Write + Drop,
     F: Disk + Drop,
     I: io::Read + Drop,
-    O: io::Write,
+    O: io::Write + Drop,
 >(
     rt: &R,
     controller: Controller<Rest<S>>,
@@ -107,7 +108,7 @@ fn play_over<
     wire: io::Result<W>,
     settings: RunSettings<'a>,
     showing: Showing<V>,
-    hand: &mut Hand<'_, R, I, O>,
+    hand: Hand<'_, R, I, O>,
     seen: &mut Seen,
 ) -> RunEnd<'a>
     requires unit { settings.unit ≤ 15 }
@@ -142,7 +143,7 @@ fn play_shown<
     V: io::Write + Drop,
     F: Disk + Drop,
     I: io::Read + Drop,
-    O: io::Write,
+    O: io::Write + Drop,
 >(
     rt: &R,
     controller: Controller<Rest<S>>,
@@ -150,7 +151,7 @@ fn play_shown<
     wire: W,
     settings: RunSettings<'a>,
     showing: Showing<V>,
-    hand: &mut Hand<'_, R, I, O>,
+    hand: Hand<'_, R, I, O>,
     seen: &mut Seen,
 ) -> RunEnd<'a>
     requires unit { settings.unit ≤ 15 }
@@ -191,7 +192,7 @@ fn play_awaited<
     V: Watch<Rest<S>>,
     F: Disk + Drop,
     I: io::Read + Drop,
-    O: io::Write,
+    O: io::Write + Drop,
 >(
     rt: &R,
     controller: Controller<Rest<S>>,
@@ -199,7 +200,7 @@ fn play_awaited<
     wire: W,
     watcher: &mut V,
     settings: RunSettings<'a>,
-    hand: &mut Hand<'_, R, I, O>,
+    hand: Hand<'_, R, I, O>,
 ) -> RunEnd<'a>
     requires unit { settings.unit ≤ 15 }
     requires some { 1 ≤ settings.limit }
@@ -208,14 +209,14 @@ fn play_awaited<
         (record { wire = wire; keep = recorder.old; watch = watcher.old }) watcher.new result }
     ensures end { EndsRun settings.entry (journal_of recorder.old) S.items controller result }
 {
-    match await_clip(rt, &controller, wire, watcher, settings) {
-        Ok(wire) => play_asked(rt, controller, recorder, wire, watcher, settings, hand),
+    match await_clip(rt, &controller, wire, watcher, settings, hand) {
+        Ok((wire, hand)) => { play_asked(rt, controller, recorder, wire, watcher, settings, hand) }
         Err(WireFault) => ended(rt, &controller, LineEnd::Failed, settings),
     }
 }
 
 // Plays a list over a wire. If it is to be asked, the port is asked first, and the list is begun only if nothing is cued
-// there and nothing plays.
+// there and nothing plays, and the operator doesn't stop meanwhile.
 fn play_asked<
     'a,
     R: Files + Clock + AllocGlobal,
@@ -224,15 +225,15 @@ fn play_asked<
     V: Watch<Rest<S>>,
     F: Disk + Drop,
     I: io::Read + Drop,
-    O: io::Write,
+    O: io::Write + Drop,
 >(
     rt: &R,
     controller: Controller<Rest<S>>,
     recorder: &mut Option<Recorder<'a, '_, R, F>>,
-    mut wire: W,
+    wire: W,
     watcher: &mut V,
     settings: RunSettings<'a>,
-    hand: &mut Hand<'_, R, I, O>,
+    hand: Hand<'_, R, I, O>,
 ) -> RunEnd<'a>
     requires unit { settings.unit ≤ 15 }
     requires some { 1 ≤ settings.limit }
@@ -241,16 +242,25 @@ fn play_asked<
         (record { wire = wire; keep = recorder.old; watch = watcher.old }) watcher.new result }
     ensures end { EndsRun settings.entry (journal_of recorder.old) S.items controller result }
 {
-    let mut left = settings.listens;
-    let asked = vacancy_for(&controller, settings, &mut left, &mut wire);
-    if !may_begin(asked) {
-        return ended(rt, &controller, unbegun_line(asked), settings);
+    let Asked {
+        answer,
+        wire,
+        mut hand,
+        left,
+        is_stopped,
+    } = ask_first(&controller, wire, settings, hand);
+    if is_stopped {
+        hand.show_end(&controller, Some(Outcome::Stopped));
+        return ended(rt, &controller, LineEnd::Stopped, settings);
+    }
+    if !may_begin(answer) {
+        return ended(rt, &controller, unbegun_line(answer), settings);
     }
     let rest = RunSettings {
         listens: left,
         ..settings
     };
-    play(rt, controller, recorder, wire, watcher, rest, hand)
+    play(rt, controller, recorder, wire, watcher, rest, &mut hand)
 }
 
 // Plays a list over a wire, through whose port it may be played.
