@@ -1,6 +1,6 @@
 //! The operator in a driver's turns: calls are taken, and commands wait.
 ghost use Rattle.std.specs.Duration.{as_nanos};
-ghost use Rattle.std.specs.Prelude.{◌≡◌, ◌≢◌, ◌↔◌, ◌-◌, min, IsSome, None, Option, Some, ℕ};
+ghost use Rattle.std.specs.Prelude.{◌≡◌, ◌≢◌, ◌↔◌, ◌-◌, min, IsSome, None, Option, Some, is_some, ℕ};
 ghost use Rattle.vdcp_auto.specs.Plan.{plan_of};
 ghost use Rattle.vdcp_auto.specs.Turn.{given};
 ghost use Rattle.vdcp_drive.specs.declared.operator.Call.{Call};
@@ -95,6 +95,13 @@ impl<'a, R: Clock, I: Read + Drop, E: Write> Hand<'a, R, I, E> {
             commands: 0,
             held: None,
         }
+    }
+
+    /// A start is waited for.
+    pub fn awaits_start(&self) -> bool
+        ensures { result ≡ is_some self.now.start }
+    {
+        self.start.is_some()
     }
 
     /// Waits until it is time to connect: two seconds before the start, if one is set, or at a call, which is held.

@@ -3,7 +3,7 @@
 //! `do_run` connects to an address and plays a list through the port of the server there. Each fault has a line on
 //! standard error, and the exit status is given.
 //!
-//! Files, in reading order: `settings`, `run`, `begin`, `session`, `asking`, `run_end`, `advice`, `asrun`, `saved`, `place`,
+//! Files, in reading order: `settings`, `run`, `begin`, `connecting`, `session`, `asking`, `run_end`, `advice`, `asrun`, `saved`, `place`,
 //! `in_list`, `polling`, `lapsing`, `waiting`, `stalling`, `stopwatch`.
 #![tactic(auto)]
 
@@ -11,6 +11,7 @@ mod advice;
 mod asking;
 mod asrun;
 mod begin;
+mod connecting;
 mod in_list;
 mod lapsing;
 mod place;

@@ -6,6 +6,7 @@ ghost use Rattle.vdcp_run.specs.Session.{HasAwaited, HasPlayed, HasSession, HasT
 
 use crate::advice::Seen;
 use crate::asking::{Asked, ask_first, may_begin, unbegun_line};
+use crate::connecting::connect_in_time;
 use crate::lapsing::Lapsing;
 use crate::polling::Polling;
 use crate::run_end::{LineEnd, RunEnd, ended};
@@ -15,7 +16,7 @@ use crate::waiting::await_clip;
 use std::cell::Cell;
 use std::fs::File;
 use std::io;
-use std::net::{Net, SocketAddr, SocketAddrV4};
+use std::net::{Net, SocketAddrV4};
 use std::rt::{Clock, Files};
 use std::time::Duration;
 use vdcp_auto::{Controller, Outcome, Source};
@@ -26,9 +27,6 @@ use vdcp_log::{Hearing, Log, Logged, Side};
 use vdcp_operator::{Glances, Hand, Progress, ShownWire};
 use vdcp_text::Failure;
 use vdcp_wire::{StreamWire, Wire, WireFault};
-
-/// How long a connection may take to come about, in seconds.
-const CONNECTING: u64 = 5;
 
 /// Erases a line of a terminal.
 const ERASE: &'static str = "\r\x1b[K";
@@ -67,10 +65,8 @@ pub fn play_at<
     if controller.outcome().is_some() {
         return Ok(ended(rt, &controller, LineEnd::Unneeded, settings));
     }
-    let mut hand = hand;
-    hand.await_lead(&controller);
-    let within = Duration::from_secs(CONNECTING);
-    let Ok(stream) = rt.connect_timeout(SocketAddr::V4(address), within) else {
+    let (mut showing, mut hand) = (showing, hand);
+    let Some(stream) = connect_in_time(rt, address, &controller, &mut showing, &mut hand) else {
         return Err(Failure::Connect);
     };
     let wire = StreamWire::new(stream, silence_of(settings));
