@@ -109,7 +109,7 @@ static SENTENCES: [(Scope, &'static str, &'static str); 14] = [
     (
         Scope::Lists,
         ": id",
-        "an ID has one to eight ASCII characters, and no space before or behind it",
+        "an ID has one to eight ASCII characters, and no space around it",
     ),
     (Scope::Lists, ": twice", "a catalogue names each clip once"),
     (

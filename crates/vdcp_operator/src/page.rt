@@ -41,7 +41,7 @@ tr.ready td { color: var(--cue); font-weight: 700; }
 <div class="scroll" id="scroll" tabindex="0" role="region" aria-labelledby="list-title">
 <table><thead><tr><th scope="col">#</th><th scope="col">Event</th><th scope="col">State</th><th scope="col">At</th></tr></thead><tbody id="rows"></tbody></table></div></section>
 "#,
-    r#"// for so many milliseconds Take is locked after it was made, a press waits for the second one, and the list stays where it was scrolled to
+    r#"// In milliseconds: how long Take is locked once it was made, a press waits for its second one, and the list stays where it was scrolled to.
 const LOCKED = 500, ASKED = 3000, SCROLLED = 8000;
 const token = location.hash.slice(1), keys = { take: 'T', stop: 'S' };
 let seen = null, busy = '', sending = false, locked = 0, asked = { name: '', word: '', at: 0 }, scrolled = -SCROLLED, ahead = 0;
