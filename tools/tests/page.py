@@ -147,8 +147,8 @@ def run(page):
     page.get("about:blank")
     page.get(URL)
     awaits(page, "the first two", air_item="CLIP0001", next_item="CLIP0002 from 00:00:00:10 for 00:00:00:15", next_time=begins_with("cued, about "), air_time=lasts_30)
-    must(re.fullmatch(r"six \u2192 127\.0\.0\.1:\d+", text(page, "name")), f"no heading: {text(page, 'name')}")
-    must(re.fullmatch(r"\u25b6 CLIP0001 \u00b7 six \u2192 127\.0\.0\.1:\d+", page.title), f"no title: {page.title}")
+    must(re.fullmatch(r"News <2> \u00b7 six \u2192 127\.0\.0\.1:\d+", text(page, "name")), f"no heading: {text(page, 'name')}")
+    must(re.fullmatch(r"News <2> \u25b6 CLIP0001 \u00b7 six \u2192 127\.0\.0\.1:\d+", page.title), f"no title: {page.title}")
     must(by_24_hours(text(page, "clock")), f"no clock of 24 hours: {text(page, 'clock')}")
     must(all(by_24_hours(it.text.removeprefix("~")) for it in page.find_elements(By.CSS_SELECTOR, "#rows td:last-child")), "no times")
     for picture in PICTURES:
@@ -205,7 +205,7 @@ def follow_list(page):
 
 def start(page):
     page.get(URL)
-    awaits(page, "that it waits", health="waits for its start", next_item="CLIP0001", next_time=lambda it: re.fullmatch(r"at [\d:]{8}, in 00:00:\d\d:\d\d", it))
+    awaits(page, "that it waits", name=begins_with("list \u2192 127.0.0.1:"), health="waits for its start", next_item="CLIP0001", next_time=lambda it: re.fullmatch(r"at [\d:]{8}, in 00:00:\d\d:\d\d", it))
     types(page, "t")
     awaits(page, "that it asks again", take="Start now: once more")
     time.sleep(1)

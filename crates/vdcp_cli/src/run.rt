@@ -11,7 +11,7 @@ use vdcp_line::rate::rate_of;
 use vdcp_line::{Output, Resumable, System, capture_of, open_file};
 use vdcp_list::Table;
 use vdcp_log::{Hearing, Screen, Telling};
-use vdcp_operator::{Hand, Keys, RunNames, RunPage, start_of};
+use vdcp_operator::{Hand, Keys, RunNames, RunPage, is_channel_name, start_of};
 use vdcp_options::mode_of;
 use vdcp_panel::open_panel;
 use vdcp_run::{RunJournal, RunSettings, Showing, do_run};
@@ -102,6 +102,7 @@ fn hand_of<'a, E: Write>(
     };
     let page = match matches.get_str("panel") {
         Some(text) => {
+            test_name(matches, err)?;
             let panel = open_panel(system.rt, text, true, err)?;
             let Ok(names) = names_of(system.alloc(), matches, settings) else {
                 return Err(Failure::Memory.report(err));
@@ -119,6 +120,17 @@ fn hand_of<'a, E: Write>(
     Ok(Hand::new(system, keys, told, page, start, settings.hearing))
 }
 
+// Tests that the channel's name, if it is given one, can be that; or the status.
+fn test_name<E: Write>(matches: &ArgMatches<'_>, err: &mut E) -> Result<(), u8> {
+    match matches.get_str("name") {
+        Some(name) if !is_channel_name(name) => match writeln!(err, "vdcp: name") {
+            Ok(()) => Err(2),
+            Err(_) => Err(3),
+        },
+        _ => Ok(()),
+    }
+}
+
 // How the run was begun, for its page.
 fn names_of(
     alloc: Global,
@@ -130,6 +142,7 @@ fn names_of(
         None => "",
     };
     Ok(RunNames {
+        channel: String::from_str(alloc, matches.get_str("name").unwrap_or(""))?,
         server: String::from_str(alloc, matches.get_str("ADDR").unwrap_or(""))?,
         list: String::from_str(alloc, matches.get_str("LIST").unwrap_or(""))?,
         journal: String::from_str(alloc, journal)?,

@@ -85,7 +85,7 @@ impl Scope {
 }
 
 // Sentences for lines that end so, of which the first counts.
-static SENTENCES: [(Scope, &'static str, &'static str); 14] = [
+static SENTENCES: [(Scope, &'static str, &'static str); 15] = [
     (
         Scope::Lists,
         ": row 1: columns",
@@ -126,6 +126,11 @@ static SENTENCES: [(Scope, &'static str, &'static str); 14] = [
         Scope::Anywhere,
         "panel address",
         "a page is shown to this machine alone: give IPv4:PORT, as 127.0.0.1:7480",
+    ),
+    (
+        Scope::Anywhere,
+        "vdcp: name",
+        "a channel's name has 1 to 64 bytes, and no control characters",
     ),
     (
         Scope::Anywhere,

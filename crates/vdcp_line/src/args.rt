@@ -237,6 +237,12 @@ static RUN: Subcommand = Subcommand {
             "panel",
             "With --panel, shows there for how long still what is on air plays, by this catalogue",
         ),
+        Argument::ValueWith(
+            "name",
+            "TEXT",
+            "panel",
+            "With --panel, what the page calls the channel",
+        ),
         Argument::Flag("log", "Tells standard error of each message"),
         CAPTURE,
     ],

@@ -3,3 +3,4 @@ pub mod Typed
 pub mod Seen
 pub mod Hands
 pub mod Starts
+pub mod Channel

@@ -76,14 +76,15 @@ row_data rate clips e =
 -- what stays of a run, and how its line is
 abbrev pub run_data : RunSeen → Data
 run_data v =
-    object (member (codes "commands") (number (unsigned v.commands))
+    object (member (codes "channel") (string (string_bytes v.names.now.channel))
+    (member (codes "commands") (number (unsigned v.commands))
     (member (codes "from") (number (unsigned v.from))
     (member (codes "journal") (string (string_bytes v.names.now.journal))
     (member (codes "list") (string (string_bytes v.names.now.list))
     (member (codes "over") (boolean v.is_over)
     (member (codes "rate") (number (unsigned (frames_per_second v.rate)))
     (member (codes "server") (string (string_bytes v.names.now.server))
-    (member (codes "unanswered") (number (unsigned v.snapshot.unanswered)) no_members))))))))
+    (member (codes "unanswered") (number (unsigned v.snapshot.unanswered)) no_members)))))))))
 
 abbrev pub seen_data : RunSeen → Data
 seen_data v =

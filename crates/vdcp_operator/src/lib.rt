@@ -4,9 +4,10 @@
 //! answers requests for the page (`RunPage`), and waits until the next command may go out. `Progress` shows in a terminal how
 //! far a run is, by its wire (`ShownWire`) and its controller (`Glances`).
 //!
-//! Files, in reading order: `keys`, `typed`, `seen`, `shown`, `page`, `start`, `hand`, `progress`.
+//! Files, in reading order: `keys`, `typed`, `channel`, `seen`, `shown`, `page`, `start`, `hand`, `progress`.
 #![tactic(auto)]
 
+mod channel;
 mod hand;
 mod keys;
 mod page;
@@ -16,6 +17,7 @@ mod shown;
 mod start;
 mod typed;
 
+pub use channel::is_channel_name;
 pub use hand::Hand;
 pub use keys::Keys;
 pub use progress::{Glances, Progress, ShownWire};

@@ -71,6 +71,7 @@ const isCued = run => run.stage === 'waiting' || run.stage === 'starting';
 const isOver = run => run.over || run.stage === 'ended' || run.outcome !== 'open';
 const isWell = run => run.outcome === 'done' || run.outcome === 'stopped';
 const ended = run => 'the run has ended: ' + (run.outcome === 'open' ? 'the line failed' : run.outcome);
+const heading = run => file(run.list) + ' \u2192 ' + run.server;
 const waits = () => seen !== null && seen.start !== null;
 const find = (run, number) => run.rows.find(r => r.number === number);
 // the last event that went to air in this run
@@ -176,12 +177,12 @@ function show(run) {
   slot('air', air ? named(air.item) : unknown ? 'unknown' + (before ? ', last seen ' + named(before.item) : '') : 'nothing', air ? 'air' : '');
   const next = isOver(run) ? undefined : find(run, run.event);
   slot('next', next ? named(next.item) : 'nothing', next && isCued(run) ? 'ready' : '');
-  put('name', file(run.list) + ' \u2192 ' + run.server);
+  put('name', (run.channel === '' ? '' : run.channel + ' \u00b7 ') + heading(run));
   put('server', run.server);
   put('journal', run.journal || 'none');
   put('stage', run.stage + (run.take ? ', to take' : '') + (run.stop ? ', to stop' : ''));
   put('unanswered', String(run.unanswered));
-  document.title = (air ? '\u25B6 ' + air.item : isOver(run) ? 'ended' : 'off air') + ' \u00b7 ' + file(run.list) + ' \u2192 ' + run.server;
+  document.title = (run.channel === '' ? '' : run.channel + ' ') + (air ? '\u25B6 ' + air.item : isOver(run) ? 'ended' : 'off air') + ' \u00b7 ' + heading(run);
   rows(run, plan(run).times);
   follow(run);
   put('step', step(run));

@@ -27,6 +27,8 @@ pub struct EventSeen {
 /// How a run was begun, as its command line says it.
 #[derive(Drop)]
 pub struct RunNames {
+    /// What its channel is called; empty if it has no name.
+    pub channel: String,
     /// The address of the port's server.
     pub server: String,
     /// The file of the list.
@@ -111,6 +113,7 @@ impl RunSeen<'_> {
         ensures { IfOk result (λ v. view v ≡ run_data self.now) }
     {
         json!(in alloc; {
+            "channel": self.names.channel.as_str(),
             "commands": self.commands,
             "from": self.from,
             "journal": self.names.journal.as_str(),
