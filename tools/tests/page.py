@@ -2,8 +2,9 @@
 """page.py port URL SERVER RUN..: opens the page of a port in headless Chromium, plays a list of two clips by the command RUN, and ends the
 process SERVER. page.py run URL: opens the page of a run, takes by a click and by a key, and stops by a key that is asked twice.
 page.py list URL: that of a run that began with event 28 of 40, whose first clips are short. page.py start URL: that of one that waits for its
-start, which a key that is asked twice begins. page.py lost URL SERVER JOURNAL: that of one whose server stops to answer. It fails if the page
-doesn't show each of these, or can't be read. With a last word --picture=FILE it draws the page."""
+start, which a key that is asked twice begins. page.py before URL PLAYED: that of one that went on in a journal of others, of which the first
+played an event at PLAYED. page.py resumed URL PLAYED: that of one that was killed after it had played an event at PLAYED, and goes on. page.py
+lost URL SERVER JOURNAL: that of one whose server stops to answer. It fails if the page doesn't show each of these, or can't be read. With a last word --picture=FILE it draws the page."""
 import os
 import re
 import signal
@@ -163,6 +164,9 @@ def run(page):
     must("has ended" not in text(page, "health"), "one key stops the run")
     types(page, "s")
     awaits(page, "how it ended", health="the run has ended: stopped", air_item="nothing")
+    ends = [re.sub(r"00:00:\d\d$", "", it) for it in column(page, 2)]
+    must(ends == ["cut by a take after ", "aired, ran out", "cut by a take after ", "stopped after ", "", ""], f"how the clips ended: {ends}")
+    must(all(by_24_hours(it) for at in column(page, 3)[:4] for it in at.split(" to ")), f"from when until when: {column(page, 3)}")
     must(not page.find_element(By.ID, "take").is_enabled(), "calls can be made once it has ended")
     time.sleep(2.5)
     must((text(page, "health"), class_of(page, "health")) == ("the run has ended: stopped", "idle"), "once the run is gone the page says otherwise")
@@ -175,6 +179,10 @@ def takes_once_at_a_time(page):
     awaits(page, "the last one", next_item="CLIP0002")
     time.sleep(1)
     must(text(page, "next-item") == "CLIP0002", "more than one press took")
+
+
+def column(page, k):
+    return [row.find_elements(By.TAG_NAME, "td")[k].text for row in page.find_elements(By.CSS_SELECTOR, "#rows tr")]
 
 
 def row_is_seen(page):
@@ -195,12 +203,26 @@ def follow_list(page):
     page.get(URL)
     awaits(page, "the first one", air_item="CLIP0001", count=lambda it: "from 28 on in this run" in it)
     follows(page, "the first one")
-    states = [row.find_elements(By.TAG_NAME, "td")[2].text for row in page.find_elements(By.CSS_SELECTOR, "#rows tr")]
+    states = column(page, 2)
     must(states[:20] == ["before this run"] * 19 + ["on air"], f"what this run didn't play: {states}")
     page.execute_script("const box = document.getElementById('scroll'); box.dispatchEvent(new WheelEvent('wheel')); box.scrollTop = 0;")
     time.sleep(2)
     must(page.execute_script("return document.getElementById('scroll').scrollTop") == 0, "the list doesn't stay where it was scrolled to")
     follows(page, "after a while")
+
+
+def before(page):
+    page.get(URL)
+    awaits(page, "what plays", air_item="CLIP0001", count=begins_with("five: 1 of 2 reported, from 3 on in this run"))
+    must(column(page, 2) == ["aired", "may have aired", "left out", "on air", "cued"], f"what the journal says: {column(page, 2)}")
+    at = column(page, 3)
+    must(re.fullmatch(WORDS[0][11:19] + r" to ([01]\d|2[0-3]):[0-5]\d:[0-5]\d", at[0]) and at[1:3] == ["", ""], f"when it aired: {at}")
+
+
+def resumed(page):
+    page.get(URL)
+    awaits(page, "what plays", air_item="CLIP0002", air_time=begins_with("for 00:00:"), next_item="CLIP0002")
+    must((column(page, 2)[0], column(page, 3)[0]) == ("on air", WORDS[0][11:19]), f"since when it plays: {column(page, 3)}")
 
 
 def start(page):
@@ -225,6 +247,6 @@ def lost(page):
 
 opened = browser()
 try:
-    {"port": port, "run": run, "list": follow_list, "start": start, "lost": lost}[WHOSE](opened)
+    {"port": port, "run": run, "list": follow_list, "start": start, "before": before, "resumed": resumed, "lost": lost}[WHOSE](opened)
 finally:
     opened.quit()

@@ -3,6 +3,7 @@ use Rattle.std.proofs.Common.{ℕ, zero, suc, ◌≡◌, ◌⊎◌, inl, inr, �
 use Rattle.std.proofs.Math.Nat.{one-le-mul}
 use Rattle.std.specs.Prelude.{⊤, IfNone, IfOk, IfSome, OnOk, Option, None, Some, Ok, Err, Result, slice_get}
 use Rattle.vdcp_auto.specs.Law.{IsLawful}
+use Rattle.vdcp_auto.specs.declared.phase.Mode.{Mode}
 use Rattle.vdcp_auto.specs.Plan.{Plan, View, plan_of}
 use Rattle.vdcp_auto.specs.State.{State}
 use Rattle.vdcp_auto.specs.Turn.{awaited, start}
@@ -16,8 +17,9 @@ use Rattle.vdcp_journal.specs.declared.faults.JournalReadFault.TheVariants as un
 use Rattle.vdcp_journal.specs.declared.faults.ResumeFault.{ResumeFault}
 use Rattle.vdcp_journal.specs.declared.row.Heading.{Heading}
 use Rattle.vdcp_journal.specs.declared.row.Row.{Row}
-use Rattle.vdcp_journal_file.specs.Resuming.{Differs, IsLastRun, IsMadeOrRefused, IsOther, IsRefused, IsRunOn, IsRunRefused, bad_run, falls, last_note, no_event, no_journal, of_other, plan_begun, plan_of_run, state_after}
+use Rattle.vdcp_journal_file.specs.Resuming.{Differs, IsLastRun, IsMadeOrRefused, IsOther, IsRefused, IsRunOn, IsRunRefused, RunShows, RunsShow, bad_run, falls, last_note, no_event, no_journal, of_other, plan_begun, plan_of_run, state_after}
 use Rattle.vdcp_journal_file.specs.declared.reading.Refusal.{Refusal}
+use Rattle.vdcp_journal_file.specs.declared.reading.RunAirings.{RunAirings}
 use Rattle.vdcp_journal_file.specs.declared.reading.Refusal.TheVariants as refusal
 use Rattle.vdcp_text.specs.declared.failure.JournalFault.TheVariants as fault
 use Rattle.vdcp_list.specs.Rests.{FromEvent, items_left}
@@ -146,6 +148,14 @@ pub begins : {S : Type 0} (items : S → List Item) (heading : Heading) (list : 
 begins items heading list rows row event made airings next some is found =
     subst (λ (run : Run). MadeSoFar items heading list run made airings)
     (sym (next ∙ ap (λ (o : Option ℕ). run_after o row (last_run rows)) some)) (record { is = is; found = found })
+
+-- what one run more shows
+pub shows_more : (mode : Mode) (runs : List Run) (shown : List RunAirings) (run : Run) (last : RunAirings)
+    → RunsShow mode runs shown → RunShows mode run last → RunsShow mode (runs ++ run ∷ []) (shown ++ last ∷ [])
+shows_more mode [] [] run last all so = (so, tt)
+shows_more mode [] (first ∷ shown) run last all so = absurd all
+shows_more mode (next ∷ runs) [] run last all so = absurd all
+shows_more mode (next ∷ runs) (first ∷ shown) run last all so = (all.0, shows_more mode runs shown run last all.1 so)
 
 -- ---- the end of the rows
 

@@ -7,7 +7,8 @@ use Rattle.vdcp_auto.specs.State.{State}
 use Rattle.vdcp_auto.specs.Turn.{awaited, outcome_of, start}
 use Rattle.vdcp_auto.specs.declared.outcome.Outcome.{Outcome}
 use Rattle.vdcp_auto.specs.declared.outcome.Outcome.TheVariants.{Done, Stopped}
-use Rattle.vdcp_journal.specs.Airings.{may_have_played, settled_in, unsettled_event}
+use Rattle.vdcp_auto.specs.declared.phase.Mode.{Mode}
+use Rattle.vdcp_journal.specs.Airings.{AreAirings, may_have_played, settled_in, unsettled_event}
 use Rattle.vdcp_journal.specs.RunsSoFar.{IsMadeBy, RunView}
 use Rattle.vdcp_journal.specs.Journals.{IsJournal, IsJournalFault, Journal}
 use Rattle.vdcp_journal.specs.Resume.{AllStand, AreTold, IsResumeFault, after_rows, log_of, plan_after, timed_out}
@@ -26,6 +27,7 @@ use Rattle.vdcp_list.specs.Rests.{FromEvent, items_left}
 use Rattle.vdcp_list.specs.Rows.{FileBytes}
 use Rattle.vdcp_journal_file.specs.Recording.{IsUnopened, IsUnwritten}
 use Rattle.vdcp_journal_file.specs.declared.reading.Refusal.{Refusal}
+use Rattle.vdcp_journal_file.specs.declared.reading.RunAirings.{RunAirings}
 use Rattle.vdcp_journal_file.specs.declared.reading.Refusal.TheVariants as refusal
 use Rattle.vdcp_text.specs.declared.failure.Failure.{Failure}
 use Rattle.vdcp_text.specs.declared.failure.Failure.TheVariants as failures
@@ -178,6 +180,24 @@ pub record Continues {S : Type 0} (items : S → List Item) (wanted : Heading) (
   pub last : IsLastRun journal.rows run
   pub on : IsRunOn items wanted list run controller asked unsettled
   pub noted_is : noted ≡ last_note journal.rows
+
+-- so many events aired in a run from its first on, at these times, and this one may have aired besides
+pub record RunShows (mode : Mode) (run : Run) (shown : RunAirings) : Type 0 where
+  pub from_is : shown.from ≡ run.from
+  pub are : AreAirings mode run.rows shown.airings.items shown.unsettled
+
+-- that of each of these runs
+abbrev pub RunsShow : Mode → List Run → List RunAirings → Type 0
+RunsShow mode [] [] = Unit {0}
+RunsShow mode [] (first ∷ shown) = ⊥
+RunsShow mode (run ∷ runs) [] = ⊥
+RunsShow mode (run ∷ runs) (first ∷ shown) = RunShows mode run first × RunsShow mode runs shown
+
+-- the whole lines are a journal, whose runs show this
+pub record JournalShows (mode : Mode) (lines : FileBytes) (shown : List RunAirings) : Type 0 where
+  pub journal : Journal
+  pub reads : IsJournal lines journal
+  pub show : RunsShow mode (runs_of journal.rows) shown
 
 -- a journal's heading differs from the one that is wanted, and it is refused so
 abbrev pub IsOther : Heading → Heading → Refusal → Type 0

@@ -9,7 +9,7 @@ ghost use Rattle.vdcp_list.specs.Rests.{items_left};
 ghost use Rattle.vdcp_list.specs.Rows.{FileBytes};
 ghost use Rattle.vdcp_journal_file.specs.Disks.{BeginsWith};
 ghost use Rattle.vdcp_journal_file.specs.Recording.{BeganWith, HasBegun};
-ghost use Rattle.vdcp_journal_file.specs.Resuming.{BeginsAfter, IsNoBeginning, IsOpenedAfter, IsOpenedAgain, IsOver, IsRunOn, IsUnopenedAgain};
+ghost use Rattle.vdcp_journal_file.specs.Resuming.{BeginsAfter, IsNoBeginning, IsOpenedAfter, IsOpenedAgain, IsOver, IsRunOn, IsUnopenedAgain, JournalShows};
 ghost use Rattle.vdcp_text.specs.declared.failure.Failure.TheVariants as failures;
 
 use crate::disk::ReadableDisk;
@@ -48,6 +48,7 @@ pub fn begin_again<'a, 'r, 's, R: Files<File = File> + Clock + AllocGlobal, S: S
     ensures unit { IfOk result (λ r. IfSome r.recorder (λ recorder. recorder.unit ≡ wanted.now.unit)) }
     ensures name { IfOk result (λ r. IfSome r.recorder (λ recorder. recorder.name ≡ name.entry)) }
     ensures from { IfOk result (λ r. IfSome r.recorder (BeganWith (Some r.controller.source.from))) }
+    ensures shows { IfOk result (λ r. (lines : FileBytes) × JournalShows wanted.now.mode lines r.runs.items) }
     ensures unopened { IfErr result (IsUnopenedAgain (S.items source.now) name.entry wanted.now word) }
 {
     let file = open(rt, name)?;
@@ -75,6 +76,8 @@ fn begin_in<'a, 'r, 's, R: Clock + AllocGlobal, S: Source, F: ReadableDisk + Dro
     ensures unit { IfOk result (λ r. IfSome r.recorder (λ recorder. recorder.unit ≡ wanted.now.unit)) }
     ensures name { IfOk result (λ r. IfSome r.recorder (λ recorder. recorder.name ≡ name.entry)) }
     ensures from { IfOk result (λ r. IfSome r.recorder (BeganWith (Some r.controller.source.from))) }
+    ensures shows { IfOk result (λ r. (lines : FileBytes) × JournalShows wanted.now.mode lines r.runs.items
+        × BeginsWith (option_map whole_lines (F.written file)) lines) }
     ensures unopened { IfErr result (IsUnopenedAgain (S.items source.now) name.entry wanted.now word) }
 {
     mend_heading(rt, name, wanted, &mut file)?;
@@ -90,6 +93,7 @@ fn begin_in<'a, 'r, 's, R: Clock + AllocGlobal, S: Source, F: ReadableDisk + Dro
     Ok(Resumption {
         controller: new_controller(source, event, wanted),
         recorder: Some(recorder),
+        runs: run.runs,
     })
 }
 

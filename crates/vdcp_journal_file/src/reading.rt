@@ -1,22 +1,23 @@
 //! The rows of a journal, one after another, held against what is wanted.
-ghost use Rattle.std.specs.Prelude.{◌≡◌, ◌≤◌, ◌⊎◌, ◌∷◌, ◌++◌, ◌+◌, [], IfErr, IfNone, IfOk, IfSome, List, OnOk, length, option_map};
+ghost use Rattle.std.specs.Prelude.{◌≡◌, ◌≤◌, ◌⊎◌, ◌∷◌, ◌++◌, ◌+◌, ℕ, [], IfErr, IfNone, IfOk, IfSome, List, OnOk, Option, length, option_map};
 ghost use Rattle.vdcp_value.specs.declared.part.Item.{Item};
 ghost use Rattle.vdcp_journal_file.specs.declared.reading.Refusal.{Refusal};
 ghost use Rattle.vdcp_journal_file.specs.declared.reading.Refusal.TheVariants as refusals;
 ghost use Rattle.vdcp_text.specs.declared.failure.JournalFault.TheVariants as faults;
-ghost use Rattle.vdcp_journal.specs.Airings.{FoundSoFar};
+ghost use Rattle.vdcp_auto.specs.declared.phase.Mode.{Mode};
+ghost use Rattle.vdcp_journal.specs.Airings.{FoundSoFar, unsettled_event};
 ghost use Rattle.vdcp_journal.specs.Reading.{whole_lines};
 ghost use Rattle.vdcp_journal.specs.Runs.{Run};
 ghost use Rattle.vdcp_journal.specs.declared.row.Heading.{Heading};
-ghost use Rattle.vdcp_journal_file.specs.Resuming.{Continues, Differs, IsMadeOrRefused, IsOther, IsRefused, IsRunOn, IsRunRefused, failure_of, is_end, read_refusal, row_fault, standing_fault};
+ghost use Rattle.vdcp_journal_file.specs.Resuming.{Continues, Differs, IsMadeOrRefused, IsOther, IsRefused, IsRunOn, IsRunRefused, JournalShows, RunsShow, failure_of, is_end, read_refusal, row_fault, standing_fault};
 
 use std::alloc::{AllocError, Global};
 use std::io;
 use vdcp_auto::{Controller, Source};
 use vdcp_journal::laws::{runs_follow_one_another, what_is_told_is_lawful};
 use vdcp_journal::{
-    AiringsSoFar, Heading, JournalReadFault, JournalRowFault, JournalRows, Note, ResumeFault,
-    Resumed, Row, RunSoFar, WholeLines, begins_at,
+    Airing, Airings, AiringsSoFar, Heading, JournalReadFault, JournalRowFault, JournalRows, Note,
+    ResumeFault, Resumed, Row, RunSoFar, WholeLines, begins_at,
 };
 use vdcp_list::Rest;
 use vdcp_text::{Failure, JournalFault};
@@ -57,6 +58,17 @@ impl From<AllocError> for Refusal {
     }
 }
 
+/// What one of a journal's runs shows of its events.
+#[derive(Debug, Drop)]
+pub struct RunAirings {
+    /// The event of the list that it began with.
+    pub from: usize,
+    /// When the events from that one on aired that it reports.
+    pub airings: Vec<Airing>,
+    /// The event that may have aired besides, by its number in the run.
+    pub unsettled: Option<usize>,
+}
+
 /// The last run of a journal, as it goes on.
 #[derive(Drop)]
 pub(crate) struct LastRun<'s, S: Source> {
@@ -65,6 +77,8 @@ pub(crate) struct LastRun<'s, S: Source> {
     pub open: Option<Command>,
     /// The event that may have aired though the run doesn't report it, by its number in the run.
     pub unsettled: Option<usize>,
+    /// What the journal's runs show, this one last.
+    pub runs: Vec<RunAirings>,
     /// What the journal's last row notes, if it has one besides its heading.
     pub last_note: Option<Note>,
 }
@@ -83,6 +97,7 @@ pub(crate) fn replay<'a, 's, S: Source, I: io::Read + Drop>(
     requires few { wanted.now.limit ≤ 1000 }
     ensures replayed { IfOk result (λ r. Continues (λ s. S.items s.now) wanted.now (S.items source.now)
         (option_map whole_lines (I.remaining reader)) r.controller r.«open» r.unsettled r.last_note) }
+    ensures shows { IfOk result (λ r. JournalShows wanted.now.mode (option_map whole_lines (I.remaining reader)) r.runs.items) }
     ensures refused { IfErr result (λ failure. (refusal : Refusal) × (failure ≡ failure_of name.entry refusal)
         × IsRefused (S.items source.now) wanted.now (option_map whole_lines (I.remaining reader)) refusal) }
 {
@@ -117,6 +132,7 @@ fn last_run<'s, S: Source, I: io::Read + Drop>(
     requires few { wanted.now.limit ≤ 1000 }
     ensures replayed { IfOk result (λ r. Continues (λ s. S.items s.now) wanted.now (S.items source.now) (I.remaining lines)
         r.controller r.«open» r.unsettled r.last_note) }
+    ensures shows { IfOk result (λ r. JournalShows wanted.now.mode (I.remaining lines) r.runs.items) }
     ensures refused { IfErr result (IsRefused (S.items source.now) wanted.now (I.remaining lines)) }
 {
     runs_follow_one_another();
@@ -124,18 +140,26 @@ fn last_run<'s, S: Source, I: io::Read + Drop>(
         Ok(rows) => rows,
         Err(fault) => return Err(read_refusal(fault)),
     };
+    let mut from = 0;
     let mut made = begun(source, wanted, 0, 1);
     let mut airings = AiringsSoFar::new(alloc, source, wanted.mode);
+    let mut runs = Vec::new(alloc);
     let mut last = None;
     for read in 0..usize::MAX - 1 {
         let row = match rows.next_row() {
             Ok(Some(row)) => row,
-            Ok(None) => return the_last(&rows.heading, wanted, made, &airings, last),
+            Ok(None) => {
+                let unsettled = airings.unsettled();
+                runs = with_airings(runs, from, airings)?;
+                return the_last(&rows.heading, wanted, made, unsettled, runs, last);
+            }
             Err(fault) => return Err(read_refusal(fault)),
         };
         last = Some(row.note);
         match begins_at(&row.note) {
             Some(event) => {
+                runs = with_airings(runs, from, airings)?;
+                from = event;
                 made = begun(source, wanted, event, read + 2);
                 airings = AiringsSoFar::new(alloc, source, wanted.mode);
             }
@@ -148,18 +172,43 @@ fn last_run<'s, S: Source, I: io::Read + Drop>(
     Err(Refusal::Read)
 }
 
+// Adds what the run that begins with this event shows to what those before it show.
+fn with_airings<S: Source + Drop>(
+    mut runs: Vec<RunAirings>,
+    from: usize,
+    airings: AiringsSoFar<S>,
+) -> Result<Vec<RunAirings>, Refusal>
+    ensures shows { (mode : Mode) (before : List Run) (run : Run) → run.from ≡ from
+        → FoundSoFar S.items mode run.rows airings → RunsShow mode before runs.items
+        → IfOk result (λ runs. RunsShow mode (before ++ run ∷ []) runs.items) }
+    ensures memory { IfErr result (λ why. why ≡ refusals.Memory) }
+{
+    let Airings { airings, unsettled } = airings.finish();
+    let run = RunAirings {
+        from,
+        airings,
+        unsettled,
+    };
+    match runs.push(run) {
+        Ok(()) => Ok(runs),
+        Err(_) => Err(Refusal::Memory),
+    }
+}
+
 // The last run of a journal with this heading, if that is what is wanted.
 fn the_last<'s, S: Source>(
     found: &Heading,
     wanted: &Heading,
     made: Result<RunSoFar<'s, S>, Refusal>,
-    airings: &AiringsSoFar<&'s S>,
+    unsettled: Option<usize>,
+    runs: Vec<RunAirings>,
     last: Option<Note>,
 ) -> Result<LastRun<'s, S>, Refusal>
     ensures same { OnOk result (found.now ≡ wanted.now) }
     ensures goes_on { (list : List Item) (run : Run) → IsMadeOrRefused (λ s. S.items s.now) wanted.now list run made.entry
-        → FoundSoFar (λ s. S.items s.now) wanted.now.mode run.rows airings.now
+        → unsettled ≡ unsettled_event wanted.now.mode run.rows
         → IfOk result (λ r. IsRunOn (λ s. S.items s.now) wanted.now list run r.controller r.«open» r.unsettled) }
+    ensures shows { IfOk result (λ r. r.runs.items ≡ runs.items) }
     ensures noted { IfOk result (λ r. r.last_note ≡ last) }
     ensures refused { (list : List Item) (run : Run) → IsMadeOrRefused (λ s. S.items s.now) wanted.now list run made.entry
         → IfErr result (λ why. IsOther found.now wanted.now why ⊎ IsRunRefused list wanted.now run why) }
@@ -174,7 +223,8 @@ fn the_last<'s, S: Source>(
             Ok(LastRun {
                 controller,
                 open,
-                unsettled: airings.unsettled(),
+                unsettled,
+                runs,
                 last_note: last,
             })
         }

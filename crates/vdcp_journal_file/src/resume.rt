@@ -10,13 +10,13 @@ ghost use Rattle.vdcp_list.specs.Rows.{FileBytes};
 ghost use Rattle.vdcp_journal_file.specs.Disks.{HasJust, KeepsLines};
 ghost use Rattle.vdcp_journal_file.specs.Recorded.{MayHold};
 ghost use Rattle.vdcp_journal_file.specs.Recording.{Adds, IsTimedOut, IsUnwritten, outcome_rows};
-ghost use Rattle.vdcp_journal_file.specs.Resuming.{Continues, IsReplayed, IsUnread, IsUnresumed, is_end, open_after, plan_of_run};
+ghost use Rattle.vdcp_journal_file.specs.Resuming.{Continues, IsReplayed, JournalShows, IsUnread, IsUnresumed, is_end, open_after, plan_of_run};
 
 use crate::disk::{Disk, ReadableDisk, cut_safely};
 use crate::file::open;
 use crate::mending::{mend_end, mend_heading, not_read};
 use crate::pending::Pending;
-use crate::reading::{LastRun, is_end, replay};
+use crate::reading::{LastRun, RunAirings, is_end, replay};
 use crate::recorder::Recorder;
 use std::alloc::Global;
 use std::fs::File;
@@ -35,6 +35,8 @@ pub struct Resumption<'a, 'r, R, S: Source, F: Disk = File> {
     pub controller: Controller<Rest<S>>,
     /// It appends to the journal. None if the controller has ended: there is nothing to send.
     pub recorder: Option<Recorder<'a, 'r, R, F>>,
+    /// What the runs show that the journal had before, the last one last.
+    pub runs: Vec<RunAirings>,
 }
 
 /// Goes on with the last run of the journal of this name, if it is one of what is wanted: gives its rows to a new
@@ -60,6 +62,7 @@ pub fn resume_journal<'a, 'r, 's, R: Files<File = File> + Clock + AllocGlobal, S
     ensures goes_on { IfOk result (λ r. IsSome r.recorder ↔ (outcome_of r.controller.state.stage ≡ None)) }
     ensures unit { IfOk result (λ r. IfSome r.recorder (λ recorder. recorder.unit ≡ wanted.now.unit)) }
     ensures name { IfOk result (λ r. IfSome r.recorder (λ recorder. recorder.name ≡ name.entry)) }
+    ensures shows { IfOk result (λ r. (lines : FileBytes) × JournalShows wanted.now.mode lines r.runs.items) }
     ensures unresumed { IfErr result (IsUnresumed (S.items source.now) name.entry wanted.now) }
 {
     let file = open(rt, name)?;
@@ -89,6 +92,8 @@ fn resume_in<'a, 'r, 's, R: Clock + AllocGlobal, S: Source, F: ReadableDisk + Dr
     ensures goes_on { IfOk result (λ r. IsSome r.recorder ↔ (outcome_of r.controller.state.stage ≡ None)) }
     ensures unit { IfOk result (λ r. IfSome r.recorder (λ recorder. recorder.unit ≡ wanted.now.unit)) }
     ensures name { IfOk result (λ r. IfSome r.recorder (λ recorder. recorder.name ≡ name.entry)) }
+    ensures shows { IfOk result (λ r. (lines : FileBytes) × JournalShows wanted.now.mode lines r.runs.items
+        × KeepsLines (F.written file) lines) }
     ensures unresumed { IfErr result (IsUnresumed (S.items source.now) name.entry wanted.now) }
 {
     mend_heading(rt, name, wanted, &mut file)?;
@@ -110,6 +115,7 @@ pub(crate) fn replay_file<'a, 's, S: Source, F: ReadableDisk>(
     requires few { wanted.now.limit ≤ 1000 }
     ensures replayed { IfOk result (λ r. Continues (λ s. S.items s.now) wanted.now (S.items source.now)
         (option_map whole_lines (F.written file.now)) r.controller r.«open» r.unsettled r.last_note) }
+    ensures shows { IfOk result (λ r. JournalShows wanted.now.mode (option_map whole_lines (F.written file.now)) r.runs.items) }
     ensures unresumed { IfErr result (IsUnresumed (S.items source.now) name.entry wanted.now) }
 {
     let reader = reader_of(name, file)?;
@@ -190,11 +196,13 @@ pub(crate) fn go_on<'a, 'r, 's, R: Clock + AllocGlobal, S: Source, F: Disk + Dro
     ensures name { IfOk result (λ r. IfSome r.recorder (λ recorder. recorder.name ≡ name.entry)) }
     ensures pending { IfOk result (λ r. IfSome r.recorder (λ recorder. IsTimedOut run.entry.«open» recorder.pending)) }
     ensures file { IfOk result (λ r. IfSome r.recorder (λ recorder. recorder.file ≡ file)) }
+    ensures runs { IfOk result (λ r. r.runs.items ≡ run.entry.runs.items) }
     ensures unwritten { IfErr result (IsUnwritten name.entry) }
 {
     let LastRun {
         controller,
         open,
+        runs,
         last_note,
         ..
     } = run;
@@ -204,11 +212,13 @@ pub(crate) fn go_on<'a, 'r, 's, R: Clock + AllocGlobal, S: Source, F: Disk + Dro
         return Ok(Resumption {
             controller,
             recorder: None,
+            runs,
         });
     }
     Ok(Resumption {
         controller,
         recorder: Some(recorder),
+        runs,
     })
 }
 

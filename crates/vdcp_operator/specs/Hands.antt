@@ -33,7 +33,7 @@ PageCalls items c None call None = call ≡ None
 PageCalls items c None call (Some page') = ⊥
 PageCalls items c (Some page) call None = ⊥
 PageCalls items c (Some page) call (Some page') = (shown : List Asked)
-    × ShowsRun items c page.names page.clips page.panel.names page.calls.items shown
+    × ShowsRun items c page.names page.clips page.before.items page.panel.names page.calls.items shown
     × (shown ≡ option_to_list call ++ page'.calls.items)
 
 abbrev pub called_by : Option Said → Option Call

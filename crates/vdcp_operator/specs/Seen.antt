@@ -1,5 +1,5 @@
 -- What the page of a run shows.
-use Rattle.std.specs.Prelude.{ℕ, ◌≡◌, ◌≤◌, ◌+◌, ◌-◌, ◌^◌, min, List, [], ◌∷◌, codes, drop, map, string_bytes, take, Option, None, Some, if◌then◌else◌}
+use Rattle.std.specs.Prelude.{ℕ, ◌≡◌, ◌≤◌, ◌+◌, ◌-◌, ◌^◌, All, min, List, [], ◌∷◌, codes, drop, map, nat_eq, option_map, string_bytes, take, Option, None, Some, if◌then◌else◌}
 use Rattle.serde_json.specs.Data.{Data, array, boolean, member, no_members, null, number, object, string, unsigned}
 use Rattle.serde_json.specs.View.{items_of}
 use Rattle.serde_json.specs.Written.{compact_text}
@@ -10,7 +10,12 @@ use Rattle.vdcp_auto.specs.declared.phase.Phase.TheVariants as phase
 use Rattle.vdcp_auto.specs.declared.snapshot.Standing.{Standing}
 use Rattle.vdcp_auto.specs.declared.snapshot.Standing.TheVariants as standing
 use Rattle.vdcp_list.specs.Rests.{FromEvent}
+use Rattle.vdcp_operator.specs.declared.seen.Ending.{Ending}
+use Rattle.vdcp_operator.specs.declared.seen.Ending.TheVariants as endings
+use Rattle.vdcp_operator.specs.declared.seen.EventBefore.{EventBefore}
 use Rattle.vdcp_operator.specs.declared.seen.EventSeen.{EventSeen}
+use Rattle.vdcp_operator.specs.declared.seen.Record.{Record}
+use Rattle.vdcp_operator.specs.declared.seen.Record.TheVariants as records
 use Rattle.vdcp_operator.specs.declared.seen.RunNames.{RunNames}
 use Rattle.vdcp_operator.specs.declared.seen.RunSeen.{RunSeen}
 use Rattle.vdcp_panel.specs.Seen.{ServesSome}
@@ -66,12 +71,33 @@ abbrev pub length_by : Option (List (ClipId × Timecode)) → Item → Option �
 length_by None item = None
 length_by (Some clips) item = length_if (length_of clips item.id) item.part
 
+abbrev pub ending_text : Ending → List ℕ
+ending_text endings.RanOut = codes "ran out"
+ending_text endings.Taken = codes "taken"
+ending_text endings.Stopped = codes "stopped"
+
+abbrev pub ending_data : Option Ending → Data
+ending_data None = null
+ending_data (Some e) = string (ending_text e)
+
+abbrev pub record_text : Record → List ℕ
+record_text records.Aired = codes "aired"
+record_text records.MayHaveAired = codes "may have aired"
+record_text records.LeftOut = codes "left out"
+
+abbrev pub record_data : Option Record → Data
+record_data None = null
+record_data (Some r) = string (record_text r)
+
 abbrev pub row_data : Rate → Option (List (ClipId × Timecode)) → EventSeen → Data
 row_data rate clips e =
     object (member (codes "at") (number_data e.at)
+    (member (codes "ending") (ending_data e.ending)
     (member (codes "item") (string (item_text rate e.item))
+    (member (codes "kept") (record_data e.kept)
     (member (codes "length") (number_data (length_by clips e.item))
-    (member (codes "number") (number (unsigned e.number)) no_members))))
+    (member (codes "number") (number (unsigned e.number))
+    (member (codes "until") (number_data e.until) no_members)))))))
 
 -- what stays of a run, and how its line is
 abbrev pub run_data : RunSeen → Data
@@ -127,10 +153,20 @@ pub record AreRound (items : List Item) (event : ℕ) (rows : List EventSeen) : 
   pub few : count ≤ 60
   pub are : map with_number rows ≡ take count (numbered (event - 20) (drop (event - 20) items))
 
--- requests were answered by the controller as it is, by these names and clips and by the events round the one that is next,
--- and a call that is held is about that event
+-- what is said of the event of this number before, if it is among these
+abbrev pub before_of : List EventBefore → ℕ → Option EventBefore
+before_of [] k = None
+before_of (first ∷ before) k = if nat_eq first.number k then Some first else before_of before k
+
+-- a row has what the journal says of its event, if it says something
+abbrev pub HasRecord : List EventBefore → EventSeen → Type 0
+HasRecord before row = row.kept ≡ option_map (λ b. b.kept) (before_of before row.number)
+
+-- requests were answered by the controller as it is, by these names and clips, by the events round the one that is next and
+-- by what is said of those before, and a call that is held is about that event
 pub record ShowsRun {S : Type 0} (items : S → List Item) (c : View (FromEvent S)) (names : RunNames)
-    (clips : Option (List (ClipId × Timecode))) (panel : Names) (calls calls' : List Call) : Type 0 where
+    (clips : Option (List (ClipId × Timecode))) (before : List EventBefore) (panel : Names) (calls calls' : List Call)
+    : Type 0 where
   pub view : RunSeen
   pub names_are : view.names.now ≡ names
   pub clips_are : view.clips.now ≡ clips
@@ -138,4 +174,5 @@ pub record ShowsRun {S : Type 0} (items : S → List Item) (c : View (FromEvent 
   pub from : view.from ≡ c.source.from
   pub event : view.event ≡ event_of c
   pub rows : AreRound (items c.source.source) (event_of c) view.rows.now
+  pub records : All (HasRecord before) view.rows.now
   pub served : ServesSome page_bytes state_bytes about panel view calls calls'

@@ -1,14 +1,16 @@
 //! The operator in a driver's turns: calls are taken, and commands wait.
 ghost use Rattle.std.specs.Duration.{as_nanos};
-ghost use Rattle.std.specs.Prelude.{◌≡◌, ◌≢◌, ◌↔◌, ◌-◌, min, IsSome, None, Option, Some, is_some, ℕ};
+ghost use Rattle.std.specs.Prelude.{◌≡◌, ◌≢◌, ◌↔◌, ◌-◌, min, IsSome, None, Option, Some, is_some, option_map, ℕ};
 ghost use Rattle.vdcp_auto.specs.Plan.{plan_of};
 ghost use Rattle.vdcp_auto.specs.Turn.{given};
 ghost use Rattle.vdcp_drive.specs.declared.operator.Call.{Call};
 ghost use Rattle.vdcp_list.specs.Rests.{items_left};
 ghost use Rattle.vdcp_operator.specs.Hands.{Asks, IsNext, PageCalls, TypedCalls, as_call, latest, lead_nanos, wait_nanos};
 ghost use Rattle.vdcp_operator.specs.declared.hand.Until.{Until};
+ghost use Rattle.vdcp_operator.specs.declared.shown.RunPage.{RunPage};
 ghost use Rattle.vdcp_words.specs.declared.command.Command.{Command};
 
+use crate::seen::EventBefore;
 use crate::shown::RunPage;
 use crate::typed::{Said, Typed};
 use std::io::{Read, Write};
@@ -102,6 +104,15 @@ impl<'a, R: Clock, I: Read + Drop, E: Write> Hand<'a, R, I, E> {
         ensures { result ≡ is_some self.now.start }
     {
         self.start.is_some()
+    }
+
+    /// Shows on the page what a journal says of these events.
+    pub fn set_before(&mut self, before: Vec<EventBefore>)
+        ensures { self.new ≡ record self.old { page = option_map (λ (page : RunPage). record page { before = before }) self.old.page } }
+    {
+        if let Some(page) = &mut self.page {
+            page.set_before(before);
+        }
     }
 
     /// Waits until it is time to connect: two seconds before the start, if one is set, or at a call, which is held.

@@ -70,25 +70,37 @@ const file = path => path.split('/').pop();
 const isCued = run => run.stage === 'waiting' || run.stage === 'starting';
 const isOver = run => run.over || run.stage === 'ended' || run.outcome !== 'open';
 const isWell = run => run.outcome === 'done' || run.outcome === 'stopped';
-const ended = run => 'the run has ended: ' + (run.outcome === 'open' ? 'the line failed' : run.outcome);
+const outcome = run => 'the run has ended: ' + (run.outcome === 'open' ? 'the line failed' : run.outcome);
 const heading = run => file(run.list) + ' \u2192 ' + run.server;
 const waits = () => seen !== null && seen.start !== null;
 const find = (run, number) => run.rows.find(r => r.number === number);
-// the last event that went to air in this run
+// the last event that went to air in this run; it is on air until its end is seen, or that it was cut is answered
 const last = run => run.event > run.from ? find(run, run.event - 1) : undefined;
-const onAir = run => isOver(run) || run.stage === 'closing' || run.stage === 'stopping' ? undefined : last(run);
+const onAir = run => {
+  const row = last(run);
+  return isOver(run) || row === undefined || row.until !== null && !(row.ending === 'taken' && run.stage === 'starting') ? undefined : row;
+};
 
-// Of a clip that the next one followed a second or more before its length was over: for how long it was on air.
-function aired(run, row) {
-  const next = find(run, row.number + 1);
-  const on = next && next.at !== null && row.at !== null ? next.at - row.at : null;
-  return on !== null && row.length !== null && on + 1000 < row.length ? 'aired for ' + time(on) : 'aired';
+// How a clip ended, as far as that was seen. It was cut if that was a second or more before its length was over; without a
+// length it may have run out before the call.
+function ended(row) {
+  const on = row.until !== null && row.at !== null ? row.until - row.at : null;
+  const isCut = on !== null && row.length !== null && on + 1000 < row.length;
+  if (row.ending === 'ran out') return 'aired, ran out';
+  if (row.ending === 'taken') return isCut ? 'cut by a take after ' + time(on) : 'aired, then a take';
+  if (row.ending === 'stopped') return isCut ? 'stopped after ' + time(on) : row.length === null ? 'stopped' : 'aired, then a stop';
+  return row.until !== null ? 'aired' : 'aired, end not seen';
+}
+
+// What is known of an event before the one that is next.
+function past(run, row) {
+  if (row.kept === 'left out' || row.kept === 'may have aired') return row.kept;
+  return row.kept === null && row.number < run.from ? 'before this run' : ended(row);
 }
 
 function state(run, row) {
-  if (row.number < run.from) return ['before this run', 'past'];
-  if (row.number < run.event - 1) return [aired(run, row), 'past'];
-  if (row.number === run.event - 1) return onAir(run) ? ['on air', 'air'] : [run.outcome === 'stopped' ? 'stopped' : isOver(run) && !isWell(run) ? 'last seen' : 'aired', 'past'];
+  if (row.number < run.event - 1 || row.number < run.from) return [past(run, row), 'past'];
+  if (row.number === run.event - 1) return onAir(run) ? ['on air', 'air'] : [isOver(run) && !isWell(run) && row.until === null ? 'last seen' : ended(row), 'past'];
   if (row.number > run.event) return ['', ''];
   if (isOver(run)) return [busy === 'starting' && !isWell(run) ? 'may have aired' : '', ''];
   return isCued(run) ? ['cued', 'ready'] : ['next', ''];
@@ -108,6 +120,9 @@ function plan(run) {
   return { times, end, whole };
 }
 
+// When it went to air, and until when it was there.
+const between = row => row.at === null ? '' : clock(row.at) + (row.until === null ? '' : ' to ' + clock(row.until));
+
 function slot(name, text, kind) {
   put(name + '-item', text);
   if ($(name).className !== kind) $(name).className = kind;
@@ -126,11 +141,11 @@ function rows(run, times) {
     const [word, kind] = state(run, r), planned = r.at === null && times.has(r.number);
     if (row.className !== kind) row.className = kind;
     row.children[3].className = planned ? 'plan' : '';
-    [String(r.number), named(r.item), word, planned ? '~' + clock(times.get(r.number)) : r.at === null ? '' : clock(r.at)].forEach((t, k) => {
+    [String(r.number), named(r.item), word, planned ? '~' + clock(times.get(r.number)) : between(r)].forEach((t, k) => {
       if (row.children[k].textContent !== t) row.children[k].textContent = t;
     });
   });
-  put('count', file(run.list) + ': ' + run.event + ' of ' + run.events + ' reported' + (run.from > 0 ? ', from ' + run.from + ' on in this run' : ''));
+  put('count', file(run.list) + ': ' + (run.event - run.from) + ' of ' + (run.events - run.from) + ' reported' + (run.from > 0 ? ', from ' + run.from + ' on in this run' : ''));
 }
 
 // Keeps what is on air in sight, unless somebody has just scrolled.
@@ -187,7 +202,7 @@ function show(run) {
   follow(run);
   put('step', step(run));
   $('after').hidden = step(run) === '';
-  if (isOver(run)) health(isWell(run) ? 'idle' : 'gone', ended(run), false);
+  if (isOver(run)) health(isWell(run) ? 'idle' : 'gone', outcome(run), false);
   else if (run.unanswered > 0) health('gone', 'no answer', true);
   else if (run.start !== null) health('idle', 'waits for its start', false);
   else health('good', 'runs', false);

@@ -3,7 +3,7 @@ ghost use Rattle.std.specs.Prelude.{◌≡◌, IfOk, map};
 ghost use Rattle.serde_json.specs.Data.{array, boolean, string};
 ghost use Rattle.serde_json.specs.View.{items_of, view};
 ghost use Rattle.vdcp_text.specs.Outcome.{outcome_text};
-ghost use Rattle.vdcp_operator.specs.Seen.{length_by, number_data, row_data, run_data, seen_data, stage_text};
+ghost use Rattle.vdcp_operator.specs.Seen.{ending_data, ending_text, length_by, number_data, record_data, record_text, row_data, run_data, seen_data, stage_text};
 
 use serde_json::{Value, json};
 use std::alloc::{AllocError, Global};
@@ -14,14 +14,53 @@ use vdcp_port::Catalogue;
 use vdcp_text::{ItemText, OutcomeText};
 use vdcp_value::{Item, Rate, Timecode};
 
-/// An event of a list.
+/// What a journal says of an event.
+#[derive(Clone, Copy, Debug, PartialEq, Eq)]
+pub enum Record {
+    Aired,
+    /// It may have aired, and isn't reported.
+    MayHaveAired,
+    /// It neither aired nor may have aired.
+    LeftOut,
+}
+
+/// An event of a list before the one with which a run goes on, by its journal. Times are in milliseconds since 1970.
+#[derive(Clone, Copy, Debug)]
+pub struct EventBefore {
+    /// Its number, from 0.
+    pub number: u64,
+    pub kept: Record,
+    /// When it was played, if it aired.
+    pub at: Option<u64>,
+    /// When its end was first seen, if it was.
+    pub until: Option<u64>,
+}
+
+/// How a clip ended.
+#[derive(Clone, Copy, Debug, PartialEq, Eq)]
+pub enum Ending {
+    /// Nothing played any more before the next command that ends a clip.
+    RanOut,
+    /// The next event was taken.
+    Taken,
+    /// STOP was sent.
+    Stopped,
+}
+
+/// An event of a list. Times are in milliseconds since 1970.
 #[derive(Clone, Copy, Debug)]
 pub struct EventSeen {
     /// Its number, from 0.
     pub number: u64,
     pub item: Item,
-    /// When it was seen to have gone to air, in milliseconds since 1970, if it was.
+    /// What the journal says of it, if the run went on behind it.
+    pub kept: Option<Record>,
+    /// When it was seen to have gone to air, or was played by the journal.
     pub at: Option<u64>,
+    /// When its end was first seen, if it was.
+    pub until: Option<u64>,
+    /// How it ended, if that was seen.
+    pub ending: Option<Ending>,
 }
 
 /// How a run was begun, as its command line says it.
@@ -198,9 +237,53 @@ fn row_of(
         item: event.item,
     };
     let item = format!(in alloc; "{text}")?;
-    let at = number_or_null(event.at);
-    let length = number_or_null(length_by(clips, event.item));
-    json!(in alloc; {"at": at, "item": item.as_str(), "length": length, "number": event.number})
+    json!(in alloc; {
+        "at": number_or_null(event.at),
+        "ending": ending_or_null(alloc, event.ending)?,
+        "item": item.as_str(),
+        "kept": record_or_null(alloc, event.kept)?,
+        "length": number_or_null(length_by(clips, event.item)),
+        "number": event.number,
+        "until": number_or_null(event.until)
+    })
+}
+
+fn ending_or_null(alloc: Global, ending: Option<Ending>) -> Result<Value, AllocError>
+    ensures { IfOk result (λ v. view v ≡ ending_data ending) }
+{
+    match ending {
+        Some(ending) => Value::try_from_str(alloc, ending_text(ending)),
+        None => Ok(Value::Null),
+    }
+}
+
+fn ending_text(ending: Ending) -> &'static str
+    ensures { result.now ≡ ending_text ending }
+{
+    match ending {
+        Ending::RanOut => "ran out",
+        Ending::Taken => "taken",
+        Ending::Stopped => "stopped",
+    }
+}
+
+fn record_or_null(alloc: Global, kept: Option<Record>) -> Result<Value, AllocError>
+    ensures { IfOk result (λ v. view v ≡ record_data kept) }
+{
+    match kept {
+        Some(kept) => Value::try_from_str(alloc, record_text(kept)),
+        None => Ok(Value::Null),
+    }
+}
+
+fn record_text(kept: Record) -> &'static str
+    ensures { result.now ≡ record_text kept }
+{
+    match kept {
+        Record::Aired => "aired",
+        Record::MayHaveAired => "may have aired",
+        Record::LeftOut => "left out",
+    }
 }
 
 // How long an item lasts by a catalogue, in milliseconds, if there is one with its clip.

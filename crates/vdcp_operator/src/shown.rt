@@ -1,20 +1,21 @@
 //! How the page of a run follows it and takes calls.
 ghost use Rattle.std.specs.Option.{option_to_list};
-ghost use Rattle.std.specs.Prelude.{◌≡◌, ◌++◌};
-ghost use Rattle.vdcp_operator.specs.Seen.{AreRound, ShowsRun, event_of};
+ghost use Rattle.std.specs.Prelude.{◌≡◌, ◌++◌, All};
+ghost use Rattle.vdcp_operator.specs.Seen.{AreRound, HasRecord, ShowsRun, before_of, event_of, with_number};
 
 use crate::page::PAGE;
-use crate::seen::{EventSeen, RunNames, RunSeen};
+use crate::seen::{Ending, EventBefore, EventSeen, RunNames, RunSeen};
 use std::alloc::Global;
 use std::rt::Clock;
-use vdcp_auto::{Controller, Outcome, Source};
+use vdcp_auto::{Controller, Outcome, Phase, Snapshot, Source, Standing};
 use vdcp_list::{Rest, Table};
 use vdcp_panel::{Call, Calls, Panel};
-use vdcp_value::Rate;
+use vdcp_value::{Item, Rate};
 
-/// How many events before the one that is next are shown, and how many from it on.
-const BEFORE: usize = 20;
+/// How many events before the one that is next are shown.
+pub const ROWS_BEFORE: usize = 20;
 
+/// How many from it on.
 const AFTER: usize = 40;
 
 /// A page that shows a run.
@@ -25,9 +26,12 @@ pub struct RunPage {
     names: RunNames,
     rate: Rate,
     clips: Option<Table>,
-    // Those round the event that is next, and which that is.
+    // Those before the one with which the run went on, by its journal.
+    before: Vec<EventBefore>,
+    // Those round the event that is next, which that is, and how the controller stood.
     rows: Vec<EventSeen>,
     event: Option<u64>,
+    standing: Option<Standing>,
     calls: Calls,
 }
 
@@ -47,10 +51,19 @@ impl RunPage {
             names,
             rate,
             clips,
+            before: Vec::new(alloc),
             rows: Vec::new(alloc),
             event: None,
+            standing: None,
             calls: Calls::new(),
         }
+    }
+
+    /// From now on shows what a journal says of these events.
+    pub fn set_before(&mut self, before: Vec<EventBefore>)
+        ensures { self.new ≡ record self.old { before = before } }
+    {
+        self.before = before;
     }
 
     /// Answers requests for the page by the controller as it is now. `end` is how it ended, if the run is over: None if the
@@ -63,8 +76,8 @@ impl RunPage {
         commands: u64,
         start: Option<u64>,
     )
-        ensures { ShowsRun S.items controller.now self.old.names self.old.clips self.old.panel.names self.old.calls.items
-            self.new.calls.items }
+        ensures { ShowsRun S.items controller.now self.old.names self.old.clips self.old.before.items self.old.panel.names
+            self.old.calls.items self.new.calls.items }
     {
         let now = millis(clock);
         let event = self.follow(controller, now);
@@ -99,10 +112,11 @@ impl RunPage {
     }
 
     // Shows the events round the one that is next, which it gives. Those before it that weren't seen to go to air before
-    // went now.
+    // went now, and so is it with an end.
     fn follow<S: Source>(&mut self, controller: &Controller<Rest<S>>, now: u64) -> u64
         ensures event { result ≡ event_of controller.now }
         ensures rows { AreRound (S.items controller.now.source.source) (event_of controller.now) self.new.rows.items }
+        ensures records { All (HasRecord self.old.before.items) self.new.rows.items }
         ensures panel { self.new.panel ≡ self.old.panel }
         ensures names { self.new.names ≡ self.old.names }
         ensures clips { self.new.clips ≡ self.old.clips }
@@ -110,53 +124,170 @@ impl RunPage {
     {
         let list = controller.source().whole();
         let event = event_of(controller);
-        let since = self.event.unwrap_or(event);
-        let news = News { since, event, now };
-        self.rows = rows_round(self.alloc, list, event, self.rows.as_slice(), news);
+        let snapshot = controller.snapshot();
+        let news = News {
+            since: self.event.unwrap_or(event),
+            event,
+            ending: if snapshot.settled > 0 {
+                ending_seen(self.standing, &snapshot)
+            } else {
+                None
+            },
+            now,
+        };
+        self.rows = rows_round(
+            self.alloc,
+            list,
+            event,
+            self.rows.as_slice(),
+            self.before.as_slice(),
+            news,
+        );
         self.event = Some(event);
+        self.standing = Some(snapshot.standing);
         event
     }
 }
 
-/// Which event was next at the last look, which is now, and when now is.
+/// Which event was next at the last look and is at this one, which is now, and how what was on air has ended, if that is
+/// seen.
 #[derive(Clone, Copy)]
 struct News {
     since: u64,
     event: u64,
+    ending: Option<Ending>,
     now: u64,
 }
 
 impl News {
-    // When the event of this number was seen to go to air, if it was, by the older rows.
-    fn at(self, older: &[EventSeen], number: u64) -> Option<u64> {
-        match older.iter().find(|older| older.number == number) {
-            Some(older) if older.at.is_some() => older.at,
-            _ if self.since <= number && number < self.event => Some(self.now),
-            _ => None,
+    // The event of this number, by the older rows, or else by what the journal says.
+    fn row(self, older: &[EventSeen], before: &[EventBefore], number: u64, item: Item) -> EventSeen
+        ensures number { with_number result ≡ (number, item) }
+        ensures kept { HasRecord before.now result }
+    {
+        let said = before_of(before, number);
+        let (at, until, ending) = match older.iter().find(|older| older.number == number) {
+            Some(older) => (older.at, older.until, older.ending),
+            None => match said {
+                Some(said) => (said.at, said.until, None),
+                None => (None, None, None),
+            },
+        };
+        let ending = ending_after(ending, self.ending_of(number));
+        EventSeen {
+            number,
+            item,
+            kept: match said {
+                Some(said) => Some(said.kept),
+                None => None,
+            },
+            at: at.or(self.at(number)),
+            until: match (until, ending) {
+                (None, Some(_)) => Some(self.now),
+                _ => until,
+            },
+            ending,
+        }
+    }
+
+    // When the event of this number went to air, if that is new.
+    fn at(self, number: u64) -> Option<u64> {
+        if self.since <= number && number < self.event {
+            Some(self.now)
+        } else {
+            None
+        }
+    }
+
+    // How the event of this number ended, if that is new.
+    fn ending_of(self, number: u64) -> Option<Ending> {
+        if number.checked_add(1) == Some(self.event) {
+            self.ending
+        } else {
+            None
         }
     }
 }
 
-// The events round this one, with when they went to air. If memory is refused fewer are shown.
+// What is said of the event of this number, if it is among these.
+fn before_of(before: &[EventBefore], number: u64) -> Option<EventBefore>
+    ensures { result ≡ before_of before.now number }
+{
+    match before {
+        [] => None,
+        [first, rest @ ..] => {
+            if first.number == number {
+                Some(*first)
+            } else {
+                before_of(rest, number)
+            }
+        }
+    }
+}
+
+// How what was on air has ended, if this look shows it, by how the controller stood at the look before. If the next event
+// isn't taken its PLAY goes out once a state has shown that nothing plays.
+fn ending_seen(before: Option<Standing>, now: &Snapshot) -> Option<Ending> {
+    match (before?, now.standing) {
+        (
+            Standing::Ready(Phase::Wait(_)) | Standing::Awaiting(Phase::Wait(_)),
+            Standing::Ready(Phase::Play(_)),
+        ) => {
+            if now.take {
+                Some(Ending::Taken)
+            } else {
+                Some(Ending::RanOut)
+            }
+        }
+        (_, Standing::Ready(Phase::Close)) => Some(Ending::RanOut),
+        (before, Standing::Awaiting(Phase::Halt) | Standing::Ready(Phase::HaltClose)) => {
+            if is_on_air_known(before) {
+                Some(Ending::Stopped)
+            } else {
+                None
+            }
+        }
+        _ => None,
+    }
+}
+
+// Whether it was known what was on air: no PLAY that wasn't answered had gone out, and no STOP.
+fn is_on_air_known(standing: Standing) -> bool {
+    match standing {
+        Standing::Ready(phase) => !matches!(phase, Phase::Probe(_) | Phase::HaltClose),
+        Standing::Awaiting(phase) => {
+            !matches!(phase, Phase::Play(_) | Phase::Probe(_) | Phase::Halt)
+        }
+        Standing::Ended(_) => false,
+    }
+}
+
+// How a clip ended of which this was known, and this is new: a take that a stop has overtaken is none.
+fn ending_after(known: Option<Ending>, new: Option<Ending>) -> Option<Ending> {
+    match (known, new) {
+        (Some(Ending::Taken), Some(Ending::Stopped)) | (None, _) => new,
+        _ => known,
+    }
+}
+
+// The events round this one. If memory is refused fewer are shown.
 fn rows_round<S: Source>(
     alloc: Global,
     list: &S,
     event: u64,
     older: &[EventSeen],
+    said: &[EventBefore],
     news: News,
 ) -> Vec<EventSeen>
-    ensures { AreRound (S.items list.now) event result.items }
+    ensures round { AreRound (S.items list.now) event result.items }
+    ensures records { All (HasRecord said.now) result.items }
 {
     let mut rows = Vec::new(alloc);
     let next = usize::try_from(event).unwrap_or(usize::MAX);
-    let first = next.saturating_sub(BEFORE);
+    let first = next.saturating_sub(ROWS_BEFORE);
     let end = next.saturating_add(AFTER).min(list.len());
     for k in first..end {
-        let row = EventSeen {
-            number: number(k),
-            item: list.at(k),
-            at: news.at(older, number(k)),
-        };
+        let row = news.row(older, said, number(k), list.at(k));
         match rows.push(row) {
             Ok(()) => {}
             Err(_) => return rows,

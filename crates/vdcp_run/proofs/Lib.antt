@@ -1,4 +1,5 @@
 -- The lemmas, file by file.
+pub mod EarlierRuns
 mod Begun
 mod Driven
 mod Ends

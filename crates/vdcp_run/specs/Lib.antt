@@ -7,3 +7,4 @@ pub mod Waiting
 pub mod Session
 pub mod Run
 pub mod Advice
+pub mod Before

@@ -38,6 +38,7 @@ pub fn begin<'a, 'r, 's, R: Files<File = File> + Clock + AllocGlobal, S: Source>
             let begun = Resumption {
                 controller: new_controller(source, settings),
                 recorder: None,
+                runs: Vec::new(rt.alloc()),
             };
             Ok((begun, None))
         }
@@ -106,6 +107,7 @@ fn begin_new<'a, 'r, 's, R: Files<File = File> + Clock + AllocGlobal, S: Source>
             let begun = Resumption {
                 controller: new_controller(source, settings),
                 recorder: Some(recorder),
+                runs: Vec::new(rt.alloc()),
             };
             Ok((begun, Some(apart)))
         }

@@ -4,12 +4,13 @@
 //! standard error, and the exit status is given.
 //!
 //! Files, in reading order: `settings`, `run`, `begin`, `connecting`, `session`, `asking`, `run_end`, `advice`, `asrun`, `saved`, `place`,
-//! `in_list`, `polling`, `lapsing`, `waiting`, `stalling`, `stopwatch`.
+//! `in_list`, `before`, `polling`, `lapsing`, `waiting`, `stalling`, `stopwatch`.
 #![tactic(auto)]
 
 mod advice;
 mod asking;
 mod asrun;
+mod before;
 mod begin;
 mod connecting;
 mod in_list;

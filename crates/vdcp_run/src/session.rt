@@ -6,6 +6,7 @@ ghost use Rattle.vdcp_run.specs.Session.{HasAwaited, HasPlayed, HasSession, HasT
 
 use crate::advice::Seen;
 use crate::asking::{Asked, ask_first, may_begin, unbegun_line};
+use crate::before::events_before;
 use crate::connecting::connect_in_time;
 use crate::lapsing::Lapsing;
 use crate::polling::Polling;
@@ -61,11 +62,13 @@ pub fn play_at<
     let Resumption {
         controller,
         recorder,
+        runs,
     } = begun;
     if controller.outcome().is_some() {
         return Ok(ended(rt, &controller, LineEnd::Unneeded, settings));
     }
     let (mut showing, mut hand) = (showing, hand);
+    hand.set_before(events_before(rt.alloc(), runs.as_slice(), &controller));
     let Some(stream) = connect_in_time(rt, address, &controller, &mut showing, &mut hand) else {
         return Err(Failure::Connect);
     };

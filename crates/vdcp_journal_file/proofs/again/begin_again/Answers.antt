@@ -4,3 +4,6 @@ use Rattle.vdcp_journal_file.proofs.again.begin_again.Goals as goal
 pub returns-clause-opened : goal.returns-clause-opened
 returns-clause-opened g c =
     IfOk-weaker c.begin_in.result _ _ (λ r p. (p.0, p.1)) c.begin_in.ensures.opened
+
+pub returns-clause-shows : goal.returns-clause-shows
+returns-clause-shows g c = IfOk-weaker c.begin_in.result _ _ (λ r p. (p.0, p.1)) c.begin_in.ensures.shows

@@ -1,4 +1,4 @@
-use Rattle.std.proofs.Common.{ap, refl}
+use Rattle.std.proofs.Common.{List, ap, refl, subst, sym}
 use Rattle.std.proofs.lemmas.Result.{IfOk-weaker, err_from_is_err_and}
 use Rattle.std.specs.Prelude.{Some, option_map}
 use Rattle.vdcp_auto.specs.Turn.{outcome_of}
@@ -8,7 +8,8 @@ use Rattle.vdcp_journal_file.proofs.Mended.{lines_begin}
 use Rattle.vdcp_journal_file.proofs.OpenedAgain.{both, not_begun, replayed_of}
 use Rattle.vdcp_journal_file.proofs.again.begin_in.Goals as goal
 use Rattle.vdcp_journal_file.specs.Recording.{Recording}
-use Rattle.vdcp_journal_file.specs.Resuming.{begins, is_over, unresumed}
+use Rattle.vdcp_journal_file.specs.Resuming.{JournalShows, begins, is_over, unresumed}
+use Rattle.vdcp_journal_file.specs.declared.reading.RunAirings.{RunAirings}
 
 pub returns-in_err-run-clause-unopened : goal.returns-in_err-run-clause-unopened
 returns-in_err-run-clause-unopened g c =
@@ -60,3 +61,20 @@ returns-then-is_told_again-clause-list g c =
 
 pub returns-clause-list : goal.returns-clause-list
 returns-clause-list g c = rw c.new_controller.ensures refl
+
+pub returns-then-is_told_again-clause-shows : goal.returns-then-is_told_again-clause-shows
+returns-then-is_told_again-clause-shows g c =
+    IfOk-weaker c.go_on.result _ _ (λ r same. (
+      option_map whole_lines (g.F.Disk.written c.mend_heading.new.file),
+      subst (λ (l : List RunAirings). JournalShows c.args.wanted.now.mode
+          (option_map whole_lines (g.F.Disk.written c.mend_heading.new.file)) l) (sym same) c.in_ok-run.ensures.shows,
+      lines_begin (g.F.Disk.written c.args.file) (g.F.Disk.written c.mend_heading.new.file)
+          c.in_ok-mend_heading.ensures.kept,
+    )) c.go_on.ensures.runs
+
+pub returns-clause-shows : goal.returns-clause-shows
+returns-clause-shows g c = (
+  option_map whole_lines (g.F.Disk.written c.mend_heading.new.file),
+  c.in_ok-run.ensures.shows,
+  lines_begin (g.F.Disk.written c.args.file) (g.F.Disk.written c.mend_heading.new.file) c.in_ok-mend_heading.ensures.kept,
+)

@@ -7,3 +7,6 @@ returns-clause-replayed g c = rw c.in_ok-reader.ensures.all at c.replay.ensures.
 
 pub returns-clause-unresumed : goal.returns-clause-unresumed
 returns-clause-unresumed g c = IfErr-weaker c.replay.result _ _ (λ failure p. bad _ p.0 p.2 p.1) c.replay.ensures.refused
+
+pub returns-clause-shows : goal.returns-clause-shows
+returns-clause-shows g c = rw c.in_ok-reader.ensures.all at c.replay.ensures.shows

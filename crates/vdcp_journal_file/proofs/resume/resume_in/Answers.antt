@@ -1,4 +1,4 @@
-use Rattle.std.proofs.Common.{subst}
+use Rattle.std.proofs.Common.{List, subst, sym}
 use Rattle.std.proofs.lemmas.Option.{IfSome_then}
 use Rattle.std.proofs.lemmas.Result.{IfOk-weaker}
 use Rattle.std.specs.Prelude.{IfSome, Option, option_map}
@@ -7,6 +7,8 @@ use Rattle.vdcp_journal_file.proofs.Mended.{mended_so}
 use Rattle.vdcp_journal_file.proofs.OpenedAgain.{both, replayed_of}
 use Rattle.vdcp_journal_file.proofs.resume.resume_in.Goals as goal
 use Rattle.vdcp_journal_file.specs.Recording.{IsTimedOut}
+use Rattle.vdcp_journal_file.specs.Resuming.{JournalShows}
+use Rattle.vdcp_journal_file.specs.declared.reading.RunAirings.{RunAirings}
 use Rattle.vdcp_words.specs.declared.command.Command.{Command}
 
 pub returns-clause-resumed : goal.returns-clause-resumed
@@ -28,3 +30,13 @@ returns-clause-resumed g c =
 pub returns-clause-list : goal.returns-clause-list
 returns-clause-list g c =
     IfOk-weaker c.go_on.result _ _ (λ r same. rw same c.in_ok-run.ensures.replayed.on.list_is) c.go_on.ensures.controller
+
+pub returns-clause-shows : goal.returns-clause-shows
+returns-clause-shows g c =
+    IfOk-weaker c.go_on.result _ _ (λ r same. (
+      option_map whole_lines (g.F.Disk.written c.mend_end.new.file),
+      subst (λ (l : List RunAirings). JournalShows c.args.wanted.now.mode
+          (option_map whole_lines (g.F.Disk.written c.mend_end.new.file)) l) (sym same) c.in_ok-run.ensures.shows,
+      mended_so (g.F.Disk.written c.args.file) (g.F.Disk.written c.mend_heading.new.file) (g.F.Disk.written c.mend_end.new.file)
+          c.in_ok-mend_heading.ensures.kept c.in_ok-mend_end.ensures.kept,
+    )) c.go_on.ensures.runs

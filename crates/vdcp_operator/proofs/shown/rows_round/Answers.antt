@@ -1,8 +1,10 @@
-use Rattle.std.proofs.Common.{ℕ, map, ap, ◌∙◌, arith}
+use Rattle.std.proofs.Common.{ℕ, [], ◌∷◌, map, ap, subst, sym, ◌∙◌, arith}
+use Rattle.std.proofs.lemmas.List.Elements.{All-append, All-cons, All-nil}
+use Rattle.std.specs.Prelude.{All}
 use Rattle.std.proofs.lemmas.Grind.{common_steps}
 use Rattle.vdcp_operator.proofs.Rounds.{round_pushed}
 use Rattle.vdcp_operator.proofs.shown.rows_round.Goals as goal
-use Rattle.vdcp_operator.specs.Seen.{with_number}
+use Rattle.vdcp_operator.specs.Seen.{HasRecord, with_number}
 
 pub loop-k-preserved : goal.loop-k-preserved
 loop-k-preserved g c = record {
@@ -12,5 +14,8 @@ loop-k-preserved g c = record {
       ap (map with_number) c.in-Ok.ensures.items
       ∙ round_pushed (g.S.Source.items c.args.list.now) c.saturating_sub-first.result c.loop-k.k c.at.result
       c.loop-k.rows.items _ c.loop-k.invariant.after c.at.ensures
-      (ap (λ (n : ℕ). (n, c.at.result)) c.number.ensures) c.loop-k.invariant.rows;
+      (c.row-row.ensures.number ∙ ap (λ (n : ℕ). (n, c.at.result)) c.number.ensures) c.loop-k.invariant.rows;
+  records = subst (All (HasRecord c.args.said.now)) (sym c.in-Ok.ensures.items)
+      (All-append (HasRecord c.args.said.now) c.loop-k.rows.items (c.row-row.result ∷ []) c.loop-k.invariant.records
+      (All-cons (HasRecord c.args.said.now) c.row-row.result [] c.row-row.ensures.kept (All-nil (HasRecord c.args.said.now))));
 }

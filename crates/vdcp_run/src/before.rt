@@ -1,0 +1,138 @@
+//! What a journal says of the events before the one with which a run goes on.
+ghost use Rattle.std.specs.Prelude.{◌≡◌, All, slice_get};
+ghost use Rattle.vdcp_run.specs.Before.{IsSaidBy, is_this, kept_by, said_after, said_of, said_or};
+
+use crate::in_list::reported_in_list;
+use jiff::Timestamp;
+use std::alloc::Global;
+use std::str::{self, FromStr};
+use vdcp_auto::{Controller, Source};
+use vdcp_journal::{Airing, Moment};
+use vdcp_journal_file::RunAirings;
+use vdcp_list::Rest;
+use vdcp_operator::{EventBefore, ROWS_BEFORE, Record};
+
+/// What the runs of a journal show of an event.
+#[derive(Clone, Copy)]
+pub enum Said {
+    /// None shows that it aired or may have aired.
+    LeftOut,
+    /// One shows that it may have aired, and none that it did.
+    MayHaveAired,
+    /// So it aired last.
+    Aired(Airing),
+}
+
+/// What the runs of a journal, if there are some, show of the events before the controller's next one, as many as a page
+/// has room for. If memory is refused less is told.
+pub fn events_before<S: Source>(
+    alloc: Global,
+    runs: &[RunAirings],
+    controller: &Controller<Rest<S>>,
+) -> Vec<EventBefore>
+    ensures { All (IsSaidBy runs.now) result.items }
+{
+    let mut events = Vec::new(alloc);
+    if runs.is_empty() {
+        return events;
+    }
+    let next = reported_in_list(controller);
+    for event in next.saturating_sub(ROWS_BEFORE)..next {
+        match events.push(event_before(runs, event)) {
+            Ok(()) => {}
+            Err(_) => return events,
+        }
+    }
+    events
+}
+
+// What the runs show of an event.
+fn event_before(runs: &[RunAirings], event: usize) -> EventBefore
+    ensures { IsSaidBy runs.now result }
+{
+    let said = said_of(runs, event);
+    let (at, until) = match said {
+        Said::Aired(airing) => (
+            millis_of(airing.played),
+            match airing.ended {
+                Some(ended) => millis_of(ended),
+                None => None,
+            },
+        ),
+        Said::LeftOut | Said::MayHaveAired => (None, None),
+    };
+    EventBefore {
+        number: event as u64,
+        kept: kept_by(said),
+        at,
+        until,
+    }
+}
+
+fn kept_by(said: Said) -> Record
+    ensures { result ≡ kept_by said }
+{
+    match said {
+        Said::LeftOut => Record::LeftOut,
+        Said::MayHaveAired => Record::MayHaveAired,
+        Said::Aired(_) => Record::Aired,
+    }
+}
+
+fn said_of(runs: &[RunAirings], event: usize) -> Said
+    ensures { result ≡ said_of runs.now event }
+{
+    let mut said = Said::LeftOut;
+    for k in 0..runs.len() {
+        said = said_after(said, &runs[k], event);
+    }
+    said
+}
+
+// What is said of an event after one run more.
+fn said_after(said: Said, run: &RunAirings, event: usize) -> Said
+    ensures { result ≡ said_after said run.now event }
+{
+    match event.checked_sub(run.from) {
+        Some(k) => said_or(said, airing_at(run, k), is_this(run.unsettled, k)),
+        None => said,
+    }
+}
+
+fn airing_at(run: &RunAirings, k: usize) -> Option<Airing>
+    ensures { result ≡ slice_get run.now.airings.items k }
+{
+    match run.airings.get(k) {
+        Some(airing) => Some(*airing),
+        None => None,
+    }
+}
+
+fn is_this(event: Option<usize>, k: usize) -> bool
+    ensures { result ≡ is_this event k }
+{
+    match event {
+        Some(n) => n == k,
+        None => false,
+    }
+}
+
+// What a run shows goes before what was said; what is known goes before what may be.
+fn said_or(said: Said, airing: Option<Airing>, may: bool) -> Said
+    ensures { result ≡ said_or said airing may }
+{
+    match (airing, said, may) {
+        (Some(airing), _, _) => Said::Aired(airing),
+        (None, Said::LeftOut, true) => Said::MayHaveAired,
+        (None, Said::LeftOut, false) => Said::LeftOut,
+        (None, Said::MayHaveAired, _) => Said::MayHaveAired,
+        (None, Said::Aired(airing), _) => Said::Aired(airing),
+    }
+}
+
+// A moment in milliseconds since 1970; None if no clock gave it.
+fn millis_of(moment: Moment) -> Option<u64> {
+    let text = str::from_utf8(moment.clocked()).ok()?;
+    let time = Timestamp::from_str(text).ok()?;
+    u64::try_from(time.as_millisecond()).ok()
+}
