@@ -4,7 +4,7 @@ use Rattle.std.proofs.KnownBytes.{Appends-kept, Appends-nil, Appends-trans}
 use Rattle.std.proofs.Math.Seq.{take-add, take-append_seam}
 use Rattle.std.proofs.lemmas.List.{append_cancel_left, take_rest, take-append-drop}
 use Rattle.std.specs.Io.KnownBytes.{Appends, WriteAppends}
-use Rattle.std.specs.Prelude.{◌==◌, IfSome, Option, None, Some, Result, Ok, Err, if◌then◌else◌, option_map}
+use Rattle.std.specs.Prelude.{◌==◌, IfSome, OnErr, Option, None, Some, Result, Ok, Err, if◌then◌else◌, option_map}
 use Rattle.vdcp_list.specs.Asrun.{AppendsBeginning}
 use Rattle.vdcp_journal.specs.Reading.{line_before, whole_lines}
 use Rattle.vdcp_journal.specs.declared.row.Row.{Row}
@@ -19,6 +19,12 @@ pub appends_more : (a b c : Option (List ℕ)) (xs : List ℕ) (at n : ℕ) → 
 appends_more a b c xs at n first next =
     subst (Appends a c) (ap (λ (l : List ℕ). take at xs ++ take n l) (take_rest xs at) ∙ sym (take-add at n xs))
     (Appends-trans a b c (take at xs) (take n (take (length xs - at) (drop at xs))) first next)
+
+-- nothing was written
+pub none_written : {A E : Type 0} (result : Result A E) (known : Option (List ℕ)) (xs : List ℕ)
+    → OnErr result (AppendsBeginning known known xs)
+none_written (Ok x) known xs = tt
+none_written (Err e) known xs = (0, Appends-nil known)
 
 pub spills_none : (safe written : Option (List ℕ)) → safe ≡ written → Spills safe safe written
 spills_none safe written is = record {

@@ -171,6 +171,7 @@ AddsBeginning safe old new rows = MakesBeginning safe old new (rows_left old.pen
 
 abbrev pub failure_of : Bor (List ℕ) → RecordFault → Failure
 failure_of name fault.Device = failures.Write name
+failure_of name fault.Replaced = failures.Write name
 failure_of name fault.Memory = failures.Memory
 
 -- the rows aren't written to the journal of this name

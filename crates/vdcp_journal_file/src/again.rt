@@ -56,7 +56,7 @@ pub fn begin_again<'a, 'r, 's, R: Files<File = File> + Clock + AllocGlobal, S: S
 }
 
 // The same in this file, which then has just the lines that were read, and the row that begins the run.
-fn begin_in<'a, 'r, 's, R: Clock + AllocGlobal, S: Source, F: ReadableDisk + Drop>(
+fn begin_in<'a, 'r, 's, R: Files + Clock + AllocGlobal, S: Source, F: ReadableDisk + Drop>(
     rt: &'r R,
     name: &'a str,
     wanted: &Heading,

@@ -42,7 +42,7 @@ pub fn begin_journal<'a, 'r, R: Files<File = File> + Clock + AllocGlobal>(
 }
 
 // Writes the first row, and that of the event that the run begins with, if one is named, to an empty file.
-fn begin_in<'a, 'r, R: Clock + AllocGlobal, F: Disk + Drop>(
+fn begin_in<'a, 'r, R: Files + Clock + AllocGlobal, F: Disk + Drop>(
     rt: &'r R,
     name: &'a str,
     heading: &Heading,

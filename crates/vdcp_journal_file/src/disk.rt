@@ -5,9 +5,10 @@ ghost use Rattle.std.specs.Prelude.{◌≡◌, None, OnErr, OnOk, Some, if◌the
 ghost use Rattle.vdcp_list.specs.Asrun.{AppendsBeginning};
 ghost use Rattle.vdcp_journal_file.specs.Disks.{HasJust, Spills};
 
-use std::fs::{File, OpenFile};
+use std::fs::{self, File, OpenFile};
 use std::io::{self, ErrorKind, Read, Seek, SeekFrom, Write};
 use std::os::unix::fs::MetadataExt;
+use std::rt::Files;
 
 /// A file that grows. What is written to it is safe, also when the power fails, once it was synced; before that a beginning
 /// of it may be.
@@ -16,7 +17,7 @@ use std::os::unix::fs::MetadataExt;
 pub trait Disk {
     ghost use Rattle.std.specs.Io.KnownBytes.{Keeps, WriteAppends};
     ghost use Rattle.std.specs.Io.{WritesAtMost};
-    ghost use Rattle.std.specs.Prelude.{◌≡◌, ℕ, List, None, OnErr, OnOk, Option};
+    ghost use Rattle.std.specs.Prelude.{◌≡◌, ℕ, Bool, List, None, OnErr, OnOk, Option};
     ghost use Rattle.vdcp_journal_file.specs.Disks.{Spills};
 
     /// The bytes that were written, if they are known.
@@ -24,6 +25,9 @@ pub trait Disk {
 
     /// Those of them that are safe, if they are known.
     ghost safe: { Self → Option (List ℕ) } = { λ _. None };
+
+    /// What it may answer if it is asked whether a name is its own.
+    ghost owns: { Self → List ℕ → Bool → Type 0 } = { λ _ _ _. Unit {0} };
 
     /// Appends the first of these bytes, and gives how many, as `Write` does.
     fn write_some(&mut self, bytes: &[u8]) -> io::Result<usize>
@@ -37,9 +41,10 @@ pub trait Disk {
         ensures synced { OnOk result (safe self.new ≡ written self.new) }
         ensures spills { OnErr result (Spills (safe self.old) (safe self.new) (written self.new)) };
 
-    /// Whether it has a name still. If it hasn't, since it was removed or another file took the name, nobody finds what is
-    /// written.
-    fn is_named(&self) -> bool;
+    /// Whether the name by which it was opened is its own still. If it was removed or moved, or another file took the name,
+    /// nobody finds there what is written.
+    fn is_named<R: Files>(&self, rt: &R, name: &str) -> bool
+        ensures { owns self.now name.now result };
 }
 
 impl<F: Write + OpenFile> Disk for F {
@@ -51,11 +56,17 @@ impl<F: Write + OpenFile> Disk for F {
         self.sync_data()
     }
 
-    fn is_named(&self) -> bool {
-        match self.metadata() {
-            // (what isn't on a system's disk has neither)
-            Ok(found) => found.nlink() > 0 || found.ino() == 0,
-            Err(_) => true,
+    fn is_named<R: Files>(&self, rt: &R, name: &str) -> bool {
+        let Ok(file) = self.metadata() else {
+            return true;
+        };
+        // (what isn't on a system's disk has no number)
+        if file.ino() == 0 {
+            return true;
+        }
+        match fs::metadata(rt, name) {
+            Ok(found) => file.nlink() > 0 && found.dev() == file.dev() && found.ino() == file.ino(),
+            Err(error) => !matches!(error.kind(), ErrorKind::NotFound | ErrorKind::NotADirectory),
         }
     }
 }

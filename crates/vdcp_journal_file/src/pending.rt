@@ -1,10 +1,11 @@
 //! The rows that are held back, and why rows aren't written.
 ghost use Rattle.std.specs.Option.{option_copied, option_to_list};
-ghost use Rattle.std.specs.Prelude.{◌≡◌, ◌≤◌, ◌++◌, Err, IfNone, IfOk, IfSome, OnOk, Some, false, true};
+ghost use Rattle.std.specs.Prelude.{◌≡◌, ◌≤◌, ◌⊎◌, ◌++◌, Err, IfErr, IfNone, IfOk, IfSome, OnOk, Some, false, true};
 ghost use Rattle.vdcp_journal.specs.Rows.{AreBytesOf, rows_text};
-ghost use Rattle.vdcp_journal_file.specs.Recording.{FitHeldRows, end_note, ended, failure_of, is_announced, rows_left, says_nothing_new, seen_before, seen_last, seen_of, is_again, with_play};
+ghost use Rattle.vdcp_journal_file.specs.Recording.{FitHeldRows, IsUnwritten, end_note, ended, failure_of, is_announced, rows_left, says_nothing_new, seen_before, seen_last, seen_of, is_again, with_play};
 ghost use Rattle.vdcp_journal_file.specs.declared.pending.Pending.TheVariants.{Failed};
 ghost use Rattle.vdcp_journal_file.specs.declared.pending.RecordFault.{RecordFault};
+ghost use Rattle.vdcp_journal_file.specs.declared.pending.RecordFault.TheVariants.{Memory};
 
 use arrayvec::ArrayVec;
 use std::alloc::{AllocError, Global};
@@ -88,6 +89,7 @@ impl Pending {
         requires held { FitHeldRows unit held.now self }
         ensures added { OnOk result (text.new.items ≡ text.old.items ++ rows_text unit (rows_left self)) }
         ensures refused { (fault : RecordFault) → self ≡ Failed fault → result ≡ Err fault }
+        ensures faults { IfErr result (λ fault. (fault ≡ Memory) ⊎ (self ≡ Failed fault)) }
     {
         match self {
             Pending::Nothing => {}
@@ -203,11 +205,19 @@ pub enum RecordFault {
     /// The file failed. A beginning of the rows may be there.
     #[error("the file failed")]
     Device,
+    /// The file was removed or moved, or its name is another file's. None of the rows is there.
+    #[error("not the file that was opened")]
+    Replaced,
     #[error("out of memory")]
     Memory,
 }
 
 impl From<AllocError> for RecordFault {
+    ghost use Rattle.std.specs.Prelude.{◌≡◌};
+    ghost use Rattle.vdcp_journal_file.specs.declared.pending.RecordFault.TheVariants.{Memory};
+
+    ghost from_gives = { λ _ fault. fault ≡ Memory };
+
     fn from(_: AllocError) -> RecordFault {
         RecordFault::Memory
     }
@@ -216,10 +226,11 @@ impl From<AllocError> for RecordFault {
 impl RecordFault {
     /// The failure of the journal of this name.
     pub(crate) fn failure<'a>(self, name: &'a str) -> Failure<'a>
-        ensures { result ≡ failure_of name.entry self }
+        ensures failure { result ≡ failure_of name.entry self }
+        ensures unwritten { IsUnwritten name.entry result }
     {
         match self {
-            RecordFault::Device => Failure::Write(name),
+            RecordFault::Device | RecordFault::Replaced => Failure::Write(name),
             RecordFault::Memory => Failure::Memory,
         }
     }

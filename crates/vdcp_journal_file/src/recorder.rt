@@ -2,7 +2,7 @@
 ghost use Rattle.std.specs.Duration.{as_nanos};
 ghost use Rattle.std.specs.Io.KnownBytes.{Appends};
 ghost use Rattle.std.specs.Option.{option_copied, option_to_list};
-ghost use Rattle.std.specs.Prelude.{◌≡◌, ◌≢◌, ◌≤◌, ◌/◌, ◌∷◌, [], ◌++◌, Err, IfErr, IfOk, IfSome, IsFalse, IsTrue, None, OnErr, OnOk, false, min, true};
+ghost use Rattle.std.specs.Prelude.{◌≡◌, ◌≢◌, ◌≤◌, ◌⊎◌, ◌/◌, ◌∷◌, [], ◌++◌, Err, IfErr, IfOk, IfSome, IsFalse, IsTrue, None, OnErr, OnOk, false, min, true};
 ghost use Rattle.vdcp_list.specs.Asrun.{AppendsBeginning};
 ghost use Rattle.vdcp_journal.specs.Rows.{AreBytesOf, fields_text, heading_fields, rows_text};
 ghost use Rattle.vdcp_journal.specs.declared.moment.Moment.{Moment};
@@ -14,13 +14,14 @@ ghost use Rattle.vdcp_journal_file.specs.Recorded.{IsRecorded, KeepsRow, Loses, 
 ghost use Rattle.vdcp_journal_file.specs.Recording.{Adds, AddsBeginning, FitHeldRows, IsSynced, IsUnwritten, MakesBeginning, MakesSafe, Recording, after_row, end_note, ended, from_rows, is_announced, outcome_rows, rows_due, rows_left, with_play};
 ghost use Rattle.vdcp_journal_file.specs.declared.pending.Pending.TheVariants.{Failed, Nothing};
 ghost use Rattle.vdcp_journal_file.specs.declared.pending.RecordFault.{RecordFault};
+ghost use Rattle.vdcp_journal_file.specs.declared.pending.RecordFault.TheVariants.{Replaced};
 
 use crate::disk::{Disk, append_safely};
 use crate::pending::{HeldBytes, Pending, RecordFault};
 use arrayvec::ArrayVec;
 use std::alloc::Global;
 use std::marker::Model;
-use std::rt::Clock;
+use std::rt::{Clock, Files};
 use std::time::Duration;
 use vdcp_auto::{Heard, Outcome, Source};
 use vdcp_drive::{Call, Driver, Ear, Keep, KeepFault, KeptFault, Pace, Ran, Watch, Wire, laws};
@@ -61,7 +62,7 @@ impl<'a, 'r, R, F: Disk> Model for Recorder<'a, 'r, R, F> {
         × IsSynced r.pending (F.safe r.file) (F.written r.file) × FitHeldRows r.unit r.held r.pending };
 }
 
-impl<'a, 'r, R: Clock + AllocGlobal, F: Disk + Drop> Recorder<'a, 'r, R, F> {
+impl<'a, 'r, R: Files + Clock + AllocGlobal, F: Disk + Drop> Recorder<'a, 'r, R, F> {
     /// Begins a journal in an empty file: writes the first row.
     pub fn begin(
         rt: &'r R,
@@ -180,20 +181,21 @@ impl<'a, 'r, R: Clock + AllocGlobal, F: Disk + Drop> Recorder<'a, 'r, R, F> {
         Ok(())
     }
 
-    /// Writes what is pending, and how the controller ended, if it has ended. The failure is that of the first row
-    /// that wasn't written.
-    pub fn finish(&mut self, outcome: Option<Outcome>) -> Result<(), Failure<'a>>
+    /// Writes what is pending, and how the controller ended, if it has ended, to the file that the journal's name is of
+    /// still. The fault is that of the first row that wasn't written.
+    pub fn finish(&mut self, outcome: Option<Outcome>) -> Result<(), RecordFault>
         ensures written { OnOk result ((time : Moment) × Adds F.safe self.old self.new (outcome_rows time outcome)) }
         ensures torn { OnErr result ((time : Moment) × AddsBeginning F.safe self.old self.new
             (outcome_rows time outcome)) }
         ensures rest { OnOk result (self.new ≡ record self.old { file = self.new.file; pending = Nothing }) }
-        ensures failure { IfErr result (IsUnwritten self.old.name) }
+        ensures failed { IfErr result (λ fault. self.new ≡ record self.old
+            { file = self.new.file; pending = Failed fault }) }
+        ensures replaced { result ≡ Err Replaced → (self.old.pending ≡ Failed Replaced
+            ⊎ F.owns self.old.file self.old.name.now false) × (self.new.file ≡ self.old.file) }
+        ensures stays { (fault : RecordFault) → self.old.pending ≡ Failed fault → result ≡ Err fault }
     {
         let time = now(self.rt);
-        if let Err(fault) = self.write(outcome_row(time, outcome), None) {
-            return Err(fault.failure(self.name));
-        }
-        Ok(())
+        self.write(outcome_row(time, outcome), None)
     }
 
     /// Runs an automation, and keeps each of its commands before it goes out. At each moment the rows that are safe have
@@ -227,13 +229,18 @@ impl<'a, 'r, R: Clock + AllocGlobal, F: Disk + Drop> Recorder<'a, 'r, R, F> {
         ensures written { OnOk result (Adds F.safe self.old self.new (option_to_list last)) }
         ensures rest { OnOk result (self.new ≡ record self.old { file = self.new.file; pending = Nothing }) }
         ensures torn { OnErr result (AddsBeginning F.safe self.old self.new (option_to_list last)) }
+        ensures named { OnOk result (rows_text self.old.unit (rows_left self.old.pending ++ option_to_list last) ≢ [] →
+            F.owns self.old.file self.old.name.now true) }
+        ensures replaced { result ≡ Err Replaced → (self.old.pending ≡ Failed Replaced
+            ⊎ F.owns self.old.file self.old.name.now false) × (self.new.file ≡ self.old.file) }
         ensures failed { IfErr result (λ fault. self.new ≡ record self.old
             { file = self.new.file; pending = Failed fault }) }
         ensures stays { (fault : RecordFault) → self.old.pending ≡ Failed fault →
             (result ≡ Err fault) × (self.new ≡ self.old) }
     {
         match write_rows(
-            self.rt.alloc(),
+            self.rt,
+            self.name,
             self.unit,
             self.pending,
             &self.held,
@@ -253,7 +260,7 @@ impl<'a, 'r, R: Clock + AllocGlobal, F: Disk + Drop> Recorder<'a, 'r, R, F> {
     }
 }
 
-impl<R: Clock + AllocGlobal, F: Disk + Drop> Keep for Recorder<'_, '_, R, F> {
+impl<R: Files + Clock + AllocGlobal, F: Disk + Drop> Keep for Recorder<'_, '_, R, F> {
     ghost use Rattle.vdcp_journal_file.specs.Recorded.{KeepsRow, Loses, LosesRow, Notes, call_note};
 
     ghost adds = { Notes F.safe };
@@ -385,9 +392,11 @@ fn first_text(alloc: Global, time: &Moment, heading: &Heading) -> Result<Vec<u8>
     Ok(text)
 }
 
-// Writes what is left, and then a row, if there is one, in one, and makes that safe. A file that has lost its name fails.
-fn write_rows<F: Disk>(
-    alloc: Global,
+// Writes what is left, and then a row, if there is one, in one, and makes that safe. To a file whose name isn't its own
+// any more nothing is written.
+fn write_rows<R: Files + AllocGlobal, F: Disk>(
+    rt: &R,
+    name: &str,
     unit: u8,
     left: Pending,
     held: &HeldBytes,
@@ -404,8 +413,13 @@ fn write_rows<F: Disk>(
     ensures synced { OnOk result (F.safe file.new ≡ F.written file.new) }
     ensures beginning { OnErr result (AppendsBeginning (F.safe file.old) (F.safe file.new)
         (rows_text unit (rows_left left ++ option_to_list last))) }
+    ensures named { OnOk result (rows_text unit (rows_left left ++ option_to_list last) ≢ [] →
+        F.owns file.old name.now true) }
+    ensures replaced { result ≡ Err Replaced →
+        (left ≡ Failed Replaced ⊎ F.owns file.old name.now false) × (file.new ≡ file.old) }
     ensures refused { (fault : RecordFault) → left ≡ Failed fault → (result ≡ Err fault) × (file.new ≡ file.old) }
 {
+    let alloc = rt.alloc();
     let mut text = Vec::new(alloc);
     left.add_to(alloc, unit, held, &mut text)?;
     if let Some(row) = last {
@@ -414,8 +428,8 @@ fn write_rows<F: Disk>(
     if text.is_empty() {
         return Ok(());
     }
-    if !file.is_named() {
-        return Err(RecordFault::Device);
+    if !file.is_named(rt, name) {
+        return Err(RecordFault::Replaced);
     }
     match append_safely(file, text.as_slice()) {
         Ok(()) => Ok(()),

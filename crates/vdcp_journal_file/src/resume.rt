@@ -70,7 +70,7 @@ pub fn resume_journal<'a, 'r, 's, R: Files<File = File> + Clock + AllocGlobal, S
 }
 
 // The same of the journal in this file, which then has just the lines that were read.
-fn resume_in<'a, 'r, 's, R: Clock + AllocGlobal, S: Source, F: ReadableDisk + Drop>(
+fn resume_in<'a, 'r, 's, R: Files + Clock + AllocGlobal, S: Source, F: ReadableDisk + Drop>(
     rt: &'r R,
     name: &'a str,
     wanted: &Heading,
@@ -181,7 +181,7 @@ pub(crate) fn size_read<'a, I: Read + Drop>(
 }
 
 /// What goes on, in a file of whole rows. If the controller has ended and no row says so, one is written.
-pub(crate) fn go_on<'a, 'r, 's, R: Clock + AllocGlobal, S: Source, F: Disk + Drop>(
+pub(crate) fn go_on<'a, 'r, 's, R: Files + Clock + AllocGlobal, S: Source, F: Disk + Drop>(
     rt: &'r R,
     name: &'a str,
     unit: u8,
@@ -223,7 +223,7 @@ pub(crate) fn go_on<'a, 'r, 's, R: Clock + AllocGlobal, S: Source, F: Disk + Dro
 }
 
 // Writes how a controller has ended, with what is pending, unless the journal's last row says so.
-fn finish<'a, R: Clock + AllocGlobal, F: Disk + Drop>(
+fn finish<'a, R: Files + Clock + AllocGlobal, F: Disk + Drop>(
     recorder: &mut Recorder<'a, '_, R, F>,
     outcome: Outcome,
     last: Option<Note>,
@@ -236,7 +236,11 @@ fn finish<'a, R: Clock + AllocGlobal, F: Disk + Drop>(
     if is_end(last) {
         return Ok(());
     }
-    recorder.finish(Some(outcome))
+    let name = recorder.name();
+    match recorder.finish(Some(outcome)) {
+        Ok(()) => Ok(()),
+        Err(fault) => Err(fault.failure(name)),
+    }
 }
 
 // What is still to be written if this command's exchange was timed out, if one was. No clock gives its time.

@@ -23,7 +23,7 @@ use Rattle.vdcp_run.specs.declared.run_end.RunEnd.{RunEnd}
 use Rattle.vdcp_run.specs.declared.settings.RunJournal.{RunJournal}
 use Rattle.vdcp_run.specs.declared.settings.RunJournal.TheVariants as journals
 use Rattle.vdcp_run.specs.declared.settings.RunSettings.{RunSettings}
-use Rattle.vdcp_text.specs.declared.failure.Failure.{Failure}
+use Rattle.vdcp_run.specs.declared.lack.Lack.{Lack}
 use Rattle.vdcp_value.specs.declared.part.Item.{Item}
 
 -- a call that a row tells of, if it tells of one
@@ -168,11 +168,11 @@ is_run items list settings controller recorder end starts kept session came = re
 
 -- whose journal isn't whole, if it isn't
 pub unkept_so : {F : Type 0} (unit : ℕ) (journal : Option RunJournal) (state : State) (recorder : Option (Recording F))
-    (unkept : Option Failure) → HasRecorder unit journal state recorder → MayBeUnkept (journal_of recorder) unkept
+    (unkept : Option Lack) → HasRecorder unit journal state recorder → MayBeUnkept (journal_of recorder) unkept
     → MayBeUnkept (option_map name_of journal) unkept
 unkept_so unit journal state recorder None has may = tt
-unkept_so unit None state None (Some failure) has may = absurd may
-unkept_so unit None state (Some recorder) (Some failure) has may = cc
-unkept_so unit (Some journal) state None (Some failure) has may = absurd may
-unkept_so unit (Some journal) state (Some recorder) (Some failure) has may =
-    subst (λ (name : Bor (List ℕ)). MayBeUnkept (Some name) (Some failure)) has.0 may
+unkept_so unit None state None (Some lack) has may = absurd may
+unkept_so unit None state (Some recorder) (Some lack) has may = cc
+unkept_so unit (Some journal) state None (Some lack) has may = absurd may
+unkept_so unit (Some journal) state (Some recorder) (Some lack) has may =
+    subst (λ (name : Bor (List ℕ)). MayBeUnkept (Some name) (Some lack)) has.0 may

@@ -19,6 +19,7 @@ use Rattle.vdcp_list.specs.Rests.{FromEvent, items_left}
 use Rattle.vdcp_run.specs.Ends.{IsOpening, line_end_of, outcome_in_list}
 use Rattle.vdcp_files.specs.Files.{File}
 use Rattle.vdcp_run.specs.Run.{ComesTo, IsEndBy, IsEndOf, IsPlayed, IsRun, asrun_failure, end_text, fault_text, faults_text, lack_text, line_failure, outcome_status, run_status, status_unless, told_outcome}
+use Rattle.vdcp_run.specs.declared.lack.Lack.{Lack}
 use Rattle.vdcp_run.specs.declared.run_end.LineEnd.{LineEnd}
 use Rattle.vdcp_run.specs.declared.run_end.LineEnd.TheVariants as line_end
 use Rattle.vdcp_run.specs.declared.run_end.RunEnd.{RunEnd}
@@ -148,12 +149,12 @@ comes_so {S} items controller old new answer end same stays led ended line by ke
 
 -- ---- what is told if nothing failed
 
-silent_by : (n : ℕ) → n ≤ 2 → (unwritten unkept line : Option Failure) (rest : ℕ)
+silent_by : (n : ℕ) → n ≤ 2 → (unwritten : Option Failure) (unkept : Option Lack) (line : Option Failure) (rest : ℕ)
     → status_unless unwritten (status_unless unkept (status_unless line rest)) ≡ n
-    → fault_text unwritten ++ fault_text unkept ++ lack_text unkept ++ fault_text line ≡ []
+    → fault_text unwritten ++ lack_text unkept ++ fault_text line ≡ []
 silent_by n low None None None rest is = refl
 silent_by n low None None (Some failure) rest is = absurd (omega (arith, low, is))
-silent_by n low None (Some failure) line rest is = absurd (omega (arith, low, is))
+silent_by n low None (Some lack) line rest is = absurd (omega (arith, low, is))
 silent_by n low (Some failure) unkept line rest is = absurd (omega (arith, low, is))
 
 keeps_by : (old new : Option (List ℕ)) (text : List ℕ) → text ≡ [] → Appends old new text → Keeps old new

@@ -13,8 +13,8 @@ use Rattle.vdcp_auto.specs.declared.exchange.Exchange.{Exchange}
 use Rattle.vdcp_auto.specs.declared.outcome.Outcome.{Outcome}
 use Rattle.vdcp_auto.specs.declared.outcome.Outcome.TheVariants.{Done, Stopped, Lost, Denied, Missing, Refused, Foreign, Strange}
 use Rattle.vdcp_auto.specs.State.{State}
-use Rattle.vdcp_text.specs.Failure.{failure_line, status_of}
-use Rattle.vdcp_text.specs.Text.{line}
+use Rattle.vdcp_text.specs.Failure.{failure_line, failure_text, status_of}
+use Rattle.vdcp_text.specs.Text.{line, shown_name}
 use Rattle.vdcp_text.specs.declared.failure.Failure.{Failure}
 use Rattle.vdcp_text.specs.declared.failure.Failure.TheVariants as failures
 use Rattle.vdcp_text.specs.declared.failure.JournalFault.TheVariants as wrong
@@ -28,10 +28,13 @@ use Rattle.vdcp_list.specs.Rows.{FileBytes}
 use Rattle.vdcp_journal_file.specs.Recording.{BeganWith, IsTimedOut, IsUnbegun, Recording}
 use Rattle.vdcp_journal_file.specs.Resuming.{IsOpenedAgain, IsReplayed, IsUnopenedAgain, IsUnresumed, open_after, plan_of_run}
 use Rattle.vdcp_journal_file.specs.Showing.{IsAsrunOf, digest_of}
+use Rattle.vdcp_journal_file.specs.declared.pending.RecordFault.{RecordFault}
+use Rattle.vdcp_journal_file.specs.declared.pending.RecordFault.TheVariants as records
 use Rattle.vdcp_text.specs.Outcome.{outcome_text}
 use Rattle.vdcp_wire.specs.Address.{IsAddress}
 use Rattle.vdcp_run.specs.Ends.{outcome_in_list}
 use Rattle.vdcp_run.specs.Session.{HasSession, Start}
+use Rattle.vdcp_run.specs.declared.lack.Lack.{Lack}
 use Rattle.vdcp_run.specs.declared.place.Apart.{Apart}
 use Rattle.vdcp_run.specs.declared.settings.RunJournal.{RunJournal}
 use Rattle.vdcp_run.specs.declared.settings.RunJournal.TheVariants as journals
@@ -195,11 +198,27 @@ unbegun_journal (Err failure) (Some (journals.New name)) = Some name
 unbegun_journal (Err failure) (Some (journals.Older name)) = None
 unbegun_journal (Err failure) (Some (journals.Again name)) = None
 
--- why the journal of this name isn't whole, if it isn't: it can't be written, or memory was refused
-abbrev pub MayBeUnkept : Option (Bor (List ℕ)) → Option Failure → Type 0
+-- why the journal of this name isn't whole, if it isn't
+abbrev pub MayBeUnkept : Option (Bor (List ℕ)) → Option Lack → Type 0
 MayBeUnkept name None = Unit {0}
-MayBeUnkept None (Some failure) = ⊥
-MayBeUnkept (Some name) (Some failure) = (failure ≡ failures.Write name) ⊎ (failure ≡ failures.Memory)
+MayBeUnkept None (Some lack) = ⊥
+MayBeUnkept (Some name) (Some lack) = lack.journal ≡ name
+
+-- what befell the journal of this name
+abbrev pub befallen_text : Bor (List ℕ) → RecordFault → List ℕ
+befallen_text name records.Device = failure_text (failures.Write name)
+befallen_text name records.Memory = failure_text failures.Memory
+befallen_text name records.Replaced = shown_name name.now ++ codes ": not the file that was opened"
+
+-- the journal that a run goes on from: that which it had, unless that isn't where it was
+abbrev pub journal_after : RecordFault → Option RunJournal → Option RunJournal
+journal_after records.Device journal = journal
+journal_after records.Memory journal = journal
+journal_after records.Replaced journal = None
+
+abbrev pub journal_left : Option Lack → Option RunJournal → Option RunJournal
+journal_left None journal = journal
+journal_left (Some lack) journal = journal_after lack.fault journal
 
 -- ---- what is printed and reported
 
@@ -223,15 +242,15 @@ abbrev pub fault_text : Option Failure → List ℕ
 fault_text None = []
 fault_text (Some failure) = failure_line failure
 
--- what it may come to that the journal isn't whole, if it isn't
-abbrev pub lack_text : Option Failure → List ℕ
+-- why the journal isn't whole, if it isn't, and what that may come to
+abbrev pub lack_text : Option Lack → List ℕ
 lack_text None = []
-lack_text (Some failure) = line (codes "  the number reported holds: asrun may list one event less, and say that it may have aired")
+lack_text (Some lack) = line (codes "vdcp: " ++ befallen_text lack.journal lack.fault)
+    ++ line (codes "  the number reported holds: asrun may list one event less, and say that it may have aired")
 
--- the fault lines of the as-run file, the journal and the line, of which there are any, and what a journal's may come to
+-- the fault lines of the as-run file, the journal and the line, of which there are any
 abbrev pub faults_text : RunEnd → List ℕ
-faults_text end = fault_text (asrun_failure end.asrun) ++ fault_text end.unkept ++ lack_text end.unkept
-    ++ fault_text (line_failure end.line)
+faults_text end = fault_text (asrun_failure end.asrun) ++ lack_text end.unkept ++ fault_text (line_failure end.line)
 
 -- ---- the exit status
 
@@ -247,9 +266,9 @@ outcome_status (Some (Foreign k)) = 1
 outcome_status (Some (Strange k)) = 1
 
 -- 3 if there is a failure
-abbrev pub status_unless : Option Failure → ℕ → ℕ
+abbrev pub status_unless : {A : Type 0} → Option A → ℕ → ℕ
 status_unless None status = status
-status_unless (Some failure) status = 3
+status_unless (Some wrong) status = 3
 
 abbrev pub run_status : RunEnd → ℕ
 run_status end =

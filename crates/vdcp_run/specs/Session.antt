@@ -30,10 +30,10 @@ use Rattle.vdcp_journal_file.specs.Recording.{Adds, Recording, outcome_rows}
 use Rattle.vdcp_run.specs.Ends.{IsOpening, line_end_of, outcome_in_list, unbegun_line}
 use Rattle.vdcp_run.specs.Lapse.{MayLapse}
 use Rattle.vdcp_run.specs.Waiting.{AwaitsClip, waiting_in}
+use Rattle.vdcp_run.specs.declared.lack.Lack.{Lack}
 use Rattle.vdcp_run.specs.declared.run_end.LineEnd.TheVariants as line_end
 use Rattle.vdcp_run.specs.declared.run_end.RunEnd.{RunEnd}
 use Rattle.vdcp_run.specs.declared.settings.RunSettings.{RunSettings}
-use Rattle.vdcp_text.specs.declared.failure.Failure.{Failure}
 use Rattle.vdcp_value.specs.declared.part.Item.{Item}
 use Rattle.vdcp_wire.specs.Acts.{Act, sends, brings, drops, fails}
 use Rattle.vdcp_wire.specs.Streams.{StreamDoes, Streamed}
@@ -67,12 +67,12 @@ LosesBy safe command None new = new ≡ None
 LosesBy safe command (Some old) None = ⊥
 LosesBy safe command (Some old) (Some new) = Loses safe command old new
 
--- it was ended, with the outcome, if there is one, or a failure of it is told
-abbrev pub IsClosed : {F : Type 0} → (F → Option (List ℕ)) → Option Outcome → Option Failure → Option (Recording F) → Type 0
-IsClosed safe outcome failure None = failure ≡ None
+-- it was ended, with the outcome, if there is one, or why it isn't whole is told
+abbrev pub IsClosed : {F : Type 0} → (F → Option (List ℕ)) → Option Outcome → Option Lack → Option (Recording F) → Type 0
+IsClosed safe outcome lack None = lack ≡ None
 IsClosed {F} safe outcome None (Some recorder) =
     (time : Moment) × (then : Recording F) × Adds safe recorder then (outcome_rows time outcome)
-IsClosed safe outcome (Some failure) (Some recorder) = Unit {0}
+IsClosed safe outcome (Some lack) (Some recorder) = Unit {0}
 
 -- ---- a driver's run
 

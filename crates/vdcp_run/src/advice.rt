@@ -1,9 +1,10 @@
 //! What an operator is told of a run that didn't end as it was to: how it came to that, and what to type next.
 ghost use Rattle.std.specs.Prelude.{◌≡◌, false, None, Some, ℕ};
 ghost use Rattle.vdcp_run.specs.Advice.{advice_after, is_before_play, next_after, reason_of};
-ghost use Rattle.vdcp_run.specs.Run.{told_outcome};
+ghost use Rattle.vdcp_run.specs.Run.{journal_left, told_outcome};
 ghost use Rattle.vdcp_run.specs.declared.advice.Next.TheVariants as next;
 
+use crate::lack::journal_left;
 use crate::run_end::RunEnd;
 use crate::settings::RunJournal;
 use std::fmt;
@@ -83,8 +84,10 @@ impl<'a> Advice<'a> {
         journal: Option<RunJournal<'a>>,
         seen: Seen,
     ) -> Option<Advice<'a>>
-        ensures { result ≡ advice_after (told_outcome end.now.line end.now.outcome) journal.entry end.now.reported seen }
+        ensures { result ≡ advice_after (told_outcome end.now.line end.now.outcome)
+            (journal_left end.now.unkept journal.entry) end.now.reported seen }
     {
+        let journal = journal_left(end.unkept, journal);
         let outcome = end.told_outcome();
         match Next::after(outcome, journal, end.reported) {
             Some(next) => Some(Advice {

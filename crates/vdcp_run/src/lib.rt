@@ -3,8 +3,8 @@
 //! `do_run` connects to an address and plays a list through the port of the server there. Each fault has a line on
 //! standard error, and the exit status is given.
 //!
-//! Files, in reading order: `settings`, `run`, `begin`, `connecting`, `session`, `asking`, `run_end`, `advice`, `asrun`, `saved`, `place`,
-//! `in_list`, `before`, `polling`, `lapsing`, `waiting`, `stalling`, `stopwatch`.
+//! Files, in reading order: `settings`, `run`, `begin`, `connecting`, `session`, `asking`, `lack`, `run_end`, `advice`, `asrun`, `saved`,
+//! `place`, `in_list`, `before`, `polling`, `lapsing`, `waiting`, `stalling`, `stopwatch`.
 #![tactic(auto)]
 
 mod advice;
@@ -14,6 +14,7 @@ mod before;
 mod begin;
 mod connecting;
 mod in_list;
+mod lack;
 mod lapsing;
 mod place;
 mod polling;

@@ -6,6 +6,7 @@ ghost use Rattle.vdcp_run.specs.Run.{HasAsrun, IsEndBy, asrun_failure, end_text,
 
 use crate::asrun::save_asrun;
 use crate::in_list::{outcome_in_list, reported_in_list};
+use crate::lack::Lack;
 use crate::saved::SavedText;
 use crate::settings::RunSettings;
 use std::io;
@@ -77,8 +78,8 @@ pub struct RunEnd<'a> {
     pub line: LineEnd,
     /// The as-run file, if one is wanted; or why it hasn't the list.
     pub asrun: Option<Result<SavedText<'a>, Failure<'a>>>,
-    /// Why keeping the journal failed, if it did.
-    pub unkept: Option<Failure<'a>>,
+    /// Why the journal isn't whole, if it isn't.
+    pub unkept: Option<Lack<'a>>,
 }
 
 impl<'a> RunEnd<'a> {
@@ -133,13 +134,11 @@ impl<'a> RunEnd<'a> {
         }
     }
 
-    // Writes the fault lines of the as-run file, the journal and the line, of which there are any, and what a journal's may
-    // come to.
+    // Writes the fault lines of the as-run file, the journal and the line, of which there are any.
     fn write_faults<E: io::Write>(&self, err: &mut E) -> io::Result<()>
         ensures { OnOk result (Appends (E.contents err.old) (E.contents err.new) (faults_text self.now)) }
     {
         write_fault(self.unwritten(), err)?;
-        write_fault(self.unkept, err)?;
         write_lack(self.unkept, err)?;
         write_fault(self.line.failure(), err)
     }
@@ -170,15 +169,18 @@ fn write_fault<E: io::Write>(failure: Option<Failure<'_>>, err: &mut E) -> io::R
     }
 }
 
-// Writes what it may come to that the journal isn't whole, if it isn't.
-fn write_lack<E: io::Write>(unkept: Option<Failure<'_>>, err: &mut E) -> io::Result<()>
+// Writes why the journal isn't whole, if it isn't, and what that may come to.
+fn write_lack<E: io::Write>(unkept: Option<Lack<'_>>, err: &mut E) -> io::Result<()>
     ensures { OnOk result (Appends (E.contents err.old) (E.contents err.new) (lack_text unkept.entry)) }
 {
     match unkept {
-        Some(_) => writeln!(
-            err,
-            "  the number reported holds: asrun may list one event less, and say that it may have aired"
-        ),
+        Some(lack) => {
+            writeln!(err, "vdcp: {lack}")?;
+            writeln!(
+                err,
+                "  the number reported holds: asrun may list one event less, and say that it may have aired"
+            )
+        }
         None => Ok(()),
     }
 }

@@ -8,6 +8,7 @@ use crate::advice::Seen;
 use crate::asking::{Asked, ask_first, may_begin, unbegun_line};
 use crate::before::events_before;
 use crate::connecting::connect_in_time;
+use crate::lack::Lack;
 use crate::lapsing::Lapsing;
 use crate::polling::Polling;
 use crate::run_end::{LineEnd, RunEnd, ended};
@@ -22,7 +23,7 @@ use std::rt::{Clock, Files};
 use std::time::Duration;
 use vdcp_auto::{Controller, Outcome, Source};
 use vdcp_drive::{AutoDriver, Driver, Ear, KeptFault, PromptDriver, Ran, Unkept, Unwatched, Watch};
-use vdcp_journal_file::{Disk, Recorder, Resumption};
+use vdcp_journal_file::{Disk, RecordFault, Recorder, Resumption};
 use vdcp_list::Rest;
 use vdcp_log::{Hearing, Log, Logged, Side};
 use vdcp_operator::{Glances, Hand, Progress, ShownWire};
@@ -395,20 +396,23 @@ fn play_operated<
 
 // Ends the journal of this name, with how its controller has ended, if it has. It says why the journal isn't whole, if it
 // isn't.
-fn close<'a, R: Clock + AllocGlobal, F: Disk + Drop>(
+fn close<'a, R: Files + Clock + AllocGlobal, F: Disk + Drop>(
     name: &'a str,
     recorder: &mut Recorder<'a, '_, R, F>,
     outcome: Option<Outcome>,
     line: LineEnd,
-) -> Option<Failure<'a>>
+) -> Option<Lack<'a>>
     ensures closed { IsClosed F.safe outcome result (Some recorder.old) }
     ensures unkept { MayBeUnkept (Some name.entry) result }
     ensures told { line ≡ LineEnd.Unkept → IsSome result }
 {
-    match recorder.finish(outcome) {
-        Err(Failure::Memory) => Some(Failure::Memory),
-        Err(_) => Some(Failure::Write(name)),
-        Ok(()) if line == LineEnd::Unkept => Some(Failure::Write(name)),
-        Ok(()) => None,
-    }
+    let fault = match recorder.finish(outcome) {
+        Err(fault) => fault,
+        Ok(()) if line == LineEnd::Unkept => RecordFault::Device,
+        Ok(()) => return None,
+    };
+    Some(Lack {
+        journal: name,
+        fault,
+    })
 }
