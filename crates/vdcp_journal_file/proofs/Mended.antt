@@ -1,13 +1,14 @@
 -- What of a journal's file stays where a killed run left something undone.
-use Rattle.std.proofs.Common.{ℕ, ◌≡◌, ◌+◌, ◌-◌, ◌<◌, ◌≤◌, Bool, true, false, List, [], ◌∷◌, ◌++◌, append-nil, append_assoc, inl, inr, arith, length, take, drop, refl, sym, ap, ◌∙◌}
+use Rattle.std.proofs.Common.{ℕ, ◌≡◌, ◌+◌, ◌-◌, ◌<◌, ◌≤◌, Bool, true, false, List, [], ◌∷◌, ◌++◌, append-nil, append_assoc, inl, inr, arith, length, take, drop, refl, subst, sym, ap, ◌∙◌}
 use Rattle.std.proofs.Math.Seq.{take-append-add}
 use Rattle.std.proofs.lemmas.List.{length-append, length-take, take-append-drop, take-append-le, take-take, take_all}
-use Rattle.std.specs.Io.KnownBytes.{Appends}
+use Rattle.std.specs.Fmt.{option_append}
+use Rattle.std.specs.Io.KnownBytes.{Appends, Keeps}
 use Rattle.std.specs.List.{list_any}
 use Rattle.std.specs.Prelude.{◌==◌, ◌||◌, ◌⊎◌, IfSome, None, Option, Some, if◌then◌else◌, option_map}
 use Rattle.vdcp_journal.specs.Reading.{line_before, whole_lines}
 use Rattle.vdcp_journal_file.proofs.Disking.{lines_in_front}
-use Rattle.vdcp_journal_file.specs.Disks.{AreLines, BeginsWith, KeepsLines, lines_before_last}
+use Rattle.vdcp_journal_file.specs.Disks.{AreLines, BeginsWith, HasJust, KeepsLines, lines_before_last}
 
 -- what isn't changed
 pub untouched : (known : Option (List ℕ)) → BeginsWith (option_map whole_lines known) known
@@ -46,6 +47,30 @@ replaced (Some text) (Some next) size rows (inr is) wrote = inr (
   wrote ∙ ap (λ (l : List ℕ). l ++ rows)
       (ap (λ (n : ℕ). take n text) is ∙ front_of_front (length (whole_lines text) - 1) text),
 )
+
+-- rows after known bytes
+
+pub appended : (front : Option (List ℕ)) (rows : List ℕ) → Appends front (option_append front (Some rows)) rows
+appended None rows = tt
+appended (Some text) rows = refl
+
+pub kept_so : (front new : Option (List ℕ)) (rows : List ℕ) → Appends front new rows
+    → Keeps (option_append front (Some rows)) new
+kept_so None new rows wrote = tt
+kept_so (Some text) None rows wrote = absurd wrote
+kept_so (Some text) (Some next) rows wrote = wrote
+
+pub kept_same : (known : Option (List ℕ)) → Keeps known known
+kept_same None = tt
+kept_same (Some text) = refl
+
+pub just_kept : {F : Type 0} (safe written : F → Option (List ℕ)) (text known : Option (List ℕ)) (file : F)
+    → Keeps text known → HasJust safe written (option_map whole_lines known) file
+    → HasJust safe written (option_map whole_lines text) file
+just_kept safe written None known file keeps has = record { has = tt; synced = has.synced }
+just_kept safe written (Some text) None file keeps has = absurd keeps
+just_kept safe written (Some text) (Some next) file keeps has =
+    subst (λ (l : List ℕ). HasJust safe written (Some (whole_lines l)) file) keeps has
 
 or_left : (a b : Bool) → (a || b) ≡ false → a ≡ false
 or_left false b is = refl

@@ -1,14 +1,15 @@
 //! What a killed run left undone in its journal is done before anything goes on from it.
-ghost use Rattle.std.specs.Io.KnownBytes.{Appends};
+ghost use Rattle.std.specs.Io.KnownBytes.{Appends, Keeps};
 ghost use Rattle.std.specs.Prelude.{◌≡◌, ◌<◌, ◌≤◌, ◌⊎◌, [], IfErr, IfOk, IfSome, IsTrue, OnOk, length, option_map, take};
 ghost use Rattle.vdcp_journal.specs.Reading.{whole_lines};
 ghost use Rattle.vdcp_auto.specs.Plan.{plan_of};
 ghost use Rattle.vdcp_auto.specs.Turn.{given, outcome_of};
 ghost use Rattle.vdcp_list.specs.Rests.{items_left};
+ghost use Rattle.vdcp_list.specs.Rows.{FileBytes};
 ghost use Rattle.vdcp_journal_file.specs.Disks.{AreLines, BeginsWith, KeepsLines, lines_before_last};
 ghost use Rattle.vdcp_journal_file.specs.Mending.{announced_state, asks_state_if, is_loss_unsaid, loss_notes, next_unkept, unkept_notes};
 ghost use Rattle.vdcp_journal_file.specs.Recording.{IsUnwritten};
-ghost use Rattle.vdcp_journal_file.specs.Resuming.{IsUnread, IsUnresumed};
+ghost use Rattle.vdcp_journal_file.specs.Resuming.{Continues, IsUnread, IsUnresumed, JournalShows};
 
 use crate::disk::{ReadableDisk, append_safely};
 use crate::pending::RecordFault;
@@ -88,18 +89,23 @@ fn begins(text: &[u8], row: &[u8]) -> bool
 }
 
 /// Writes what a run that was killed couldn't write any more: the row of a command that may have gone out without one,
-/// with what was to be heard before it; and that the run was lost, if it was.
-pub(crate) fn mend_end<'a, R: Clock + AllocGlobal, S: Source, F: ReadableDisk>(
+/// with what was to be heard before it; and that the run was lost, if it was. It gives the run that goes on from the rows
+/// that the file has then. If there is none, nothing is written.
+pub(crate) fn mend_end<'a, 's, R: Clock + AllocGlobal, S: Source, F: ReadableDisk>(
     rt: &R,
     name: &'a str,
     wanted: &Heading,
-    source: &S,
+    source: &'s S,
     file: &mut F,
-) -> Result<(), Failure<'a>>
+) -> Result<LastRun<'s, S>, Failure<'a>>
     requires unit { wanted.now.unit ≤ 15 }
     requires some { 1 ≤ wanted.now.limit }
     requires few { wanted.now.limit ≤ 1000 }
-    ensures kept { OnOk result (KeepsLines (F.written file.old) (F.written file.new)) }
+    ensures goes_on { IfOk result (λ r. (text : FileBytes) × KeepsLines (F.written file.old) text
+        × Keeps text (F.written file.new)
+        × Continues (λ s. S.items s.now) wanted.now (S.items source.now) (option_map whole_lines text)
+        r.controller r.«open» r.unsettled r.last_note
+        × JournalShows wanted.now.mode (option_map whole_lines text) r.runs.items) }
     ensures unmended { IfErr result (IsUnresumed (S.items source.now) name.entry wanted.now) }
 {
     let (mut run, size) = replay_kept(rt.alloc(), name, wanted, source, file)?;
@@ -112,15 +118,25 @@ pub(crate) fn mend_end<'a, R: Clock + AllocGlobal, S: Source, F: ReadableDisk>(
     }
     let asked = first.is_some() || run.open.is_some();
     let [silence, lost] = loss_of(is_loss_unsaid(&run), asked);
-    match text_of(
-        rt.alloc(),
-        wanted.unit,
-        [first, second, third, silence, lost],
-    ) {
-        Ok(rows) if rows.is_empty() => Ok(()),
-        Ok(rows) => Ok(replace_from(name, size, rows.as_slice(), file)?),
-        Err(fault) => Err(fault.failure(name)),
+    let notes = [first, second, third, silence, lost];
+    let rows = match text_of(rt.alloc(), wanted.unit, notes) {
+        Ok(rows) => rows,
+        Err(fault) => return Err(fault.failure(name)),
+    };
+    if rows.is_empty() {
+        return replay_file(rt.alloc(), name, wanted, source, file);
     }
+    // (it is read before it is written: what nothing goes on from would be there for good)
+    let front = reader_of(name, file)?.take(size as u64);
+    let run = replay(
+        rt.alloc(),
+        name,
+        front.chain(rows.as_slice()),
+        wanted,
+        source,
+    )?;
+    replace_from(name, size, rows.as_slice(), file)?;
+    Ok(run)
 }
 
 // The last run of a journal's file, without a last row that asks for the state (its command may have gone out without a

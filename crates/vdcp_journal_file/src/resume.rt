@@ -97,8 +97,7 @@ fn resume_in<'a, 'r, 's, R: Files + Clock + AllocGlobal, S: Source, F: ReadableD
     ensures unresumed { IfErr result (IsUnresumed (S.items source.now) name.entry wanted.now) }
 {
     mend_heading(rt, name, wanted, &mut file)?;
-    mend_end(rt, name, wanted, source, &mut file)?;
-    let run = replay_file(rt.alloc(), name, wanted, source, &file)?;
+    let run = mend_end(rt, name, wanted, source, &mut file)?;
     cut(rt.alloc(), name, &mut file)?;
     go_on(rt, name, wanted.unit, file, run)
 }

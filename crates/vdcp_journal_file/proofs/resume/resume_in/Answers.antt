@@ -3,7 +3,7 @@ use Rattle.std.proofs.lemmas.Option.{IfSome_then}
 use Rattle.std.proofs.lemmas.Result.{IfOk-weaker}
 use Rattle.std.specs.Prelude.{IfSome, Option, option_map}
 use Rattle.vdcp_journal.specs.Reading.{whole_lines}
-use Rattle.vdcp_journal_file.proofs.Mended.{mended_so}
+use Rattle.vdcp_journal_file.proofs.Mended.{just_kept, mended_so}
 use Rattle.vdcp_journal_file.proofs.OpenedAgain.{both, replayed_of}
 use Rattle.vdcp_journal_file.proofs.resume.resume_in.Goals as goal
 use Rattle.vdcp_journal_file.specs.Recording.{IsTimedOut}
@@ -13,30 +13,32 @@ use Rattle.vdcp_words.specs.declared.command.Command.{Command}
 
 pub returns-clause-resumed : goal.returns-clause-resumed
 returns-clause-resumed g c =
-    let replayed = c.in_ok-run.ensures.replayed in
+    let (text, keeps, same, replayed, shown) = c.in_ok-run.ensures.goes_on in
     IfOk-weaker c.go_on.result _ _ (λ r p. (
-      option_map whole_lines (g.F.Disk.written c.mend_end.new.file),
+      option_map whole_lines text,
       replayed.run,
       rw p.0 (replayed_of _ _ _ _ _ _ _ _ replayed),
       rw p.0 replayed.on.from_is,
       subst (λ (o : Option Command). IfSome r.recorder (λ recorder. IsTimedOut o recorder.pending)) replayed.on.asked_is
           p.1.0,
-      IfSome_then r.recorder p.1.1 (λ recorder is. rw is c.in_ok-cut.ensures.whole),
-      mended_so (g.F.Disk.written c.args.file) (g.F.Disk.written c.mend_heading.new.file) (g.F.Disk.written c.mend_end.new.file)
-          c.in_ok-mend_heading.ensures.kept c.in_ok-mend_end.ensures.kept,
+      IfSome_then r.recorder p.1.1
+          (λ recorder is. rw is (just_kept g.F.Disk.safe g.F.Disk.written text _ _ same c.in_ok-cut.ensures.whole)),
+      mended_so (g.F.Disk.written c.args.file) (g.F.Disk.written c.mend_heading.new.file) text
+          c.in_ok-mend_heading.ensures.kept keeps,
     )) (both c.go_on.result _ _ c.go_on.ensures.controller
     (both c.go_on.result _ _ c.go_on.ensures.pending c.go_on.ensures.file))
 
 pub returns-clause-list : goal.returns-clause-list
 returns-clause-list g c =
-    IfOk-weaker c.go_on.result _ _ (λ r same. rw same c.in_ok-run.ensures.replayed.on.list_is) c.go_on.ensures.controller
+    let (text, keeps, same, replayed, shown) = c.in_ok-run.ensures.goes_on in
+    IfOk-weaker c.go_on.result _ _ (λ r p. rw p replayed.on.list_is) c.go_on.ensures.controller
 
 pub returns-clause-shows : goal.returns-clause-shows
 returns-clause-shows g c =
-    IfOk-weaker c.go_on.result _ _ (λ r same. (
-      option_map whole_lines (g.F.Disk.written c.mend_end.new.file),
-      subst (λ (l : List RunAirings). JournalShows c.args.wanted.now.mode
-          (option_map whole_lines (g.F.Disk.written c.mend_end.new.file)) l) (sym same) c.in_ok-run.ensures.shows,
-      mended_so (g.F.Disk.written c.args.file) (g.F.Disk.written c.mend_heading.new.file) (g.F.Disk.written c.mend_end.new.file)
-          c.in_ok-mend_heading.ensures.kept c.in_ok-mend_end.ensures.kept,
+    let (text, keeps, same, replayed, shown) = c.in_ok-run.ensures.goes_on in
+    IfOk-weaker c.go_on.result _ _ (λ r p. (
+      option_map whole_lines text,
+      subst (λ (l : List RunAirings). JournalShows c.args.wanted.now.mode (option_map whole_lines text) l) (sym p) shown,
+      mended_so (g.F.Disk.written c.args.file) (g.F.Disk.written c.mend_heading.new.file) text
+          c.in_ok-mend_heading.ensures.kept keeps,
     )) c.go_on.ensures.runs
