@@ -1,5 +1,5 @@
 -- A port that is kept from one connection to the next.
-use Rattle.std.specs.Prelude.{ℕ, suc, ◌≡◌, ◌-◌, Bool, ⊤, [], Option, None, Some, Result, Ok, Err}
+use Rattle.std.specs.Prelude.{ℕ, suc, ◌≡◌, ◌-◌, Bool, ⊤, [], Option, Some, Result, Ok, Err}
 use Rattle.vdcp_frame.specs.Progress.{reading}
 use Rattle.vdcp_port.specs.Clock.{ClockedPort, after_frame}
 use Rattle.vdcp_drive.specs.ServeLeaves.{ServeLeaves}
