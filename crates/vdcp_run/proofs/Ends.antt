@@ -91,6 +91,29 @@ some_in_list : (from : ℕ) (outcome : Option Outcome) → IsSome (outcome_in_li
 some_in_list from None some = some
 some_in_list from (Some outcome) some = some
 
+in_list_some : (from : ℕ) (outcome : Option Outcome) → IsSome outcome → IsSome (outcome_in_list from outcome)
+in_list_some from None some = some
+in_list_some from (Some outcome) some = some
+
+-- the controller of a run that was over needs no line
+pub over_comes : {S : Type 0} (items : S → List Item) (controller : View (FromEvent S)) (end : RunEnd)
+    → IsEndBy controller end → IsSome (outcome_of controller.state.stage) → end.line ≡ line_end.Unneeded
+    → ComesTo items controller end
+over_comes items controller end by over line = record {
+  from_is = by.from_is;
+  ends = λ log reached. record {
+    log = log;
+    state = controller.state;
+    reached = reached;
+    outcome_is = by.outcome_is;
+    reported_is = by.reported_is;
+    unneeded = λ is. subst (λ (o : Option Outcome). IsSome o) (sym by.outcome_is)
+        (in_list_some end.from (outcome_of controller.state.stage) over);
+    ended = λ some. inl line;
+    told = λ is. let other = sym line ∙ is in cc;
+  };
+}
+
 -- the controller of a list that isn't begun is as it was
 pub unbegun_comes : {S : Type 0} (items : S → List Item) (controller : View (FromEvent S)) (end : RunEnd)
     → IsEndBy controller end → ¬ IsSome (outcome_of controller.state.stage)

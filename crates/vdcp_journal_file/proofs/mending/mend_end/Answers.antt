@@ -11,7 +11,7 @@ pub returns-then-is_empty-clause-goes_on : goal.returns-then-is_empty-clause-goe
 returns-then-is_empty-clause-goes_on g c =
     let old = g.F.Disk.written c.args.file.now in
     IfOk-weaker c.replay_file.result _ _ (λ r p. (old, inl (untouched old), kept_same old, p.0, p.1))
-        (both c.replay_file.result _ _ c.replay_file.ensures.replayed c.replay_file.ensures.shows)
+    (both c.replay_file.result _ _ c.replay_file.ensures.replayed c.replay_file.ensures.shows)
 
 pub returns-clause-goes_on : goal.returns-clause-goes_on
 returns-clause-goes_on g c =

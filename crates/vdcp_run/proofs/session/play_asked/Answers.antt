@@ -7,14 +7,14 @@ use Rattle.vdcp_run.specs.Session.{MayBegin, left_off, played, unbegun}
 
 pub returns-clause-session : goal.returns-clause-session
 returns-clause-session g c =
-    let asked = c.ask_first-asked.result in
-    played asked.answer asked.wire asked.left (c.ask_first-asked.ensures.asked c.if-is_stopped.false)
+    let asked = c.ask_first-answer.result in
+    played asked.answer asked.wire asked.left (c.ask_first-answer.ensures.asked c.if-is_stopped.false)
     (c.may_begin.ensures.0 c.if-not-may_begin.false) c.play.ensures.session
 
 pub returns-then-is_stopped-clause-session : goal.returns-then-is_stopped-clause-session
 returns-then-is_stopped-clause-session g c =
-    let asked = c.ask_first-asked.result in
-    let stopped = c.ask_first-asked.ensures.stopped c.if-is_stopped.true in
+    let asked = c.ask_first-answer.result in
+    let stopped = c.ask_first-answer.ensures.stopped c.if-is_stopped.true in
     left_off stopped.0 asked.answer asked.wire asked.left stopped.1 c.ended.ensures.line
 
 pub returns-then-is_stopped-clause-end : goal.returns-then-is_stopped-clause-end
@@ -23,7 +23,7 @@ returns-then-is_stopped-clause-end g c =
     let state = c.args.controller.state in
     record {
       comes = unbegun_comes g.S.Source.items c.args.controller c.ended.result c.ended.ensures.of_controller
-          (λ some. let no = c.ask_first-asked.ensures.opened (opens_unended (plan_of (items_left g.S.Source.items) c.args.controller)
+          (λ some. let no = c.ask_first-answer.ensures.opened (opens_unended (plan_of (items_left g.S.Source.items) c.args.controller)
           state.stop state.stage some) in let yes = c.if-is_stopped.true in cc)
           (λ is. let other = sym line ∙ is in cc) (λ is. let other = sym line ∙ is in cc);
       asrun = c.ended.ensures.asrun;
@@ -32,8 +32,8 @@ returns-then-is_stopped-clause-end g c =
 
 pub returns-then-not-may_begin-clause-session : goal.returns-then-not-may_begin-clause-session
 returns-then-not-may_begin-clause-session g c =
-    let asked = c.ask_first-asked.result in
-    unbegun asked.answer asked.wire asked.left (c.ask_first-asked.ensures.asked c.if-is_stopped.false)
+    let asked = c.ask_first-answer.result in
+    unbegun asked.answer asked.wire asked.left (c.ask_first-answer.ensures.asked c.if-is_stopped.false)
     (λ may. let yes = c.may_begin.ensures.1 may in let no = c.if-not-may_begin.true in cc)
     (c.ended-then-not-may_begin.ensures.line ∙ c.unbegun_line.ensures.line)
 
@@ -44,7 +44,7 @@ returns-then-not-may_begin-clause-end g c =
     record {
       comes = unbegun_comes g.S.Source.items c.args.controller c.ended-then-not-may_begin.result
           c.ended-then-not-may_begin.ensures.of_controller
-          (λ some. let vacant = ((c.ask_first-asked.ensures.asked c.if-is_stopped.false).opened
+          (λ some. let vacant = ((c.ask_first-answer.ensures.asked c.if-is_stopped.false).opened
           (opens_unended (plan_of (items_left g.S.Source.items) c.args.controller) state.stop state.stage some)).0 in
           let yes = c.may_begin.ensures.1 (subst MayBegin (sym vacant) tt) in let no = c.if-not-may_begin.true in cc)
           (λ is. c.unbegun_line.ensures.begun (sym line ∙ is)) (λ is. c.unbegun_line.ensures.kept (sym line ∙ is));

@@ -10,8 +10,8 @@ returns-in-Ok-clause-asks g c = (
       c.requires.works,
 )
 
-pub returns-in-Err-Device-clause-asks : goal.returns-in-Err-Device-clause-asks
-returns-in-Err-Device-clause-asks g c = (
+pub returns-clause-asks : goal.returns-clause-asks
+returns-clause-asks g c = (
   c.run_with.new.self.wire,
   tt,
   asks_so g.S.Source.items g.W.Wire.does (λ k. record { operated = k.operated; held = k.hand.held }) _ g.E.Ear.fold g.W.Wire.failures c.from-listens.result c.args.settings.listens
