@@ -269,8 +269,10 @@ def leaves(page, name, digits, premise, before):
         said = text(page, "ask-text")
         must("This leaves a premise" in said and (premise or "Damage shows") in said, f"{name}: {said!r}")
         page.find_element(By.CSS_SELECTOR, f"#ask button[value={answer}]").click()
+        comes(lambda: not page.find_element(By.ID, "ask").is_displayed(), lambda: f"{name}: it is asked on")
         must(answer == "yes" or text(page, "done") == before, f"{name}: something happened though it was left")
-    must("left" in text(page, "verdict-why") or "broken" in text(page, "verdict-text"), f"{name}: {text(page, 'verdict-why')!r}")
+    # (a browser tells a page some time later how what it asked was closed)
+    comes(lambda: "left" in text(page, "verdict-why") or "broken" in text(page, "verdict-text"), lambda: f"{name}: {text(page, 'verdict-why')!r}")
 
 
 def dice(page, count):
