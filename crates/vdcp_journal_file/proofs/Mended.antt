@@ -9,6 +9,7 @@ use Rattle.std.specs.Prelude.{◌==◌, ◌||◌, ◌⊎◌, IfSome, None, Optio
 use Rattle.vdcp_journal.specs.Reading.{line_before, whole_lines}
 use Rattle.vdcp_journal_file.proofs.Disking.{lines_in_front}
 use Rattle.vdcp_journal_file.specs.Disks.{AreLines, BeginsWith, HasJust, KeepsLines, lines_before_last}
+use Rattle.vdcp_journal_file.specs.Torn.{closed, feed_after}
 
 -- what isn't changed
 pub untouched : (known : Option (List ℕ)) → BeginsWith (option_map whole_lines known) known
@@ -47,6 +48,18 @@ replaced (Some text) (Some next) size rows (inr is) wrote = inr (
   wrote ∙ ap (λ (l : List ℕ). l ++ rows)
       (ap (λ (n : ℕ). take n text) is ∙ front_of_front (length (whole_lines text) - 1) text),
 )
+
+-- a line feed more
+pub closed_on : (old mid new : Option (List ℕ)) → BeginsWith (option_map whole_lines old) mid
+    → Keeps (option_map closed mid) new → BeginsWith (option_map whole_lines old) new
+closed_on None mid new begins keeps = ([], tt)
+closed_on (Some text) None new begins keeps = absurd begins.1
+closed_on (Some text) (Some mid) None begins keeps = absurd keeps
+closed_on (Some text) (Some mid) (Some next) begins keeps =
+    let feed : List ℕ = feed_after [] mid in (
+      begins.0 ++ feed,
+      keeps ∙ ap (λ (l : List ℕ). l ++ feed) begins.1 ∙ append_assoc (whole_lines text) begins.0 feed,
+    )
 
 -- rows after known bytes
 

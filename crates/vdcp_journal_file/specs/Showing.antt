@@ -19,6 +19,7 @@ use Rattle.vdcp_list.specs.Playlists.{IsListOf}
 use Rattle.vdcp_list.specs.Rows.{FileBytes}
 use Rattle.vdcp_list.specs.Timed.{timed_heading, timed_rows, times_of}
 use Rattle.vdcp_journal_file.specs.Resuming.{plan_begun, plan_of_run, state_after}
+use Rattle.vdcp_journal_file.specs.Torn.{closed}
 use Rattle.vdcp_journal_file.specs.declared.asrun.AsrunSettings.{AsrunSettings}
 use Rattle.vdcp_text.specs.Failure.{failure_line, status_of}
 use Rattle.vdcp_text.specs.Text.{line}
@@ -123,7 +124,7 @@ pub record IsShown (settings : AsrunSettings) (list : Option File) (journal : Fi
   pub digest : Option (List ℕ)
   pub text : List ℕ
   pub are_items : AreItemsOf settings list items digest
-  pub shows : ShowsJournal settings items digest (option_map whole_lines (bytes_of journal)) text told
+  pub shows : ShowsJournal settings items digest (option_map whole_lines (option_map closed (bytes_of journal))) text told
   pub printed : Appends old new text
 
 -- and another writer gained what is told of the events that may have aired

@@ -14,7 +14,7 @@ ghost use Rattle.vdcp_text.specs.declared.failure.Failure.TheVariants as failure
 
 use crate::disk::ReadableDisk;
 use crate::file::open;
-use crate::mending::mend_heading;
+use crate::mending::{close_row, mend_heading};
 use crate::pending::Pending;
 use crate::reading::LastRun;
 use crate::recorder::Recorder;
@@ -81,6 +81,7 @@ fn begin_in<'a, 'r, 's, R: Files + Clock + AllocGlobal, S: Source, F: ReadableDi
     ensures unopened { IfErr result (IsUnopenedAgain (S.items source.now) name.entry wanted.now word) }
 {
     mend_heading(rt, name, wanted, &mut file)?;
+    close_row(name, &mut file)?;
     let run = replay_file(rt.alloc(), name, wanted, source, &file)?;
     if is_told_again(word, &run.controller) {
         cut(rt.alloc(), name, &mut file)?;

@@ -8,6 +8,7 @@ ghost use Rattle.vdcp_journal.specs.Runs.{Run};
 ghost use Rattle.vdcp_journal.specs.declared.row.Heading.{Heading};
 ghost use Rattle.vdcp_journal_file.specs.Resuming.{IsMadeOrRefused};
 ghost use Rattle.vdcp_journal_file.specs.Showing.{AreShown, IsAsrunOf, IsShown, IsShownAndTold, IsToldOnly, ShowsJournal, digest_of, heading_text, open_text, reported_text, undecided};
+ghost use Rattle.vdcp_journal_file.specs.Torn.{closed};
 ghost use Rattle.vdcp_journal_file.specs.declared.reading.Refusal.TheVariants as refusals;
 ghost use Rattle.vdcp_text.specs.Failure.{status_of};
 ghost use Rattle.vdcp_text.specs.declared.failure.Failure.TheVariants as failures;
@@ -15,6 +16,7 @@ ghost use Rattle.vdcp_text.specs.declared.failure.JournalFault.TheVariants as fa
 
 use crate::named::events_in;
 use crate::reading::{Refusal, begun, followed, read_refusal, refusal_of};
+use crate::torn::Closing;
 use std::alloc::Global;
 use std::fs::File;
 use std::io::{self, ErrorKind, Write};
@@ -40,7 +42,8 @@ pub struct AsrunSettings {
 }
 
 /// Prints the as-run list that a journal of this list shows: run by run, the events that a controller given the run's rows
-/// reports, and the times of each if they are wanted. A torn last row counts as none.
+/// reports, and the times of each if they are wanted. A torn last row counts as none, unless it lacks only its line feed and
+/// may have put a clip to air.
 ///
 /// The status is 0 if it is printed, 1 if a row of the list or of the journal is refused, or the list isn't the
 /// journal's, and 3 if a file can't be read, memory was refused or a writer failed. The list is read first. If it
@@ -194,9 +197,9 @@ fn shown_in<S: Source, J: io::Read + Drop>(
     digest: Option<[u8; 32]>,
 ) -> Result<Shown, Refusal>
     ensures { IfOk result (λ shown. ShowsJournal settings (S.items events.now) digest
-        (option_map whole_lines (J.remaining reader)) shown.text.items shown.told.items) }
+        (option_map whole_lines (option_map closed (J.remaining reader))) shown.text.items shown.told.items) }
 {
-    let Ok(mut lines) = WholeLines::new(alloc, reader) else {
+    let Ok(mut lines) = WholeLines::new(alloc, Closing::new(reader)) else {
         return Err(Refusal::Memory);
     };
     match shown_by(alloc, &mut lines, events, settings, digest) {

@@ -10,12 +10,14 @@ ghost use Rattle.vdcp_journal_file.specs.Disks.{AreLines, BeginsWith, KeepsLines
 ghost use Rattle.vdcp_journal_file.specs.Mending.{announced_state, asks_state_if, is_loss_unsaid, loss_notes, next_unkept, unkept_notes};
 ghost use Rattle.vdcp_journal_file.specs.Recording.{IsUnwritten};
 ghost use Rattle.vdcp_journal_file.specs.Resuming.{Continues, IsUnread, IsUnresumed, JournalShows};
+ghost use Rattle.vdcp_journal_file.specs.Torn.{closed};
 
 use crate::disk::{ReadableDisk, append_safely};
 use crate::pending::RecordFault;
 use crate::reading::{LastRun, is_end, replay};
 use crate::recorder::heading_text;
 use crate::resume::{reader_of, replay_file, size_read, whole_size};
+use crate::torn::{Closing, count_bytes};
 use std::alloc::Global;
 use std::io::{self, ErrorKind, Read};
 use std::rt::Clock;
@@ -49,6 +51,33 @@ pub(crate) fn mend_heading<'a, R: Clock + AllocGlobal, F: ReadableDisk>(
         return replace_from(name, 0, row.as_slice(), file);
     }
     Ok(())
+}
+
+/// Writes the line feed that the last row lacks, if it may have put a clip to air: then it counts.
+pub(crate) fn close_row<'a, F: ReadableDisk>(name: &'a str, file: &mut F) -> Result<(), Failure<'a>>
+    ensures closed { OnOk result (Keeps (option_map closed (F.written file.old)) (F.written file.new)) }
+    ensures unclosed { IfErr result (λ failure. IsUnread name.entry failure ⊎ IsUnwritten name.entry failure) }
+{
+    let size = size_of(name, reader_of(name, file)?)?;
+    let closed = size_of(name, Closing::new(reader_of(name, file)?))?;
+    if closed <= size {
+        return Ok(());
+    }
+    match append_safely(file, b"\n") {
+        Ok(()) => Ok(()),
+        Err(_) => Err(Failure::Write(name)),
+    }
+}
+
+// How many bytes a reader gives.
+fn size_of<'a, I: Read + Drop>(name: &'a str, mut reader: I) -> Result<u64, Failure<'a>>
+    ensures size { IfOk result (λ size. IfSome (I.remaining reader) (λ bytes. size ≡ length bytes)) }
+    ensures unread { IfErr result (IsUnread name.entry) }
+{
+    match count_bytes(&mut reader) {
+        Ok(size) => Ok(size),
+        Err(error) => Err(not_read(name, &error)),
+    }
 }
 
 /// Why the file of this name isn't read.

@@ -14,7 +14,7 @@ ghost use Rattle.vdcp_journal_file.specs.Resuming.{Continues, IsReplayed, Journa
 
 use crate::disk::{Disk, ReadableDisk, cut_safely};
 use crate::file::open;
-use crate::mending::{mend_end, mend_heading, not_read};
+use crate::mending::{close_row, mend_end, mend_heading, not_read};
 use crate::pending::Pending;
 use crate::reading::{LastRun, RunAirings, is_end, replay};
 use crate::recorder::Recorder;
@@ -41,8 +41,9 @@ pub struct Resumption<'a, 'r, R, S: Source, F: Disk = File> {
 
 /// Goes on with the last run of the journal of this name, if it is one of what is wanted: gives its rows to a new
 /// controller of the list, and times out the exchange that was open. If the run was lost, the controller may leave as
-/// many exchanges more unanswered, up to 1,000 in a row in all. A torn last row is cut off, a torn first one is
-/// written, and all rows are made safe. If a row is refused nothing is written.
+/// many exchanges more unanswered, up to 1,000 in a row in all. A torn last row is cut off, or gets its line feed if it
+/// lacks no more and may have put a clip to air; a torn first one is written, and all rows are made safe. If a row is
+/// refused no other is written.
 pub fn resume_journal<'a, 'r, 's, R: Files<File = File> + Clock + AllocGlobal, S: Source>(
     rt: &'r R,
     name: &'a str,
@@ -97,6 +98,7 @@ fn resume_in<'a, 'r, 's, R: Files + Clock + AllocGlobal, S: Source, F: ReadableD
     ensures unresumed { IfErr result (IsUnresumed (S.items source.now) name.entry wanted.now) }
 {
     mend_heading(rt, name, wanted, &mut file)?;
+    close_row(name, &mut file)?;
     let run = mend_end(rt, name, wanted, source, &mut file)?;
     cut(rt.alloc(), name, &mut file)?;
     go_on(rt, name, wanted.unit, file, run)

@@ -4,7 +4,7 @@ use Rattle.std.specs.Prelude.{Some, option_map}
 use Rattle.vdcp_auto.specs.Turn.{outcome_of}
 use Rattle.vdcp_journal.specs.Reading.{whole_lines}
 use Rattle.vdcp_journal_file.proofs.Began.{began_with, has_begun, unrecorded}
-use Rattle.vdcp_journal_file.proofs.Mended.{lines_begin}
+use Rattle.vdcp_journal_file.proofs.Mended.{closed_on, lines_begin}
 use Rattle.vdcp_journal_file.proofs.OpenedAgain.{both, not_begun, replayed_of}
 use Rattle.vdcp_journal_file.proofs.again.begin_in.Goals as goal
 use Rattle.vdcp_journal_file.specs.Recording.{Recording}
@@ -29,25 +29,25 @@ returns-then-is_told_again-clause-opened g c =
     let over = is_over (c.is_told_again.ensures.unsaid c.if-is_told_again.true) replayed.run
     (replayed_of _ _ _ _ _ _ _ _ replayed) replayed.on.from_is ended in
     IfOk-weaker c.go_on.result _ _ (λ r p. (
-      option_map whole_lines (g.F.Disk.written c.mend_heading.new.file),
+      option_map whole_lines (g.F.Disk.written c.close_row.new.file),
       rw p.0 over,
       unrecorded r.recorder _ _ _ (ap (λ controller. outcome_of controller.state.stage) p.0) ended p.1,
-      lines_begin (g.F.Disk.written c.args.file) (g.F.Disk.written c.mend_heading.new.file)
-          c.in_ok-mend_heading.ensures.kept,
+      lines_begin (g.F.Disk.written c.args.file) (g.F.Disk.written c.close_row.new.file)
+          (closed_on (g.F.Disk.written c.args.file) _ _ c.in_ok-mend_heading.ensures.kept c.in_ok-close_row.ensures.closed),
     )) (both c.go_on.result _ _ c.go_on.ensures.controller c.go_on.ensures.goes_on)
 
 pub returns-clause-opened : goal.returns-clause-opened
 returns-clause-opened g c =
     let replayed = c.in_ok-run.ensures.replayed in
     let event = c.in_ok-event.ensures.begins _ _ replayed.on in (
-      option_map whole_lines (g.F.Disk.written c.mend_heading.new.file),
+      option_map whole_lines (g.F.Disk.written c.close_row.new.file),
       rw c.new_controller.ensures
           (begins replayed.run _ _ (replayed_of _ _ _ _ _ _ _ _ replayed) event.1 event.0 refl refl),
       has_begun g.F.Disk.safe g.F.Disk.written _ c.after-recorder.result c.keep_from.new.self (Some c.in_ok-event.event)
           (rw c.after-recorder.ensures c.in_ok-cut-2.ensures.whole) c.in_ok-keep_from.ensures.safe
           c.in_ok-keep_from.ensures.synced c.in_ok-keep_from.ensures.rest,
-      lines_begin (g.F.Disk.written c.args.file) (g.F.Disk.written c.mend_heading.new.file)
-          c.in_ok-mend_heading.ensures.kept,
+      lines_begin (g.F.Disk.written c.args.file) (g.F.Disk.written c.close_row.new.file)
+          (closed_on (g.F.Disk.written c.args.file) _ _ c.in_ok-mend_heading.ensures.kept c.in_ok-close_row.ensures.closed),
     )
 
 pub returns-clause-from : goal.returns-clause-from
@@ -65,16 +65,17 @@ returns-clause-list g c = rw c.new_controller.ensures refl
 pub returns-then-is_told_again-clause-shows : goal.returns-then-is_told_again-clause-shows
 returns-then-is_told_again-clause-shows g c =
     IfOk-weaker c.go_on.result _ _ (λ r same. (
-      option_map whole_lines (g.F.Disk.written c.mend_heading.new.file),
+      option_map whole_lines (g.F.Disk.written c.close_row.new.file),
       subst (λ (l : List RunAirings). JournalShows c.args.wanted.now.mode
-          (option_map whole_lines (g.F.Disk.written c.mend_heading.new.file)) l) (sym same) c.in_ok-run.ensures.shows,
-      lines_begin (g.F.Disk.written c.args.file) (g.F.Disk.written c.mend_heading.new.file)
-          c.in_ok-mend_heading.ensures.kept,
+          (option_map whole_lines (g.F.Disk.written c.close_row.new.file)) l) (sym same) c.in_ok-run.ensures.shows,
+      lines_begin (g.F.Disk.written c.args.file) (g.F.Disk.written c.close_row.new.file)
+          (closed_on (g.F.Disk.written c.args.file) _ _ c.in_ok-mend_heading.ensures.kept c.in_ok-close_row.ensures.closed),
     )) c.go_on.ensures.runs
 
 pub returns-clause-shows : goal.returns-clause-shows
 returns-clause-shows g c = (
-  option_map whole_lines (g.F.Disk.written c.mend_heading.new.file),
+  option_map whole_lines (g.F.Disk.written c.close_row.new.file),
   c.in_ok-run.ensures.shows,
-  lines_begin (g.F.Disk.written c.args.file) (g.F.Disk.written c.mend_heading.new.file) c.in_ok-mend_heading.ensures.kept,
+  lines_begin (g.F.Disk.written c.args.file) (g.F.Disk.written c.close_row.new.file)
+      (closed_on (g.F.Disk.written c.args.file) _ _ c.in_ok-mend_heading.ensures.kept c.in_ok-close_row.ensures.closed),
 )

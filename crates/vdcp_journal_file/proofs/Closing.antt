@@ -1,0 +1,92 @@
+-- A torn last row gets its line feed.
+use Rattle.std.proofs.Common.{ℕ, ◌≡◌, ◌<◌, ◌+◌, Bool, true, false, List, [], ◌∷◌, ◌++◌, append_assoc, arith, length, nat_eq, take, true≢false, refl, sym, ap, ◌∙◌}
+use Rattle.std.proofs.lemmas.List.{append-nil, length-append, take_more}
+use Rattle.std.specs.Io.KnownBytes.{Appends, Consumes, IsAtEnd, Keeps}
+use Rattle.std.specs.Prelude.{◌≤◌, IfSome, None, Option, Some, if◌then◌else◌, option_map, slice_index_or, slice_set}
+use Rattle.vdcp_journal_file.specs.Torn.{closed, feed_after, held_with, may_air, torn_after}
+
+pub torn_on : (begun xs ys : List ℕ) → torn_after begun (xs ++ ys) ≡ torn_after (torn_after begun xs) ys
+torn_on begun [] ys = refl
+torn_on begun (byte ∷ xs) ys = torn_on (held_with begun byte) xs ys
+
+-- with the byte at one place more
+pub torn_next : (begun bytes : List ℕ) (k byte : ℕ) → k < length bytes
+    → torn_after begun (take (k + 1) bytes) ≡ held_with (torn_after begun (take k bytes)) (slice_index_or bytes k byte)
+torn_next begun bytes k byte within =
+    ap (λ (l : List ℕ). torn_after begun l) (take_more bytes k byte within)
+    ∙ torn_on begun (take k bytes) (slice_index_or bytes k byte ∷ [])
+
+feed_on : (begun xs ys : List ℕ) → feed_after begun (xs ++ ys) ≡ feed_after (torn_after begun xs) ys
+feed_on begun xs ys = ap (λ (l : List ℕ). if may_air l then 10 ∷ [] else []) (torn_on begun xs ys)
+
+-- what is left, with the line feed that is lacking
+abbrev pub with_feed : List ℕ → Option (List ℕ) → Option (List ℕ)
+with_feed begun left = option_map (λ text. text ++ feed_after begun text) left
+
+-- a piece was read
+pub reads_on : (old new : Option (List ℕ)) (begun begun' piece : List ℕ) → begun' ≡ torn_after begun piece
+    → Consumes old new piece → Consumes (with_feed begun old) (with_feed begun' new) piece
+reads_on None new begun begun' piece is came = tt
+reads_on (Some xs) None begun begun' piece is came = absurd came
+reads_on (Some xs) (Some ys) begun begun' piece is came =
+    ap (λ (l : List ℕ). l ++ feed_after begun l) came
+    ∙ append_assoc piece ys (feed_after begun (piece ++ ys))
+    ∙ ap (λ (l : List ℕ). piece ++ (ys ++ l))
+    (feed_on begun piece ys ∙ ap (λ (l : List ℕ). feed_after l ys) (sym is))
+
+-- the reader has come to its end, and the line feed is given, if it is lacking
+pub feeds : (old new : Option (List ℕ)) (begun feed : List ℕ) → feed ≡ feed_after begun [] → Consumes old new [] → IsAtEnd new
+    → Consumes (with_feed begun old) (option_map (λ text. []) new) feed
+feeds None new begun feed is came end = tt
+feeds (Some xs) None begun feed is came end = absurd came
+feeds (Some xs) (Some ys) begun feed is came end =
+    ap (λ (l : List ℕ). l ++ feed_after begun l) (came ∙ end) ∙ sym is ∙ sym (append-nil feed)
+
+pub stays : (old new : Option (List ℕ)) (begun : List ℕ) → Keeps old new → Keeps (with_feed begun old) (with_feed begun new)
+stays None new begun same = tt
+stays (Some xs) None begun same = absurd same
+stays (Some xs) (Some ys) begun same = ap (λ (l : List ℕ). l ++ feed_after begun l) same
+
+-- it is lacking exactly if the text is longer with it
+
+as_short : (lacks : Bool) (text : List ℕ) → length (text ++ (if lacks then 10 ∷ [] else [])) ≤ length text
+    → text ≡ text ++ (if lacks then 10 ∷ [] else [])
+as_short true text few = absurd (omega (arith, few, length-append text (10 ∷ [])))
+as_short false text few = sym (append-nil text)
+
+longer : (lacks : Bool) (text : List ℕ) → length text < length (text ++ (if lacks then 10 ∷ [] else []))
+    → text ++ 10 ∷ [] ≡ text ++ (if lacks then 10 ∷ [] else [])
+longer true text more = refl
+longer false text more = absurd (omega (arith, more, ap length (append-nil text)))
+
+pub lacks_none : (known : Option (List ℕ)) (size size' : ℕ) → IfSome known (λ text. size ≡ length text)
+    → IfSome (option_map closed known) (λ text. size' ≡ length text) → size' ≤ size → Keeps (option_map closed known) known
+lacks_none None size size' is is' few = tt
+lacks_none (Some text) size size' is is' few =
+    as_short (may_air (torn_after [] text)) text (omega (arith, is, is', few))
+
+pub gets_it : (known new : Option (List ℕ)) (size size' : ℕ) → IfSome known (λ text. size ≡ length text)
+    → IfSome (option_map closed known) (λ text. size' ≡ length text) → size < size' → Appends known new (10 ∷ [])
+    → Keeps (option_map closed known) new
+gets_it None new size size' is is' more wrote = tt
+gets_it (Some text) None size size' is is' more wrote = absurd wrote
+gets_it (Some text) (Some next) size size' is is' more wrote =
+    wrote ∙ longer (may_air (torn_after [] text)) text (omega (arith, is, is', more))
+
+-- all bytes are counted
+pub counted : (old mid new : Option (List ℕ)) (a b : List ℕ) → Consumes old mid a → Consumes mid new b
+    → Consumes old new (a ++ b)
+counted None mid new a b one two = tt
+counted (Some xs) None new a b one two = absurd one
+counted (Some xs) (Some ys) None a b one two = absurd two
+counted (Some xs) (Some ys) (Some zs) a b one two =
+    one ∙ ap (λ (l : List ℕ). a ++ l) two ∙ sym (append_assoc a b zs)
+
+pub has_room : (old new : List ℕ) → length new ≡ length old → nat_eq (length old) 0 ≡ false → 0 < length new
+has_room [] new same some = absurd (true≢false some)
+has_room (byte ∷ old) new same some = omega (arith, same)
+
+-- it is all that is given of a buffer that it was put into
+pub fed : (buffer : List ℕ) → 0 < length buffer → take 1 (slice_set buffer 0 10) ≡ 10 ∷ []
+fed [] room = absurd (omega (arith, room))
+fed (byte ∷ buffer) room = refl
