@@ -9,7 +9,7 @@ use Rattle.std.specs.Prelude.{◌==◌, ◌||◌, ◌⊎◌, IfSome, None, Optio
 use Rattle.vdcp_journal.specs.Reading.{line_before, whole_lines}
 use Rattle.vdcp_journal_file.proofs.Disking.{lines_in_front}
 use Rattle.vdcp_journal_file.specs.Disks.{AreLines, BeginsWith, HasJust, KeepsLines, lines_before_last}
-use Rattle.vdcp_journal_file.specs.Torn.{closed, feed_after}
+use Rattle.vdcp_journal_file.specs.Torn.{closed, may_air, torn_after}
 
 -- what isn't changed
 pub untouched : (known : Option (List ℕ)) → BeginsWith (option_map whole_lines known) known
@@ -49,17 +49,20 @@ replaced (Some text) (Some next) size rows (inr is) wrote = inr (
       (ap (λ (n : ℕ). take n text) is ∙ front_of_front (length (whole_lines text) - 1) text),
 )
 
--- a line feed more
-pub closed_on : (old mid new : Option (List ℕ)) → BeginsWith (option_map whole_lines old) mid
-    → Keeps (option_map closed mid) new → BeginsWith (option_map whole_lines old) new
-closed_on None mid new begins keeps = ([], tt)
-closed_on (Some text) None new begins keeps = absurd begins.1
-closed_on (Some text) (Some mid) None begins keeps = absurd keeps
-closed_on (Some text) (Some mid) (Some next) begins keeps =
-    let feed : List ℕ = feed_after [] mid in (
-      begins.0 ++ feed,
-      keeps ∙ ap (λ (l : List ℕ). l ++ feed) begins.1 ∙ append_assoc (whole_lines text) begins.0 feed,
-    )
+-- what is known to stay begins as it did
+pub keeps_on : (lines mid new : Option (List ℕ)) → BeginsWith lines mid → Keeps mid new → BeginsWith lines new
+keeps_on None mid new begins keeps = ([], tt)
+keeps_on (Some text) None new begins keeps = absurd begins.1
+keeps_on (Some text) (Some mid) None begins keeps = absurd keeps
+keeps_on (Some text) (Some mid) (Some next) begins keeps = (begins.0, keeps ∙ begins.1)
+
+-- what has no line, nor lacks only a line feed, is replaced
+pub begun_anew : (old new : Option (List ℕ)) (rows : List ℕ) → IfSome old (λ text. whole_lines (closed text) ≡ [])
+    → Appends (option_map (take 0) old) new rows
+    → BeginsWith (option_map whole_lines (option_map closed old)) (option_map closed new)
+begun_anew None new rows is wrote = ([], tt)
+begun_anew (Some text) None rows is wrote = absurd wrote
+begun_anew (Some text) (Some next) rows is wrote = (closed next, ap (λ (l : List ℕ). l ++ closed next) (sym is))
 
 -- rows after known bytes
 
@@ -100,14 +103,21 @@ no_line (byte ∷ more) none =
     ap (line_before byte) (no_line more (or_right (byte == 10) (list_any (λ b. b == 10) more) none))
     ∙ rw (or_left (byte == 10) (list_any (λ b. b == 10) more) none) refl
 
+-- nor if none is lacking
+pub no_closed : (text : List ℕ) → list_any (λ byte. byte == 10) text ≡ false → may_air (torn_after [] text) ≡ false
+    → whole_lines (closed text) ≡ []
+no_closed text none closes =
+    ap (λ (b : Bool). whole_lines (text ++ (if b then 10 ∷ [] else []))) closes
+    ∙ ap whole_lines (append-nil text) ∙ no_line text none
+
 -- a file with so few bytes has those that were read
 pub torn_so : (old : Option (List ℕ)) (text : List ℕ) (most : ℕ) → IfSome (option_map (take most) old) (λ xs. text ≡ [] ++ xs)
-    → length text < most → whole_lines text ≡ [] → IfSome old (λ bytes. 0 ≡ length (whole_lines bytes))
+    → length text < most → whole_lines (closed text) ≡ [] → IfSome old (λ bytes. whole_lines (closed bytes) ≡ [])
 torn_so None text most read few none = tt
 torn_so (Some bytes) text most read few none =
     let all : take most bytes ≡ bytes =
     take_all most bytes (omega (arith, length-take most bytes, ap length read, few)) in
-    sym (ap (λ (l : List ℕ). length (whole_lines l)) (sym all ∙ sym read) ∙ ap length none)
+    ap (λ (l : List ℕ). whole_lines (closed l)) (sym all ∙ sym read) ∙ none
 
 -- ---- the whole lines of what was mended
 

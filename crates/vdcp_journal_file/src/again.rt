@@ -10,6 +10,7 @@ ghost use Rattle.vdcp_list.specs.Rows.{FileBytes};
 ghost use Rattle.vdcp_journal_file.specs.Disks.{BeginsWith};
 ghost use Rattle.vdcp_journal_file.specs.Recording.{BeganWith, HasBegun};
 ghost use Rattle.vdcp_journal_file.specs.Resuming.{BeginsAfter, IsNoBeginning, IsOpenedAfter, IsOpenedAgain, IsOver, IsRunOn, IsUnopenedAgain, JournalShows};
+ghost use Rattle.vdcp_journal_file.specs.Torn.{closed};
 ghost use Rattle.vdcp_text.specs.declared.failure.Failure.TheVariants as failures;
 
 use crate::disk::ReadableDisk;
@@ -70,14 +71,14 @@ fn begin_in<'a, 'r, 's, R: Files + Clock + AllocGlobal, S: Source, F: ReadableDi
     ensures opened { IfOk result (λ r. (lines : FileBytes) × IsOpenedAfter (S.items source.now) wanted.now lines word
         r.controller.source.from (plan_of (items_left (λ s. S.items s.now)) r.controller) r.controller.state
         × IfSome r.recorder (HasBegun F.safe F.written lines)
-        × BeginsWith (option_map whole_lines (F.written file)) lines) }
+        × BeginsWith (option_map whole_lines (option_map closed (F.written file))) lines) }
     ensures list { IfOk result (λ r. S.items r.controller.source.source.now ≡ S.items source.now) }
     ensures goes_on { IfOk result (λ r. IsSome r.recorder ↔ (outcome_of r.controller.state.stage ≡ None)) }
     ensures unit { IfOk result (λ r. IfSome r.recorder (λ recorder. recorder.unit ≡ wanted.now.unit)) }
     ensures name { IfOk result (λ r. IfSome r.recorder (λ recorder. recorder.name ≡ name.entry)) }
     ensures from { IfOk result (λ r. IfSome r.recorder (BeganWith (Some r.controller.source.from))) }
     ensures shows { IfOk result (λ r. (lines : FileBytes) × JournalShows wanted.now.mode lines r.runs.items
-        × BeginsWith (option_map whole_lines (F.written file)) lines) }
+        × BeginsWith (option_map whole_lines (option_map closed (F.written file))) lines) }
     ensures unopened { IfErr result (IsUnopenedAgain (S.items source.now) name.entry wanted.now word) }
 {
     mend_heading(rt, name, wanted, &mut file)?;

@@ -17,7 +17,7 @@ use crate::pending::RecordFault;
 use crate::reading::{LastRun, is_end, replay};
 use crate::recorder::heading_text;
 use crate::resume::{reader_of, replay_file, size_read, whole_size};
-use crate::torn::{Closing, count_bytes};
+use crate::torn::{Closing, count_bytes, lacks_feed};
 use std::alloc::Global;
 use std::io::{self, ErrorKind, Read};
 use std::rt::Clock;
@@ -34,7 +34,8 @@ pub(crate) fn mend_heading<'a, R: Clock + AllocGlobal, F: ReadableDisk>(
     wanted: &Heading,
     file: &mut F,
 ) -> Result<(), Failure<'a>>
-    ensures kept { OnOk result (BeginsWith (option_map whole_lines (F.written file.old)) (F.written file.new)) }
+    ensures kept { OnOk result (BeginsWith (option_map whole_lines (option_map closed (F.written file.old)))
+        (option_map closed (F.written file.new))) }
     ensures unmended { IfErr result (λ failure. IsUnread name.entry failure ⊎ IsUnwritten name.entry failure) }
 {
     let row = match heading_text(rt, wanted) {
@@ -93,12 +94,12 @@ pub(crate) fn not_read<'a>(name: &'a str, error: &io::Error) -> Failure<'a>
 // How many bytes of a row are its time.
 const TIME: usize = 24;
 
-// Whether a text is the beginning of this row, with any time, and has no whole row.
+// Whether a text is the beginning of this row, with any time, and has no row that counts.
 fn is_torn(text: &[u8], row: &[u8]) -> bool
     ensures few { IsTrue result → length text.now < length row.now }
-    ensures torn { IsTrue result → whole_lines text.now ≡ [] }
+    ensures torn { IsTrue result → whole_lines (closed text.now) ≡ [] }
 {
-    if text.contains(&b'\n') {
+    if text.contains(&b'\n') || lacks_feed(text) {
         return false;
     }
     text.len() < row.len() && begins(text, row)

@@ -11,6 +11,7 @@ ghost use Rattle.vdcp_journal_file.specs.Disks.{HasJust, KeepsLines};
 ghost use Rattle.vdcp_journal_file.specs.Recorded.{MayHold};
 ghost use Rattle.vdcp_journal_file.specs.Recording.{Adds, IsTimedOut, IsUnwritten, outcome_rows};
 ghost use Rattle.vdcp_journal_file.specs.Resuming.{Continues, IsReplayed, JournalShows, IsUnread, IsUnresumed, is_end, open_after, plan_of_run};
+ghost use Rattle.vdcp_journal_file.specs.Torn.{closed};
 
 use crate::disk::{Disk, ReadableDisk, cut_safely};
 use crate::file::open;
@@ -88,13 +89,13 @@ fn resume_in<'a, 'r, 's, R: Files + Clock + AllocGlobal, S: Source, F: ReadableD
         × IfSome r.recorder (λ recorder.
         IsTimedOut (open_after (plan_of_run wanted.now (S.items source.now) run) run.rows) recorder.pending)
         × IfSome r.recorder (λ recorder. HasJust F.safe F.written lines recorder.file)
-        × KeepsLines (F.written file) lines) }
+        × KeepsLines (option_map closed (F.written file)) lines) }
     ensures list { IfOk result (λ r. S.items r.controller.source.source.now ≡ S.items source.now) }
     ensures goes_on { IfOk result (λ r. IsSome r.recorder ↔ (outcome_of r.controller.state.stage ≡ None)) }
     ensures unit { IfOk result (λ r. IfSome r.recorder (λ recorder. recorder.unit ≡ wanted.now.unit)) }
     ensures name { IfOk result (λ r. IfSome r.recorder (λ recorder. recorder.name ≡ name.entry)) }
     ensures shows { IfOk result (λ r. (lines : FileBytes) × JournalShows wanted.now.mode lines r.runs.items
-        × KeepsLines (F.written file) lines) }
+        × KeepsLines (option_map closed (F.written file)) lines) }
     ensures unresumed { IfErr result (IsUnresumed (S.items source.now) name.entry wanted.now) }
 {
     mend_heading(rt, name, wanted, &mut file)?;

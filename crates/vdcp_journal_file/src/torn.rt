@@ -1,5 +1,5 @@
 //! A journal's last row that lacks only its line feed, and may have put a clip to air.
-ghost use Rattle.std.specs.Prelude.{◌≡◌, IfOk, IfSome, length, option_map};
+ghost use Rattle.std.specs.Prelude.{◌≡◌, [], IfOk, IfSome, length, option_map};
 ghost use Rattle.vdcp_journal_file.specs.Torn.{closed, closing_left, fits, fits_place, held_with, is_hex, may_air, says_done, says_playing, torn_after};
 
 use arrayvec::ArrayVec;
@@ -58,6 +58,15 @@ impl<R: Read> Read for Closing<R> {
         buffer[0] = b'\n';
         Ok(1)
     }
+}
+
+/// Whether a text's last row lacks only its line feed, and may have put a clip to air.
+pub(crate) fn lacks_feed(text: &[u8]) -> bool
+    ensures { result ≡ may_air (torn_after [] text.now) }
+{
+    let mut torn = ArrayVec::new();
+    hold(&mut torn, text);
+    may_air(torn.as_slice())
 }
 
 // Holds the bytes that come next.

@@ -4,11 +4,12 @@ use Rattle.std.specs.Prelude.{Some, option_map}
 use Rattle.vdcp_auto.specs.Turn.{outcome_of}
 use Rattle.vdcp_journal.specs.Reading.{whole_lines}
 use Rattle.vdcp_journal_file.proofs.Began.{began_with, has_begun, unrecorded}
-use Rattle.vdcp_journal_file.proofs.Mended.{closed_on, lines_begin}
+use Rattle.vdcp_journal_file.proofs.Mended.{keeps_on, lines_begin}
 use Rattle.vdcp_journal_file.proofs.OpenedAgain.{both, not_begun, replayed_of}
 use Rattle.vdcp_journal_file.proofs.again.begin_in.Goals as goal
 use Rattle.vdcp_journal_file.specs.Recording.{Recording}
 use Rattle.vdcp_journal_file.specs.Resuming.{JournalShows, begins, is_over, unresumed}
+use Rattle.vdcp_journal_file.specs.Torn.{closed}
 use Rattle.vdcp_journal_file.specs.declared.reading.RunAirings.{RunAirings}
 
 pub returns-in_err-run-clause-unopened : goal.returns-in_err-run-clause-unopened
@@ -32,8 +33,8 @@ returns-then-is_told_again-clause-opened g c =
       option_map whole_lines (g.F.Disk.written c.close_row.new.file),
       rw p.0 over,
       unrecorded r.recorder _ _ _ (ap (λ controller. outcome_of controller.state.stage) p.0) ended p.1,
-      lines_begin (g.F.Disk.written c.args.file) (g.F.Disk.written c.close_row.new.file)
-          (closed_on (g.F.Disk.written c.args.file) _ _ c.in_ok-mend_heading.ensures.kept c.in_ok-close_row.ensures.closed),
+      lines_begin (option_map closed (g.F.Disk.written c.args.file)) (g.F.Disk.written c.close_row.new.file)
+          (keeps_on _ _ _ c.in_ok-mend_heading.ensures.kept c.in_ok-close_row.ensures.closed),
     )) (both c.go_on.result _ _ c.go_on.ensures.controller c.go_on.ensures.goes_on)
 
 pub returns-clause-opened : goal.returns-clause-opened
@@ -46,8 +47,8 @@ returns-clause-opened g c =
       has_begun g.F.Disk.safe g.F.Disk.written _ c.after-recorder.result c.keep_from.new.self (Some c.in_ok-event.event)
           (rw c.after-recorder.ensures c.in_ok-cut-2.ensures.whole) c.in_ok-keep_from.ensures.safe
           c.in_ok-keep_from.ensures.synced c.in_ok-keep_from.ensures.rest,
-      lines_begin (g.F.Disk.written c.args.file) (g.F.Disk.written c.close_row.new.file)
-          (closed_on (g.F.Disk.written c.args.file) _ _ c.in_ok-mend_heading.ensures.kept c.in_ok-close_row.ensures.closed),
+      lines_begin (option_map closed (g.F.Disk.written c.args.file)) (g.F.Disk.written c.close_row.new.file)
+          (keeps_on _ _ _ c.in_ok-mend_heading.ensures.kept c.in_ok-close_row.ensures.closed),
     )
 
 pub returns-clause-from : goal.returns-clause-from
@@ -68,14 +69,14 @@ returns-then-is_told_again-clause-shows g c =
       option_map whole_lines (g.F.Disk.written c.close_row.new.file),
       subst (λ (l : List RunAirings). JournalShows c.args.wanted.now.mode
           (option_map whole_lines (g.F.Disk.written c.close_row.new.file)) l) (sym same) c.in_ok-run.ensures.shows,
-      lines_begin (g.F.Disk.written c.args.file) (g.F.Disk.written c.close_row.new.file)
-          (closed_on (g.F.Disk.written c.args.file) _ _ c.in_ok-mend_heading.ensures.kept c.in_ok-close_row.ensures.closed),
+      lines_begin (option_map closed (g.F.Disk.written c.args.file)) (g.F.Disk.written c.close_row.new.file)
+          (keeps_on _ _ _ c.in_ok-mend_heading.ensures.kept c.in_ok-close_row.ensures.closed),
     )) c.go_on.ensures.runs
 
 pub returns-clause-shows : goal.returns-clause-shows
 returns-clause-shows g c = (
   option_map whole_lines (g.F.Disk.written c.close_row.new.file),
   c.in_ok-run.ensures.shows,
-  lines_begin (g.F.Disk.written c.args.file) (g.F.Disk.written c.close_row.new.file)
-      (closed_on (g.F.Disk.written c.args.file) _ _ c.in_ok-mend_heading.ensures.kept c.in_ok-close_row.ensures.closed),
+  lines_begin (option_map closed (g.F.Disk.written c.args.file)) (g.F.Disk.written c.close_row.new.file)
+      (keeps_on _ _ _ c.in_ok-mend_heading.ensures.kept c.in_ok-close_row.ensures.closed),
 )

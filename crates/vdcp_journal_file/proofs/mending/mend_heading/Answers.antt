@@ -1,7 +1,9 @@
 use Rattle.std.proofs.Common.{◌<◌, ap, arith, length}
 use Rattle.std.proofs.lemmas.Result.{on_ok_weaker}
-use Rattle.vdcp_journal_file.proofs.Mended.{after_lines, torn_so, untouched}
+use Rattle.std.specs.Prelude.{option_map}
+use Rattle.vdcp_journal_file.proofs.Mended.{begun_anew, torn_so, untouched}
 use Rattle.vdcp_journal_file.proofs.mending.mend_heading.Goals as goal
+use Rattle.vdcp_journal_file.specs.Torn.{closed}
 
 pub returns-then-is_torn-clause-kept : goal.returns-then-is_torn-clause-kept
 returns-then-is_torn-clause-kept g c =
@@ -17,8 +19,8 @@ returns-then-is_torn-clause-kept g c =
     let few : length text < c.in-Ok.row.len =
     omega (arith, c.is_torn.ensures.few c.if-is_torn.true, ap length c.as_slice.ensures.value, c.as_slice-2.ensures.len) in
     let torn = rw c.as_slice.ensures.value at (c.is_torn.ensures.torn c.if-is_torn.true) in
-    on_ok_weaker c.replace_from.result (after_lines old _ 0 _ (torn_so old text c.in-Ok.row.len read few torn))
+    on_ok_weaker c.replace_from.result (begun_anew old _ _ (torn_so old text c.in-Ok.row.len read few torn))
     c.replace_from.ensures.replaced
 
 pub returns-clause-kept : goal.returns-clause-kept
-returns-clause-kept g c = untouched (g.F.Disk.written c.args.file.now)
+returns-clause-kept g c = untouched (option_map closed (g.F.Disk.written c.args.file.now))
