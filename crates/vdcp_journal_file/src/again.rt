@@ -82,6 +82,8 @@ fn begin_in<'a, 'r, 's, R: Files + Clock + AllocGlobal, S: Source, F: ReadableDi
     ensures unopened { IfErr result (IsUnopenedAgain (S.items source.now) name.entry wanted.now word) }
 {
     mend_heading(rt, name, wanted, &mut file)?;
+    // (nothing is written to what is refused)
+    replay_file(rt.alloc(), name, wanted, source, &file)?;
     close_row(name, &mut file)?;
     let run = replay_file(rt.alloc(), name, wanted, source, &file)?;
     if is_told_again(word, &run.controller) {

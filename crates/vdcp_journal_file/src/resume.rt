@@ -99,6 +99,8 @@ fn resume_in<'a, 'r, 's, R: Files + Clock + AllocGlobal, S: Source, F: ReadableD
     ensures unresumed { IfErr result (IsUnresumed (S.items source.now) name.entry wanted.now) }
 {
     mend_heading(rt, name, wanted, &mut file)?;
+    // (nothing is written to what is refused)
+    replay_file(rt.alloc(), name, wanted, source, &file)?;
     close_row(name, &mut file)?;
     let run = mend_end(rt, name, wanted, source, &mut file)?;
     cut(rt.alloc(), name, &mut file)?;

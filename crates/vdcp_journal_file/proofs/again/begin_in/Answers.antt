@@ -12,6 +12,11 @@ use Rattle.vdcp_journal_file.specs.Resuming.{JournalShows, begins, is_over, unre
 use Rattle.vdcp_journal_file.specs.Torn.{closed}
 use Rattle.vdcp_journal_file.specs.declared.reading.RunAirings.{RunAirings}
 
+pub returns-in_err-replay_file-clause-unopened : goal.returns-in_err-replay_file-clause-unopened
+returns-in_err-replay_file-clause-unopened g c =
+    let p = err_from_is_err_and c.from_residual-in_err-replay_file.result c.from_residual-in_err-replay_file.ensures.1 in
+    rw (p.1, p.2) (unresumed c.in_err-replay_file.ensures.unresumed)
+
 pub returns-in_err-run-clause-unopened : goal.returns-in_err-run-clause-unopened
 returns-in_err-run-clause-unopened g c =
     let p = err_from_is_err_and c.from_residual-in_err-run.result c.from_residual-in_err-run.ensures.1 in
