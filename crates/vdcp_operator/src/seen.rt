@@ -53,7 +53,7 @@ pub struct EventSeen {
     /// Its number, from 0.
     pub number: u64,
     pub item: Item,
-    /// What the journal says of it, if the run went on behind it.
+    /// What the journal says of this event, if it comes before those that a resumed run still plays.
     pub kept: Option<Record>,
     /// When it was seen to have gone to air, or was played by the journal.
     pub at: Option<u64>,
