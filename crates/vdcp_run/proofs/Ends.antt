@@ -95,11 +95,12 @@ in_list_some : (from : ℕ) (outcome : Option Outcome) → IsSome outcome → Is
 in_list_some from None some = some
 in_list_some from (Some outcome) some = some
 
--- the controller of a run that was over needs no line
-pub over_comes : {S : Type 0} (items : S → List Item) (controller : View (FromEvent S)) (end : RunEnd)
-    → IsEndBy controller end → IsSome (outcome_of controller.state.stage) → end.line ≡ line_end.Unneeded
-    → ComesTo items controller end
-over_comes items controller end by over line = record {
+-- a controller that is as it was comes to this end, if its line and its outcome agree
+still_comes : {S : Type 0} (items : S → List Item) (controller : View (FromEvent S)) (end : RunEnd) → IsEndBy controller end
+    → (end.line ≡ line_end.Unneeded → IsSome end.outcome)
+    → (IsSome end.outcome → (end.line ≡ line_end.Unneeded) ⊎ (end.line ≡ line_end.Failed))
+    → (end.line ≡ line_end.Unkept → IsSome end.unkept) → ComesTo items controller end
+still_comes items controller end by unneeded ended told = record {
   from_is = by.from_is;
   ends = λ log reached. record {
     log = log;
@@ -107,31 +108,28 @@ over_comes items controller end by over line = record {
     reached = reached;
     outcome_is = by.outcome_is;
     reported_is = by.reported_is;
-    unneeded = λ is. subst (λ (o : Option Outcome). IsSome o) (sym by.outcome_is)
-        (in_list_some end.from (outcome_of controller.state.stage) over);
-    ended = λ some. inl line;
-    told = λ is. let other = sym line ∙ is in cc;
+    unneeded = unneeded;
+    ended = ended;
+    told = told;
   };
 }
 
--- the controller of a list that isn't begun is as it was
+-- that of a run that was over needs no line
+pub over_comes : {S : Type 0} (items : S → List Item) (controller : View (FromEvent S)) (end : RunEnd)
+    → IsEndBy controller end → IsSome (outcome_of controller.state.stage) → end.line ≡ line_end.Unneeded
+    → ComesTo items controller end
+over_comes items controller end by over line = still_comes items controller end by
+    (λ is. subst (λ (o : Option Outcome). IsSome o) (sym by.outcome_is)
+    (in_list_some end.from (outcome_of controller.state.stage) over))
+    (λ some. inl line) (λ is. let other = sym line ∙ is in cc)
+
+-- that of a list that isn't begun hasn't ended
 pub unbegun_comes : {S : Type 0} (items : S → List Item) (controller : View (FromEvent S)) (end : RunEnd)
     → IsEndBy controller end → ¬ IsSome (outcome_of controller.state.stage)
     → end.line ≢ line_end.Unneeded → end.line ≢ line_end.Unkept → ComesTo items controller end
-unbegun_comes items controller end by unended needed kept = record {
-  from_is = by.from_is;
-  ends = λ log reached. record {
-    log = log;
-    state = controller.state;
-    reached = reached;
-    outcome_is = by.outcome_is;
-    reported_is = by.reported_is;
-    unneeded = λ is. absurd (needed is);
-    ended = λ some. absurd (unended (some_in_list end.from (outcome_of controller.state.stage)
-        (subst (λ (o : Option Outcome). IsSome o) by.outcome_is some)));
-    told = λ is. absurd (kept is);
-  };
-}
+unbegun_comes items controller end by unended needed kept = still_comes items controller end by (λ is. absurd (needed is))
+    (λ some. absurd (unended (some_in_list end.from (outcome_of controller.state.stage)
+    (subst (λ (o : Option Outcome). IsSome o) by.outcome_is some)))) (λ is. absurd (kept is))
 
 -- the controller of a run was led from one state to the next, with which the driver's answer fits
 is_end_so : {S : Type 0} (items : S → List Item) (controller old new : View S) (answer : Result Ran KeptFault)
