@@ -9,17 +9,18 @@ use Rattle.vdcp_auto.specs.Turn.{awaited, given, ticked}
 use Rattle.vdcp_auto.specs.declared.exchange.Exchange.{Exchange}
 use Rattle.vdcp_wire.specs.Wires.{Arrival, Told, IfTold, has_closed}
 use Rattle.vdcp_wire.specs.Acts.{Act, sends}
-use Rattle.vdcp_drive.specs.Auto.{Auto, after, gives, log_of}
+use Rattle.vdcp_drive.specs.Auto.{Auto, Event, after, arrivals, arrives, gives, log_of}
 use Rattle.vdcp_drive.specs.Ears.{Fold}
 use Rattle.vdcp_drive.specs.Leaves.{Ending, by_itself, in_keep, in_drop, in_send, in_listen, HasRun}
 use Rattle.vdcp_drive.specs.Steps.{Step, Rules, World, command_bytes, dropping, given_notes, steps_of}
 use Rattle.vdcp_wire.specs.Acts.{Tells}
 use Rattle.vdcp_drive.specs.Tells.{BreaksOn, told_after_all}
 use Rattle.vdcp_drive.specs.Traces.{acts_in, kept_in, sent_in, came_in, drops_in, commands_kept, bytes_of, places}
-use Rattle.vdcp_drive.specs.declared.keep.KeptFault.{KeptFault}
-use Rattle.vdcp_drive.specs.declared.keep.KeptFault.TheVariants as fault
+use Rattle.vdcp_drive.specs.declared.hooks.Kept.{Kept}
+use Rattle.vdcp_drive.specs.declared.hooks.KeptFault.{KeptFault}
+use Rattle.vdcp_drive.specs.declared.hooks.KeptFault.TheVariants as fault
 use Rattle.vdcp_drive.proofs.Keeping.{send_came, send_sent}
-use Rattle.vdcp_drive.proofs.Telling.{came_told, commands_awaited, drops_told, run_carries, sent_told, steps_commands}
+use Rattle.vdcp_drive.proofs.Telling.{came_told, commands_awaited, drops_told, no_calls, run_carries, sent_told, steps_commands}
 use Rattle.vdcp_drive.proofs.Tracing.{acts_both, acts_of_acts, commands_both, drops_both, gives_notes, places_both, sending_bytes, sending_came, sending_drops, steps_bytes, steps_came, steps_drops, traces}
 
 -- the last steps: what went out of which commands, and what of these didn't
@@ -51,7 +52,7 @@ last_of : {E : Type 0} (fold : Fold E) (plan : Plan) (unit count : ℕ) (came : 
     (more : List Step) (a' : Auto E) → Ending fold plan unit count came b (Err fault.Device) more a'
     → Last fold plan unit b a' (acts_in more)
 last_of fold plan unit count came b more a' (by_itself r is to none left) = cc
-last_of fold plan unit count came b more a' (in_keep c is gives_it are left) = cc
+last_of fold plan unit count came b more a' (in_keep r is going are left) = cc
 last_of fold plan unit count came b more a' (in_drop c is first gives_it are left) = rw (are, left) (record {
   commands = [];
   unsent = [];
@@ -80,47 +81,53 @@ last_of fold plan unit count came b more a' (in_listen is are left) = rw (are, l
   auto_is = inr refl;
 })
 
-pub run_breaks : {E W K V : Type 0} (rules : Rules W K V) (told : W → Option Told)
-    (fold : Fold E) (plan : Plan) (unit count : ℕ) (a a' : Auto E) (world world' : World W K V) (t : Told)
-    (f : KeptFault) → HasRun rules fold plan unit count a a' world world' (Err f) → f ≡ fault.Device
-    → ((act : Act) (old new : W) → rules.does act old new → Tells act (told old) (told new))
+-- of a run without calls
+pub run_breaks : {E W J : Type 0} (does : Act → W → W → Type 0) (adds loses : Kept → J → J → Type 0) (told : W → Option Told)
+    (fold : Fold E) (plan : Plan) (unit count : ℕ) (a a' : Auto E) (world world' : World W J) (t : Told)
+    (f : KeptFault) → HasRun (record { does = does; adds = adds; loses = loses; can_call = false }) fold plan unit count a a' world world' (Err f)
+    → f ≡ fault.Device
+    → ((act : Act) (old new : W) → does act old new → Tells act (told old) (told new))
     → told world.wire ≡ Some t → has_closed t.came ≡ false
     → IfTold (told world'.wire) (λ u. BreaksOn fold plan unit a a' t u)
-run_breaks {E} rules told fold plan unit count a a' world world' t f h broke law is still =
-    let b : Auto E = after fold plan unit a h.came in
-    let steps : List Step = steps_of fold plan unit a h.came in
+run_breaks {E} {W} {J} does adds loses told fold plan unit count a a' world world' t f h broke law is still =
+    let rules : Rules W J = record { does = does; adds = adds; loses = loses; can_call = false } in
+    let plain : h.run.events ≡ map arrives (arrivals h.run.events) = no_calls fold plan unit a h.run.events h.run.made in
+    let b : Auto E = after fold plan unit a h.run.events in
+    let steps : List Step = steps_of fold plan unit a h.run.events in
     let xs : List Act = acts_in steps in
-    let ys : List Act = acts_in h.more in
+    let ys : List Act = acts_in h.run.more in
     let cs : List Command = commands_kept (kept_in steps) in
-    let all : acts_in (steps ++ h.more) ≡ xs ++ ys = acts_both steps h.more in
-    let l : Last fold plan unit b a' ys = last_of fold plan unit count h.came b h.more a'
-    (subst (λ (x : KeptFault). Ending fold plan unit count h.came b (Err x) h.more a') broke h.ending) in
-    let log : List Command = map (λ (e : Exchange). e.command) (log_of fold plan unit a h.came) in
+    let all : acts_in (steps ++ h.run.more) ≡ xs ++ ys = acts_both steps h.run.more in
+    let l : Last fold plan unit b a' ys = last_of fold plan unit count (arrivals h.run.events) b h.run.more a'
+    (subst (λ (x : KeptFault). Ending fold plan unit count (arrivals h.run.events) b (Err x) h.run.more a') broke h.run.ending) in
+    let log : List Command = map (λ (e : Exchange). e.command) (log_of fold plan unit a h.run.events) in
     let n : ℕ = length t.sent in (
-      told_after_all (acts_in (steps ++ h.more)) t,
-      run_carries rules told law (steps ++ h.more) world world' t h.happened is,
+      told_after_all (acts_in (steps ++ h.run.more)) t,
+      run_carries rules told law (steps ++ h.run.more) world world' t h.happened is,
       record {
-        since = h.came;
-        octets = h.octets;
-        closes_last = h.closes_last;
-        auto_is = l.auto_is;
-        came_is = came_told (acts_in (steps ++ h.more)) t still ∙ ap (λ (x : List Arrival). t.came ++ x)
-            (simp (traces, steps_came fold plan unit a h.came, l.nothing_came, h.closes_last));
+        since = arrivals h.run.events;
+        octets = h.run.octets;
+        closes_last = h.run.closes_last;
+        auto_is = subst (λ (e : List Event). (a' ≡ after fold plan unit a e) ⊎ (a' ≡ gives (after fold plan unit a e))) plain
+            l.auto_is;
+        came_is = came_told (acts_in (steps ++ h.run.more)) t still ∙ ap (λ (x : List Arrival). t.came ++ x)
+            (simp (traces, steps_came fold plan unit a h.run.events, l.nothing_came, h.run.closes_last));
         commands = cs ++ l.commands;
-        commands_are = cc (
-          steps_commands fold plan unit a h.came,
-          l.awaits,
-          append_assoc (option_to_list (awaited plan a.state)) cs l.commands,
-          append_assoc log (option_to_list (awaited plan b.state)) l.commands,
-        );
+        commands_are = subst (λ (e : List Event). option_to_list (awaited plan a.state) ++ (cs ++ l.commands)
+            ≡ map (λ e. e.command) (log_of fold plan unit a e) ++ option_to_list (awaited plan a'.state)) plain (cc (
+              steps_commands fold plan unit a h.run.events,
+              l.awaits,
+              append_assoc (option_to_list (awaited plan a.state)) cs l.commands,
+              append_assoc log (option_to_list (awaited plan b.state)) l.commands,
+            ));
         unsent = l.unsent;
-        sent_is = simp (sent_told, traces, steps_bytes fold plan unit a h.came, l.sent);
-        drops_are = drops_told (acts_in (steps ++ h.more)) t
+        sent_is = simp (sent_told, traces, steps_bytes fold plan unit a h.run.events, l.sent);
+        drops_are = drops_told (acts_in (steps ++ h.run.more)) t
             ∙ ap (λ (x : List ℕ). t.drops ++ x) (simp (
               acts_both,
               drops_both,
-              steps_drops fold plan unit n a h.came,
-              steps_bytes fold plan unit a h.came,
+              steps_drops fold plan unit n a h.run.events,
+              steps_bytes fold plan unit a h.run.events,
               l.dropped,
               places_both,
             ));

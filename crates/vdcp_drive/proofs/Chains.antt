@@ -13,7 +13,7 @@ use Rattle.vdcp_drive.specs.Auto.{ended, receives}
 use Rattle.vdcp_drive.specs.Ears.{Fold, IsPiecewise}
 use Rattle.vdcp_drive.specs.Leaves.{HearsPiece}
 use Rattle.vdcp_drive.specs.Steps.{acts, keeps, Rules, World, Happens}
-use Rattle.vdcp_drive.specs.declared.keep.Kept.{Kept}
+use Rattle.vdcp_drive.specs.declared.hooks.Kept.{Kept}
 
 pub chain_both : {A W : Type 0} (does : A → W → W → Type 0) (xs ys : List A) (u v w : W) → Chain does xs u v
     → Chain does ys v w → Chain does (xs ++ ys) u w
@@ -27,18 +27,18 @@ chain_split does [] ys u w h = (u, refl, h)
 chain_split does (x ∷ xs) ys u w h =
     let r = chain_split does xs ys h.0 w h.2 in (r.0, (h.0, h.1, r.1), r.2)
 
-abbrev pub at : {W K V : Type 0} → W → K → V → World W K V
-at w k v = record { wire = w; keep = k; watch = v }
+abbrev pub at : {W J : Type 0} → W → J → World W J
+at w k = record { wire = w; keep = k }
 
-pub on_line : {W K V : Type 0} (rules : Rules W K V) (xs : List Act) (w w' : W) (k : K) (v : V) → Chain rules.does xs w w'
-    → Happens rules (map acts xs) (at w k v) (at w' k v)
-on_line {W} {K} {V} rules [] w w' k v h = ap (λ (x : W). at x k v) h
-on_line {W} {K} {V} rules (x ∷ xs) w w' k v h = (at h.0 k v, (h.1, refl), on_line rules xs h.0 w' k v h.2)
+pub on_line : {W J : Type 0} (rules : Rules W J) (xs : List Act) (w w' : W) (k : J) → Chain rules.does xs w w'
+    → Happens rules (map acts xs) (at w k) (at w' k)
+on_line {W} {J} rules [] w w' k h = ap (λ (x : W). at x k) h
+on_line {W} {J} rules (x ∷ xs) w w' k h = (at h.0 k, (h.1, refl), on_line rules xs h.0 w' k h.2)
 
-pub on_journal : {W K V : Type 0} (rules : Rules W K V) (xs : List Kept) (w : W) (k k' : K) (v : V)
-    → Chain rules.adds xs k k' → Happens rules (map keeps xs) (at w k v) (at w k' v)
-on_journal {W} {K} {V} rules [] w k k' v h = ap (λ (x : K). at w x v) h
-on_journal {W} {K} {V} rules (x ∷ xs) w k k' v h = (at w h.0 v, (h.1, refl), on_journal rules xs w h.0 k' v h.2)
+pub on_journal : {W J : Type 0} (rules : Rules W J) (xs : List Kept) (w : W) (k k' : J)
+    → Chain rules.adds xs k k' → Happens rules (map keeps xs) (at w k) (at w k')
+on_journal {W} {J} rules [] w k k' h = ap (λ (x : J). at w x) h
+on_journal {W} {J} rules (x ∷ xs) w k k' h = (at w h.0, (h.1, refl), on_journal rules xs w h.0 k' h.2)
 
 -- What the controller hears.
 

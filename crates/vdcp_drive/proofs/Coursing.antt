@@ -14,7 +14,7 @@ use Rattle.vdcp_auto.specs.declared.exchange.Exchange.{Exchange}
 use Rattle.vdcp_auto.specs.declared.exchange.Heard.{Heard}
 use Rattle.vdcp_auto.specs.declared.exchange.Input.{Input}
 use Rattle.vdcp_wire.specs.Wires.{Arrival, bytes, silence, close, IfTold, Told, has_closed, nothing_told}
-use Rattle.vdcp_drive.specs.Auto.{Auto, after, ended, gives, log_of}
+use Rattle.vdcp_drive.specs.Auto.{Auto, after, arrives, ended, gives, log_of}
 use Rattle.vdcp_drive.specs.Bursts.{finished_behind, is_within_burst}
 use Rattle.vdcp_drive.specs.Courses.{HasCourse, HasCourseBroken, input_of, inputs_behind, left_behind, new_auto}
 use Rattle.vdcp_drive.specs.Hearing.{Burst, begun, at_silences, burst_after, burst_says}
@@ -67,15 +67,15 @@ idle_end plan e s rest none more =
     ap₂ (λ (o : Option Exchange) (t : State). (option_to_list o ++ []) ++ rest t) i.ends i.stays ∙ more
 
 idle_log : (plan : Plan) (unit : ℕ) (e : Burst) (s : State) (came : List Arrival) → awaited plan (ticked s) ≡ None
-    → log_of at_silences plan unit (record { ear = e; state = s }) came ≡ []
+    → log_of at_silences plan unit (record { ear = e; state = s }) (map arrives came) ≡ []
 idle_log plan unit e s [] none = refl
 idle_log plan unit e s (bytes piece ∷ later) none =
     idle_log plan unit (burst_after unit piece e) (ticked s) later (ap (awaited plan) (ticked_twice s) ∙ none)
 idle_log plan unit e s (silence ∷ later) none =
-    idle_end plan e s (λ t. log_of at_silences plan unit (record { ear = begun (holds []); state = t }) later) none
+    idle_end plan e s (λ t. log_of at_silences plan unit (record { ear = begun (holds []); state = t }) (map arrives later)) none
     (idle_log plan unit (begun (holds [])) (ticked s) later (ap (awaited plan) (ticked_twice s) ∙ none))
 idle_log plan unit e s (close ∷ later) none =
-    idle_end plan e s (λ t. log_of at_silences plan unit (record { ear = begun (holds []); state = t }) later) none
+    idle_end plan e s (λ t. log_of at_silences plan unit (record { ear = begun (holds []); state = t }) (map arrives later)) none
     (idle_log plan unit (begun (holds [])) (ticked s) later (ap (awaited plan) (ticked_twice s) ∙ none))
 
 -- Bursts.
@@ -124,7 +124,7 @@ bursts_on unit e burst piece is =
 log_course : (law : Below) (plan : Plan) (unit : ℕ) (e : Burst) (s : State) (burst : List ℕ)
     (came : List Arrival) → AreOctets burst → All AreOctetsIn came → until_close came ≡ came
     → e ≡ burst_after unit burst fresh
-    → log_of at_silences plan unit (record { ear = e; state = s }) came
+    → log_of at_silences plan unit (record { ear = e; state = s }) (map arrives came)
     ≡ course_from plan s (inputs_behind unit burst came)
 log_course law plan unit e s burst [] fits all last is = refl
 log_course law plan unit e s burst (bytes piece ∷ later) fits all last is =
@@ -137,7 +137,7 @@ log_course law plan unit e s burst (silence ∷ later) fits all last is =
     let says : burst_says e ≡ heard_in unit burst = ap burst_says is ∙ says_burst law unit burst fits in
     let t : State = came_to plan (burst_says e) (ticked s) in
     one_burst plan s (burst_says e) (heard_in unit burst) (inputs_behind unit [] later)
-    (log_of at_silences plan unit (record { ear = fresh; state = t }) later) says
+    (log_of at_silences plan unit (record { ear = fresh; state = t }) (map arrives later)) says
     (log_course law plan unit fresh t [] later (All-nil (λ b. b < 256)) (All-tail AreOctetsIn silence later all)
     (tail_so silence (until_close later) later last) refl)
     (λ none. let i = idle plan (burst_says e) (ticked s) none in idle_log plan unit fresh t later
@@ -145,10 +145,10 @@ log_course law plan unit e s burst (silence ∷ later) fits all last is =
 log_course law plan unit e s burst (close ∷ later) fits all last is =
     let says : burst_says e ≡ heard_in unit burst = ap burst_says is ∙ says_burst law unit burst fits in
     let t : State = came_to plan (burst_says e) (ticked s) in
-    let none : log_of at_silences plan unit (record { ear = fresh; state = t }) later ≡ [] =
-    ap (log_of at_silences plan unit (record { ear = fresh; state = t })) (sym (tail_so close [] later last)) in
+    let none : log_of at_silences plan unit (record { ear = fresh; state = t }) (map arrives later) ≡ [] =
+    ap (λ (l : List Arrival). log_of at_silences plan unit (record { ear = fresh; state = t }) (map arrives l)) (sym (tail_so close [] later last)) in
     one_burst plan s (burst_says e) (heard_in unit burst) []
-    (log_of at_silences plan unit (record { ear = fresh; state = t }) later) says none (λ x. none)
+    (log_of at_silences plan unit (record { ear = fresh; state = t }) (map arrives later)) says none (λ x. none)
 
 -- The controller.
 
@@ -173,7 +173,7 @@ left_ticked plan unit s (b ∷ bursts) came within =
 state_left : (law : Below) (plan : Plan) (unit : ℕ) (e : Burst) (s : State) (burst : List ℕ)
     (came : List Arrival) → AreOctets burst → All AreOctetsIn came → until_close came ≡ came
     → e ≡ burst_after unit burst fresh
-    → (after at_silences plan unit (record { ear = e; state = s }) came).state
+    → (after at_silences plan unit (record { ear = e; state = s }) (map arrives came)).state
     ≡ left_behind plan s (inputs_behind unit burst came) came
 state_left law plan unit e s burst [] fits all last is = refl
 state_left law plan unit e s burst (bytes piece ∷ []) fits all last is = refl
@@ -238,7 +238,7 @@ course_if law plan unit count a a' told told' (Err f) h = tt
 
 left_so : (law : Below) (plan : Plan) (unit : ℕ) (a' : Auto Burst) (came since : List Arrival)
     → came ≡ since → All AreOctetsIn since → until_close since ≡ since
-    → (a' ≡ after at_silences plan unit new_auto since) ⊎ (a' ≡ gives (after at_silences plan unit new_auto since))
+    → (a' ≡ after at_silences plan unit new_auto (map arrives since)) ⊎ (a' ≡ gives (after at_silences plan unit new_auto (map arrives since)))
     → (a'.state ≡ left_behind plan start (inputs_behind unit [] came) came)
     ⊎ (a'.state ≡ ticked (left_behind plan start (inputs_behind unit [] came) came))
 left_so law plan unit a' came since same fits last (inl is) = inl (rw same (ap (λ (x : Auto Burst). x.state) is

@@ -1,18 +1,19 @@
 -- What the definitions say of the worked rows: of the port's answers and of the automation's commands.
-use Rattle.std.proofs.Common.{◌≡◌, ℕ, List, [], ◌∷◌, ◌++◌, refl}
+use Rattle.std.proofs.Common.{◌≡◌, ℕ, List, [], ◌∷◌, ◌++◌, map, refl}
 use Rattle.vdcp_auto.specs.Plan.{Plan}
-use Rattle.vdcp_auto.specs.Turn.{start, stopped}
+use Rattle.vdcp_auto.specs.Turn.{start}
 use Rattle.vdcp_auto.specs.declared.phase.Mode.{Mode}
 use Rattle.vdcp_auto.specs.declared.phase.Mode.TheVariants.{Plain, Confirming}
-use Rattle.vdcp_port.specs.Clock.{ClockedPort, new_port}
 use Rattle.vdcp_drive.specs.Bursts.{ended_bursts, open_burst, finished_bursts}
-use Rattle.vdcp_drive.specs.Auto.{Auto, after}
+use Rattle.vdcp_drive.specs.Auto.{Auto, Event, after, arrives, calls}
+use Rattle.vdcp_drive.specs.Served.{served, after_bursts}
+use Rattle.vdcp_port.specs.Clock.{ClockedPort, new_port}
 use Rattle.vdcp_drive.specs.Courses.{new_auto}
+use Rattle.vdcp_drive.specs.declared.hooks.Call.TheVariants as call
 use Rattle.vdcp_drive.specs.Hearing.{Burst, at_once, at_silences}
 use Rattle.vdcp_drive.specs.Reading.{Held, holds, skips, completed, held_after}
 use Rattle.vdcp_drive.specs.Steps.{opening, steps_of}
 use Rattle.vdcp_drive.specs.Traces.{acts_in, drops_in, sent_in}
-use Rattle.vdcp_drive.specs.Served.{served, after_bursts}
 use Rattle.vdcp_wire.specs.Wires.{Arrival, bytes, silence, close}
 
 -- commands to port 1 of unit 0, and replies from it
@@ -82,10 +83,10 @@ abbrev new_at_once : Auto Held
 new_at_once = record { ear = holds []; state = start }
 
 abbrev sent : Mode → List Arrival → List ℕ
-sent mode came = sent_in (acts_in (steps_of at_silences (plan mode) 0 new_auto came))
+sent mode came = sent_in (acts_in (steps_of at_silences (plan mode) 0 new_auto (map arrives came)))
 
 abbrev dropped : Mode → List Arrival → List ℕ
-dropped mode came = drops_in 0 (acts_in (steps_of at_silences (plan mode) 0 new_auto came))
+dropped mode came = drops_in 0 (acts_in (steps_of at_silences (plan mode) 0 new_auto (map arrives came)))
 
 empty_playlist_is_played : sent Plain answers ≡ open_bytes ++ select_bytes ++ status_bytes ++ close_bytes
 empty_playlist_is_played = refl
@@ -113,21 +114,21 @@ close_is_a_time_out = refl
 -- the operator stops after a run that ended inside the answer to OPEN: the next one hears the rest of it, and then
 -- sends STOP and CLOSE
 abbrev begun : Auto Burst
-begun = after at_silences (plan Plain) 0 new_auto (bytes (0x02 ∷ 0x03 ∷ 0x30 ∷ []) ∷ [])
+begun = after at_silences (plan Plain) 0 new_auto (arrives (bytes (0x02 ∷ 0x03 ∷ 0x30 ∷ [])) ∷ [])
 
-abbrev since : List Arrival
-since = bytes (0x81 ∷ 0x01 ∷ 0x4E ∷ []) ∷ silence ∷ bytes (0x04 ∷ []) ∷ silence ∷ bytes (0x04 ∷ []) ∷ silence ∷ []
+abbrev since : List Event
+since = calls call.Stop ∷ arrives (bytes (0x81 ∷ 0x01 ∷ 0x4E ∷ [])) ∷ arrives silence ∷ arrives (bytes (0x04 ∷ []))
+    ∷ arrives silence ∷ arrives (bytes (0x04 ∷ [])) ∷ arrives silence ∷ []
 
-stop_goes_out_after_a_torn_answer : sent_in (acts_in (steps_of at_silences (plan Plain) 0
-    (record begun { state = stopped begun.state }) since))
+stop_goes_out_after_a_torn_answer : sent_in (acts_in (steps_of at_silences (plan Plain) 0 begun since))
     ≡ (0x02 ∷ 0x02 ∷ 0x10 ∷ 0x00 ∷ 0xF0 ∷ []) ++ close_bytes
 stop_goes_out_after_a_torn_answer = refl
 
 -- An automation that hears at once: what it has sent when it goes on after all that came.
 
 abbrev sent_after : Mode → List Arrival → List ℕ
-sent_after mode came = sent_in (acts_in (steps_of at_once (plan mode) 0 new_at_once came
-    ++ opening at_once (plan mode) 0 (after at_once (plan mode) 0 new_at_once came)))
+sent_after mode came = sent_in (acts_in (steps_of at_once (plan mode) 0 new_at_once (map arrives came)
+    ++ opening at_once (plan mode) 0 (after at_once (plan mode) 0 new_at_once (map arrives came))))
 
 -- no silence is needed
 answers_are_heard_at_once : sent_after Plain

@@ -1,27 +1,26 @@
 -- What is kept in a run.
 use Rattle.std.proofs.Common.{ℕ, ◌≡◌, Bool, true, false, List, [], ◌∷◌, ◌++◌, map, refl, sym, ap, subst, ◌∙◌, append_assoc, append-nil}
 use Rattle.std.specs.Prelude.{Option, Some, Result, Err}
-use Rattle.vdcp_words.specs.declared.command.Command.{Command}
 use Rattle.vdcp_auto.specs.Plan.{Plan}
 use Rattle.vdcp_auto.specs.Turn.{given, ticked}
 use Rattle.vdcp_auto.specs.declared.exchange.Exchange.{Exchange}
 use Rattle.vdcp_wire.specs.Acts.{Act, sends, brings, fails, Tells}
 use Rattle.vdcp_wire.specs.Wires.{Arrival, Told}
-use Rattle.vdcp_drive.specs.Auto.{Auto, after, ended, gives, listens, log_of}
+use Rattle.vdcp_drive.specs.Auto.{Auto, Event, after, arrivals, arrives, calls, ended, gives, heeds, listens, log_of}
 use Rattle.vdcp_drive.specs.Ears.{Fold, inputs}
 use Rattle.vdcp_drive.specs.Keeping.{HasKept, KeepsRun, notes_of}
-use Rattle.vdcp_drive.specs.Leaves.{Ending, by_itself, in_keep, in_drop, in_send, in_listen, HasRun}
-use Rattle.vdcp_drive.specs.Steps.{Chain, Step, acts, keeps, misses, looks, Rules, World, Does, Happens, command_bytes, dropping, sending, given_notes, ended_notes, opening, round, steps_of}
+use Rattle.vdcp_drive.specs.Leaves.{Ending, by_itself, in_keep, in_drop, in_send, in_listen, HasRun, steps_in}
+use Rattle.vdcp_drive.specs.Steps.{Chain, Step, acts, keeps, misses, Rules, World, Does, Happens, command_bytes, dropping, sending, given_notes, ended_notes, opening, round, steps_of}
 use Rattle.vdcp_drive.specs.Tells.{told_after_all}
-use Rattle.vdcp_drive.specs.Traces.{acts_in, kept_in, sent_in, came_in, commands_kept, bytes_of, kept_of, awaited_notes}
-use Rattle.vdcp_drive.specs.declared.keep.Kept.{Kept}
-use Rattle.vdcp_drive.specs.declared.keep.KeptFault.{KeptFault}
-use Rattle.vdcp_drive.specs.declared.keep.KeptFault.TheVariants as fault
+use Rattle.vdcp_drive.specs.Traces.{acts_in, kept_in, sent_in, came_in, commands_kept, bytes_of, exchanged, kept_of, awaited_notes}
+use Rattle.vdcp_drive.specs.declared.hooks.Kept.{Kept}
+use Rattle.vdcp_drive.specs.declared.hooks.KeptFault.{KeptFault}
+use Rattle.vdcp_drive.specs.declared.hooks.KeptFault.TheVariants as fault
 use Rattle.vdcp_drive.specs.declared.line.Ran.{Ran}
 use Rattle.vdcp_drive.proofs.Chains.{chain_split}
 use Rattle.vdcp_drive.proofs.Coursing.{ticked_twice}
 use Rattle.vdcp_drive.proofs.Telling.{came_told, run_carries, sent_told}
-use Rattle.vdcp_drive.proofs.Tracing.{acts_of_acts, gives_notes, rows_both, rows_of_acts, sending_bytes, sending_came, steps_bytes, steps_came, steps_kept, traces}
+use Rattle.vdcp_drive.proofs.Tracing.{acts_of_acts, exchanged_both, given_exchanged, gives_notes, rows_both, rows_of_acts, sending_bytes, sending_came, steps_bytes, steps_came, steps_kept, traces}
 
 -- all commands of these steps are kept
 abbrev MissesNone : List Step → Type 0
@@ -47,28 +46,29 @@ none_opening fold plan unit a =
     none_both (map keeps (given_notes (given plan a.state))) (map acts (sending fold.drops unit (given plan a.state)))
     (none_keeps (given_notes (given plan a.state))) (none_acts (sending fold.drops unit (given plan a.state)))
 
-none_steps : {E : Type 0} (fold : Fold E) (plan : Plan) (unit : ℕ) (a : Auto E) (came : List Arrival)
-    → MissesNone (steps_of fold plan unit a came)
+none_steps : {E : Type 0} (fold : Fold E) (plan : Plan) (unit : ℕ) (a : Auto E) (events : List Event)
+    → MissesNone (steps_of fold plan unit a events)
 none_steps fold plan unit a [] = tt
-none_steps {E} fold plan unit a (what ∷ later) =
+none_steps fold plan unit a (calls c ∷ later) = none_steps fold plan unit (heeds c a) later
+none_steps {E} fold plan unit a (arrives what ∷ later) =
     let b : Auto E = listens fold plan unit what (gives a) in
     let es : List Exchange = ended plan (inputs fold unit what a.ear) (ticked a.state) in
     let ends : List Step = map keeps (ended_notes es) in
     none_both (round fold plan unit what a) (steps_of fold plan unit b later)
-    (none_both (opening fold plan unit a) (looks (ticked a.state) ∷ acts (brings what) ∷ ends)
+    (none_both (opening fold plan unit a) (acts (brings what) ∷ ends)
     (none_opening fold plan unit a) (none_keeps (ended_notes es)))
     (none_steps fold plan unit b later)
 
 -- what happens to what keeps them
-on_keep : {W K V : Type 0} (rules : Rules W K V) (xs : List Step) (old new : World W K V) → MissesNone xs
+on_keep : {W J : Type 0} (rules : Rules W J) (xs : List Step) (old new : World W J) → MissesNone xs
     → Happens rules xs old new → Chain rules.adds (kept_in xs) old.keep new.keep
-on_keep {W} {K} {V} rules [] old new none h = ap (λ (w : World W K V). w.keep) h
+on_keep {W} {J} rules [] old new none h = ap (λ (w : World W J). w.keep) h
 on_keep rules (keeps r ∷ xs) old new none h = (h.0.keep, h.1.0, on_keep rules xs h.0 new none h.2)
 on_keep rules (misses c ∷ xs) old new none h = absurd none
 on_keep rules (x ∷ xs) old new none h = rw h.1.1 at (on_keep rules xs h.0 new none h.2)
 
 -- if the wire failed after these were kept
-device_keeps : {W K V : Type 0} (rules : Rules W K V) (steps more : List Step) (old new : World W K V)
+device_keeps : {W J : Type 0} (rules : Rules W J) (steps more : List Step) (old new : World W J)
     (answer : Result Ran KeptFault) → answer ≡ Err fault.Device → MissesNone steps → MissesNone more
     → Happens rules (steps ++ more) old new
     → HasKept rules.adds rules.loses answer (kept_in (steps ++ more)) old.keep new.keep
@@ -76,27 +76,27 @@ device_keeps rules steps more old new answer is none last h =
     rw is (on_keep rules (steps ++ more) old new (none_both steps more none last) h)
 
 -- if the next one couldn't be kept
-unkept_keeps : {W K V : Type 0} (rules : Rules W K V) (steps more : List Step) (c : Command) (old new : World W K V)
+unkept_keeps : {W J : Type 0} (rules : Rules W J) (steps more : List Step) (c : Kept) (old new : World W J)
     (answer : Result Ran KeptFault) → answer ≡ Err fault.Unkept → more ≡ misses c ∷ [] → MissesNone steps
     → Happens rules (steps ++ more) old new
     → HasKept rules.adds rules.loses answer (kept_in (steps ++ more)) old.keep new.keep
-unkept_keeps {W} {K} {V} rules steps more c old new answer is are none h =
+unkept_keeps {W} {J} rules steps more c old new answer is are none h =
     let s = chain_split (Does rules) steps (misses c ∷ []) old new (rw are at h) in
     rw (is, are) (
       s.0.keep,
       c,
       simp (rows_both, append-nil) (on_keep rules steps old s.0 none s.1),
-      subst (λ (w : World W K V). rules.loses c s.0.keep w.keep) (sym s.2.2) s.2.1.0,
+      subst (λ (w : World W J). rules.loses c s.0.keep w.keep) (sym s.2.2) s.2.1.0,
     )
 
-keeps_so : {E W K V : Type 0} (rules : Rules W K V) (steps : List Step) (old new : World W K V) (fold : Fold E)
+keeps_so : {E W J : Type 0} (rules : Rules W J) (steps : List Step) (old new : World W J) (fold : Fold E)
     (plan : Plan) (unit count : ℕ) (came : List Arrival) (b : Auto E) (answer : Result Ran KeptFault) (more : List Step)
     (a' : Auto E) → MissesNone steps → Happens rules (steps ++ more) old new
     → Ending fold plan unit count came b answer more a'
     → HasKept rules.adds rules.loses answer (kept_in (steps ++ more)) old.keep new.keep
 keeps_so rules steps old new fold plan unit count came b answer more a' safe h (by_itself r is to none left) =
     rw is (on_keep rules (steps ++ more) old new (none_both steps more safe (rw none tt)) h)
-keeps_so rules steps old new fold plan unit count came b answer more a' safe h (in_keep c is gives_it are left) =
+keeps_so rules steps old new fold plan unit count came b answer more a' safe h (in_keep c is going are left) =
     unkept_keeps rules steps more c old new answer is are safe h
 keeps_so rules steps old new fold plan unit count came b answer more a' safe h (in_drop c is first gives_it are left) =
     device_keeps rules steps more old new answer is safe (rw are tt) h
@@ -106,12 +106,12 @@ keeps_so rules steps old new fold plan unit count came b answer more a' safe h
     (rw are (none_acts (dropping fold.drops ++ sends front ∷ []))) h
 keeps_so rules steps old new fold plan unit count came b answer more a' safe h (in_listen is are left) =
     device_keeps rules steps more old new answer is safe (rw are (none_both (opening fold plan unit b)
-    (looks (ticked b.state) ∷ acts fails ∷ []) (none_opening fold plan unit b) tt)) h
+    (acts fails ∷ []) (none_opening fold plan unit b) tt)) h
 
 -- The last steps: what is kept in them, and what went out of that.
 record Last {E : Type 0} (fold : Fold E) (plan : Plan) (unit : ℕ) (b a' : Auto E) (answer : Result Ran KeptFault)
     (more : List Step) : Type 0 where
-  shows : (log : List Exchange) → kept_of log ++ (awaited_notes plan b.state ++ kept_in more)
+  shows : (log : List Exchange) → kept_of log ++ (awaited_notes plan b.state ++ exchanged (kept_in more))
       ≡ notes_of plan log a'.state answer
   unsent : List ℕ
   sent : sent_in (acts_in more) ++ unsent ≡ bytes_of unit (commands_kept (kept_in more))
@@ -134,7 +134,7 @@ last_of fold plan unit count came b answer more a' (by_itself r is to none left)
   sent = refl;
   nothing_came = refl;
 })
-last_of fold plan unit count came b answer more a' (in_keep c is gives_it are left) = rw (is, are, left) (record {
+last_of fold plan unit count came b answer more a' (in_keep c is going are left) = rw (is, are, left) (record {
   shows = λ log. simp append-nil;
   unsent = [];
   sent = refl;
@@ -148,51 +148,50 @@ last_of fold plan unit count came b answer more a' (in_drop c is first gives_it 
 })
 last_of fold plan unit count came b answer more a' (in_send c front rest is gives_it parts are left) =
     rw (is, are, left) (record {
-      shows = λ log. simp (traces, ticked_twice)
+      shows = λ log. simp (traces, given_exchanged, ticked_twice)
           (ap (λ (l : List Kept). kept_of log ++ l) (gives_notes plan b.state (Some c) gives_it));
       unsent = rest;
       sent = simp (acts_of_acts, rows_of_acts, send_sent) (sym parts ∙ sym (append-nil (command_bytes unit c)));
       nothing_came = simp (acts_of_acts, send_came);
     })
 last_of fold plan unit count came b answer more a' (in_listen is are left) = rw (is, are, left) (record {
-  shows = λ log. simp (traces, ticked_twice)
+  shows = λ log. simp (traces, given_exchanged, ticked_twice)
       (ap (λ (l : List Kept). kept_of log ++ l) (gives_notes plan b.state (given plan b.state) refl));
   unsent = [];
   sent = simp (traces, sending_bytes);
   nothing_came = simp (traces, sending_came);
 })
 
-pub run_keeps : {E W K V : Type 0} (rules : Rules W K V) (told : W → Option Told)
+pub run_keeps : {E W J : Type 0} (rules : Rules W J) (told : W → Option Told)
     → ((act : Act) (old new : W) → rules.does act old new → Tells act (told old) (told new))
-    → (fold : Fold E) (plan : Plan) (unit count : ℕ) (a a' : Auto E) (world world' : World W K V)
-    (answer : Result Ran KeptFault) → HasRun rules fold plan unit count a a' world world' answer
+    → (fold : Fold E) (plan : Plan) (unit count : ℕ) (a a' : Auto E) (world world' : World W J)
+    (answer : Result Ran KeptFault) → (h : HasRun rules fold plan unit count a a' world world' answer)
     → KeepsRun rules.adds rules.loses told fold plan unit a a' world.wire world'.wire answer world.keep world'.keep
+    h.run.events (kept_in (steps_in h.run))
 run_keeps {E} rules told law fold plan unit count a a' world world' answer h =
-    let b : Auto E = after fold plan unit a h.came in
-    let steps : List Step = steps_of fold plan unit a h.came in
-    let all : List Step = steps ++ h.more in
-    let log : List Exchange = log_of fold plan unit a h.came in
-    let l : Last fold plan unit b a' answer h.more = last_of fold plan unit count h.came b answer h.more a' h.ending in
+    let b : Auto E = after fold plan unit a h.run.events in
+    let steps : List Step = steps_of fold plan unit a h.run.events in
+    let all : List Step = steps ++ h.run.more in
+    let log : List Exchange = log_of fold plan unit a h.run.events in
+    let l : Last fold plan unit b a' answer h.run.more = last_of fold plan unit count (arrivals h.run.events) b answer h.run.more a' h.run.ending in
     record {
-      came = h.came;
-      notes = kept_in all;
-      noted = keeps_so rules steps world world' fold plan unit count h.came b answer h.more a'
-          (none_steps fold plan unit a h.came) h.happened h.ending;
-      shows = rw (rows_both steps h.more) (cc (
-        steps_kept fold plan unit a h.came,
+      noted = keeps_so rules steps world world' fold plan unit count (arrivals h.run.events) b answer h.run.more a'
+          (none_steps fold plan unit a h.run.events) h.happened h.run.ending;
+      shows = rw (rows_both steps h.run.more, exchanged_both (kept_in steps) (kept_in h.run.more)) (cc (
+        steps_kept fold plan unit a h.run.events,
         l.shows log,
-        append_assoc (awaited_notes plan a.state) (kept_in steps) (kept_in h.more),
-        append_assoc (kept_of log) (awaited_notes plan b.state) (kept_in h.more),
+        append_assoc (awaited_notes plan a.state) (exchanged (kept_in steps)) (exchanged (kept_in h.run.more)),
+        append_assoc (kept_of log) (awaited_notes plan b.state) (exchanged (kept_in h.run.more)),
       ));
       sends = λ t is. (
         told_after_all (acts_in all) t,
         run_carries rules told law all world world' t h.happened is,
-        (l.unsent, simp (sent_told, traces, steps_bytes fold plan unit a h.came, l.sent)),
+        (l.unsent, simp (sent_told, traces, steps_bytes fold plan unit a h.run.events, l.sent)),
       );
       comes = λ t is still. (
         told_after_all (acts_in all) t,
         run_carries rules told law all world world' t h.happened is,
         came_told (acts_in all) t still ∙ ap (λ (x : List Arrival). t.came ++ x)
-            (simp (traces, steps_came fold plan unit a h.came, l.nothing_came, h.closes_last)),
+            (simp (traces, steps_came fold plan unit a h.run.events, l.nothing_came, h.run.closes_last)),
       );
     }

@@ -1,23 +1,24 @@
 -- A run leads to states that calls of a controller lead to.
-use Rattle.std.proofs.Common.{ℕ, ◌≡◌, List, [], ◌∷◌, ◌++◌, refl, sym, subst, append_assoc, append-nil, arith}
+use Rattle.std.proofs.Common.{ℕ, ◌≡◌, Bool, List, [], ◌∷◌, ◌++◌, refl, sym, subst, append_assoc, append-nil, arith}
 use Rattle.std.specs.Option.{option_to_list}
 use Rattle.std.specs.Prelude.{◌↔◌, if◌then◌else◌, Option, Some, None, Result, Ok, Err, IfOk, IsSome, OnOk}
 use Rattle.vdcp_value.specs.declared.part.Item.{Item}
-use Rattle.vdcp_auto.specs.Course.{Reached, Tick, Receive, called, logged}
+use Rattle.vdcp_auto.specs.Course.{Reached, Tick, Receive, Stop, Take, called, logged}
 use Rattle.vdcp_auto.specs.Plan.{Plan, plan_of}
 use Rattle.vdcp_auto.specs.State.{State}
-use Rattle.vdcp_auto.specs.Turn.{given, outcome_of, ticked, came_to, ended_by}
+use Rattle.vdcp_auto.specs.Turn.{outcome_of, ticked, came_to, ended_by}
 use Rattle.vdcp_auto.specs.declared.outcome.Outcome.{Outcome}
 use Rattle.vdcp_auto.specs.declared.exchange.Exchange.{Exchange}
 use Rattle.vdcp_auto.specs.declared.exchange.Heard.{Heard}
 use Rattle.vdcp_wire.specs.Wires.{Arrival}
-use Rattle.vdcp_drive.specs.Auto.{Auto, Driving, IsReachedFrom, auto_of, after, ended, gives, listens, log_of, receives}
+use Rattle.vdcp_drive.specs.Auto.{Auto, Driving, Event, IsReachedFrom, arrivals, arrives, auto_of, after, calls, ended, gives, heeds, listens, log_of, receives}
 use Rattle.vdcp_drive.specs.Ears.{Fold, inputs}
-use Rattle.vdcp_drive.specs.Leaves.{Ending, by_itself, in_keep, in_drop, in_send, in_listen, HasRun, RunLeaves, RunsTo}
+use Rattle.vdcp_drive.specs.Leaves.{Ending, by_itself, in_keep, in_drop, in_send, in_listen, HasRun, IsRun, RunLeaves, RunsTo}
 use Rattle.vdcp_drive.specs.Lines.{is_broken}
-use Rattle.vdcp_drive.specs.Steps.{Rules, Step, World}
-use Rattle.vdcp_drive.specs.declared.keep.KeptFault.{KeptFault}
-use Rattle.vdcp_drive.specs.declared.keep.KeptFault.TheVariants as fault
+use Rattle.vdcp_drive.specs.Steps.{Rules, Step}
+use Rattle.vdcp_drive.specs.declared.hooks.Call.TheVariants as call
+use Rattle.vdcp_drive.specs.declared.hooks.KeptFault.{KeptFault}
+use Rattle.vdcp_drive.specs.declared.hooks.KeptFault.TheVariants as fault
 use Rattle.vdcp_drive.specs.declared.line.Ran.{Ran}
 use Rattle.vdcp_drive.specs.declared.line.Ran.TheVariants as ran
 
@@ -32,11 +33,13 @@ receives_reached plan (x ∷ hs) s log h =
     simp append_assoc at (receives_reached plan hs (came_to plan x s) (log ++ option_to_list (ended_by plan x s))
     (rw logged_so at (called h (Receive x))))
 
-pub run_reached : {E : Type 0} (fold : Fold E) (plan : Plan) (unit : ℕ) (a : Auto E) (came : List Arrival)
+pub run_reached : {E : Type 0} (fold : Fold E) (plan : Plan) (unit : ℕ) (a : Auto E) (events : List Event)
     (log : List Exchange) → Reached plan a.state log
-    → Reached plan (after fold plan unit a came).state (log ++ log_of fold plan unit a came)
+    → Reached plan (after fold plan unit a events).state (log ++ log_of fold plan unit a events)
 run_reached fold plan unit a [] log h = subst (Reached plan a.state) (sym (append-nil log)) h
-run_reached fold plan unit a (what ∷ later) log h =
+run_reached fold plan unit a (calls call.Take ∷ later) log h = run_reached fold plan unit (heeds call.Take a) later log (called h Take)
+run_reached fold plan unit a (calls call.Stop ∷ later) log h = run_reached fold plan unit (heeds call.Stop a) later log (called h Stop)
+run_reached fold plan unit a (arrives what ∷ later) log h =
     let hs : List (Option Heard) = inputs fold unit what a.ear in
     simp append_assoc at (run_reached fold plan unit (listens fold plan unit what (gives a)) later
     (log ++ ended plan hs (ticked a.state)) (receives_reached plan hs (ticked a.state) log (called h Tick)))
@@ -48,7 +51,7 @@ given_led plan s t led = λ log reached. let r = led log reached in (r.0, called
 pub record Led (plan : Plan) (state state' : State) (answer : Result Ran KeptFault) : Type 0 where
   pub reached : IsReachedFrom plan state state'
   pub ended_so : IfOk answer (λ r. (r ≡ ran.Ended) ↔ IsSome (outcome_of state'.stage))
-  pub unkept : answer ≡ Err fault.Unkept → IsSome (given plan state')
+  pub unended : answer ≡ Err fault.Unkept → outcome_of state'.stage ≡ None
 
 ended_by_run : (r : Ran) (o : Option Outcome) (count : ℕ) (came : List Arrival) → RunsTo r o count came
     → (r ≡ ran.Ended) ↔ IsSome o
@@ -61,7 +64,7 @@ ended_by_run ran.Spent (Some o) count came to = let none = to.0 in cc
 -- if the wire failed
 failed_led : (plan : Plan) (state state' : State) (answer : Result Ran KeptFault) → answer ≡ Err fault.Device
     → IsReachedFrom plan state state' → Led plan state state' answer
-failed_led plan state state' answer is reached = rw is (record { reached = reached; ended_so = tt; unkept = λ other. cc })
+failed_led plan state state' answer is reached = rw is (record { reached = reached; ended_so = tt; unended = λ other. cc })
 
 ends_led : {E : Type 0} (fold : Fold E) (plan : Plan) (unit count : ℕ) (came : List Arrival) (a b : Auto E)
     (answer : Result Ran KeptFault) (more : List Step) (a' : Auto E)
@@ -70,10 +73,10 @@ ends_led : {E : Type 0} (fold : Fold E) (plan : Plan) (unit count : ℕ) (came :
 ends_led fold plan unit count came a b answer more a' led (by_itself r is to none left) = rw (is, left) (record {
   reached = led;
   ended_so = ended_by_run r (outcome_of b.state.stage) count came to;
-  unkept = λ other. cc;
+  unended = λ other. cc;
 })
-ends_led fold plan unit count came a b answer more a' led (in_keep c is gives_it are left) =
-    rw (is, left) (record { reached = led; ended_so = tt; unkept = λ _. rw gives_it refl })
+ends_led fold plan unit count came a b answer more a' led (in_keep r is going are left) =
+    rw (is, left) (record { reached = led; ended_so = tt; unended = λ _. going })
 ends_led fold plan unit count came a b answer more a' led (in_drop c is first gives_it are left) =
     failed_led plan a.state a'.state answer is (rw left led)
 ends_led fold plan unit count came a b answer more a' led (in_send c front rest is gives_it parts are left) =
@@ -81,12 +84,11 @@ ends_led fold plan unit count came a b answer more a' led (in_send c front rest 
 ends_led fold plan unit count came a b answer more a' led (in_listen is are left) =
     failed_led plan a.state a'.state answer is (rw left (given_led plan a.state b.state led))
 
-pub led_by : {E W K V : Type 0} (rules : Rules W K V) (fold : Fold E) (plan : Plan) (unit count : ℕ) (a a' : Auto E)
-    (world world' : World W K V) (answer : Result Ran KeptFault)
-    → HasRun rules fold plan unit count a a' world world' answer → Led plan a.state a'.state answer
-led_by rules fold plan unit count a a' world world' answer h =
-    ends_led fold plan unit count h.came a (after fold plan unit a h.came) answer h.more a'
-    (λ log reached. (log_of fold plan unit a h.came, run_reached fold plan unit a h.came log reached)) h.ending
+pub led_by : {E : Type 0} (can : Bool) (fold : Fold E) (plan : Plan) (unit count : ℕ) (a a' : Auto E)
+    (answer : Result Ran KeptFault) → IsRun can fold plan unit count a a' answer → Led plan a.state a'.state answer
+led_by can fold plan unit count a a' answer h =
+    ends_led fold plan unit count (arrivals h.events) a (after fold plan unit a h.events) answer h.more a'
+    (λ log reached. (log_of fold plan unit a h.events, run_reached fold plan unit a h.events log reached)) h.ending
 
 works_by : (answer : Result Ran KeptFault) (n : ℕ) → n ≡ (if is_broken answer then 1 else 0) → OnOk answer (n ≡ 0)
     × (answer ≡ Err fault.Unkept → n ≡ 0) × (answer ≡ Err fault.Device → n ≡ 1)
@@ -95,20 +97,21 @@ works_by (Err fault.Unkept) n is = (tt, λ h. is, λ h. cc)
 works_by (Err fault.Device) n is = (tt, λ h. cc, λ h. is)
 
 -- what a run of a driver over a wire that works leaves
-pub run_leaves : {S E W K V : Type 0} (items : S → List Item) (rules : Rules W K V) (fold : Fold E) (failures : W → ℕ)
-    (listens : ℕ) (old new : Driving S E W) (k k' : K) (v v' : V) (answer : Result Ran KeptFault) → failures old.wire ≡ 0
+pub run_leaves : {S E W J : Type 0} (items : S → List Item) (rules : Rules W J) (fold : Fold E) (failures : W → ℕ)
+    (listens : ℕ) (old new : Driving S E W) (k k' : J) (answer : Result Ran KeptFault) → failures old.wire ≡ 0
     → HasRun rules fold (plan_of items old.controller) old.unit listens (auto_of old) (auto_of new)
-    (record { wire = old.wire; keep = k; watch = v }) (record { wire = new.wire; keep = k'; watch = v' }) answer
+    (record { wire = old.wire; keep = k }) (record { wire = new.wire; keep = k' }) answer
     → new.controller ≡ record old.controller { state = new.controller.state } → new.unit ≡ old.unit
     → failures new.wire ≡ (if is_broken answer then 1 else 0)
-    → RunLeaves items rules fold failures listens old new k k' v v' answer
-run_leaves items rules fold failures listens old new k k' v v' answer works runs controller unit failing =
-    let led = led_by rules fold (plan_of items old.controller) old.unit listens (auto_of old) (auto_of new) _ _ answer runs in
+    → RunLeaves items rules fold failures listens old new k k' answer
+run_leaves items rules fold failures listens old new k k' answer works runs controller unit failing =
+    let led = led_by rules.can_call fold (plan_of items old.controller) old.unit listens (auto_of old) (auto_of new) answer
+    runs.run in
     let n = works_by answer (failures new.wire) failing in record {
       runs = λ _. runs;
       reached = led.reached;
       ended = led.ended_so;
-      unsent = led.unkept;
+      unended = led.unended;
       controller = controller;
       unit = unit;
       works = n.0;

@@ -9,16 +9,16 @@ use Rattle.vdcp_auto.specs.Turn.{given, ticked, tick_in, given_in, is_awaiting, 
 use Rattle.vdcp_auto.specs.declared.outcome.Outcome.{Outcome}
 use Rattle.vdcp_wire.specs.Wires.{Arrival, bytes, silence, close, has_closed}
 use Rattle.vdcp_wire.specs.Acts.{Act, sends, brings, fails}
-use Rattle.vdcp_drive.specs.Auto.{Auto, after, ended, gives, listens}
+use Rattle.vdcp_drive.specs.Auto.{Auto, AreMade, Event, after, arrivals, arrives, calls, ended, gives, heeds, listens}
 use Rattle.vdcp_drive.specs.Ears.{Fold, inputs}
-use Rattle.vdcp_drive.specs.Leaves.{AreOctetsIn, Ending, by_itself, in_keep, in_drop, in_send, in_listen, HasKeptAndSent, HasRun, HasSendBroken, Hears, Misses, Notes, RunsTo}
+use Rattle.vdcp_drive.specs.Leaves.{AreOctetsIn, Ending, by_itself, in_keep, in_drop, in_send, in_listen, HasKeptAndSent, HasMissed, HasRun, IsRun, steps_in, HasSendBroken, Hears, IsAsked, gave, uncalled, Misses, Notes, RunsTo}
 use Rattle.vdcp_drive.specs.Lines.{line_of, ran_of, ran_unless_ended}
 use Rattle.vdcp_drive.specs.Leaves as leaves
-use Rattle.vdcp_drive.specs.Steps.{Chain, Step, acts, keeps, misses, looks, Rules, World, Happens, Does, dropping, sending, given_notes, ended_notes, opening, round, steps_of}
+use Rattle.vdcp_drive.specs.Steps.{Chain, Step, acts, keeps, misses, Rules, World, Happens, Does, dropping, sending, given_notes, ended_notes, opening, round, steps_of}
 use Rattle.vdcp_drive.specs.Traces.{until_close}
-use Rattle.vdcp_drive.specs.declared.keep.KeptFault.{KeptFault}
-use Rattle.vdcp_drive.specs.declared.keep.KeptFault.TheVariants as fault
-use Rattle.vdcp_drive.specs.declared.keep.Kept.TheVariants as row
+use Rattle.vdcp_drive.specs.declared.hooks.KeptFault.{KeptFault}
+use Rattle.vdcp_drive.specs.declared.hooks.KeptFault.TheVariants as fault
+use Rattle.vdcp_drive.specs.declared.hooks.Kept.TheVariants as row
 use Rattle.vdcp_drive.specs.declared.line.Line.{Line}
 use Rattle.vdcp_drive.specs.declared.line.Line.TheVariants as line
 use Rattle.vdcp_drive.specs.declared.line.Ran.{Ran}
@@ -26,95 +26,150 @@ use Rattle.vdcp_drive.specs.declared.line.Ran.TheVariants as ran
 use Rattle.vdcp_drive.proofs.Chains.{chain_both, at, on_line, on_journal}
 
 -- a run that goes on
-pub after_both : {E : Type 0} (fold : Fold E) (plan : Plan) (unit : ℕ) (a : Auto E) (xs ys : List Arrival)
+pub after_both : {E : Type 0} (fold : Fold E) (plan : Plan) (unit : ℕ) (a : Auto E) (xs ys : List Event)
     → after fold plan unit a (xs ++ ys) ≡ after fold plan unit (after fold plan unit a xs) ys
 after_both fold plan unit a [] ys = refl
-after_both fold plan unit a (x ∷ xs) ys = after_both fold plan unit (listens fold plan unit x (gives a)) xs ys
+after_both fold plan unit a (arrives x ∷ xs) ys = after_both fold plan unit (listens fold plan unit x (gives a)) xs ys
+after_both fold plan unit a (calls c ∷ xs) ys = after_both fold plan unit (heeds c a) xs ys
 
-pub steps_both : {E : Type 0} (fold : Fold E) (plan : Plan) (unit : ℕ) (a : Auto E) (xs ys : List Arrival)
+pub steps_both : {E : Type 0} (fold : Fold E) (plan : Plan) (unit : ℕ) (a : Auto E) (xs ys : List Event)
     → steps_of fold plan unit a (xs ++ ys)
     ≡ steps_of fold plan unit a xs ++ steps_of fold plan unit (after fold plan unit a xs) ys
 steps_both fold plan unit a [] ys = refl
-steps_both fold plan unit a (x ∷ xs) ys =
+steps_both fold plan unit a (arrives x ∷ xs) ys =
     let b = listens fold plan unit x (gives a) in
     ap (λ (l : List Step). round fold plan unit x a ++ l) (steps_both fold plan unit b xs ys)
     ∙ sym (append_assoc (round fold plan unit x a) (steps_of fold plan unit b xs)
     (steps_of fold plan unit (after fold plan unit b xs) ys))
+steps_both fold plan unit a (calls c ∷ xs) ys =
+    ap (λ (l : List Step). keeps (row.Called c) ∷ l) (steps_both fold plan unit (heeds c a) xs ys)
+
+pub made_both : {E : Type 0} (can : Bool) (fold : Fold E) (plan : Plan) (unit : ℕ) (a : Auto E) (xs ys : List Event)
+    → AreMade can fold plan unit a xs → AreMade can fold plan unit (after fold plan unit a xs) ys
+    → AreMade can fold plan unit a (xs ++ ys)
+made_both can fold plan unit a [] ys h g = g
+made_both can fold plan unit a (arrives x ∷ xs) ys h g = made_both can fold plan unit (listens fold plan unit x (gives a)) xs ys h g
+made_both can fold plan unit a (calls c ∷ xs) ys h g = (h.0, h.1, made_both can fold plan unit (heeds c a) xs ys h.2 g)
+
+pub arrivals_both : (xs ys : List Event) → arrivals (xs ++ ys) ≡ arrivals xs ++ arrivals ys
+arrivals_both [] ys = refl
+arrivals_both (arrives x ∷ xs) ys = ap (λ (l : List Arrival). x ∷ l) (arrivals_both xs ys)
+arrivals_both (calls c ∷ xs) ys = arrivals_both xs ys
 
 -- One round.
 
 -- the next command is kept, and goes out
-pub opened : {E W K V : Type 0} (rules : Rules W K V) (fold : Fold E) (plan : Plan) (unit : ℕ) (a : Auto E) (w w' : W)
-    (k k' : K) (v : V) → Chain rules.adds (given_notes (given plan a.state)) k k'
+pub opened : {E W J : Type 0} (rules : Rules W J) (fold : Fold E) (plan : Plan) (unit : ℕ) (a : Auto E) (w w' : W)
+    (k k' : J) → Chain rules.adds (given_notes (given plan a.state)) k k'
     → Chain rules.does (sending fold.drops unit (given plan a.state)) w w'
-    → Happens rules (opening fold plan unit a) (at w k v) (at w' k' v)
-opened rules fold plan unit a w w' k k' v kept sent =
+    → Happens rules (opening fold plan unit a) (at w k) (at w' k')
+opened rules fold plan unit a w w' k k' kept sent =
     chain_both (Does rules) (map keeps (given_notes (given plan a.state)))
-    (map acts (sending fold.drops unit (given plan a.state))) (at w k v) (at w k' v) (at w' k' v)
-    (on_journal rules (given_notes (given plan a.state)) w k k' v kept)
-    (on_line rules (sending fold.drops unit (given plan a.state)) w w' k' v sent)
+    (map acts (sending fold.drops unit (given plan a.state))) (at w k) (at w k') (at w' k')
+    (on_journal rules (given_notes (given plan a.state)) w k k' kept)
+    (on_line rules (sending fold.drops unit (given plan a.state)) w w' k' sent)
 
-pub one_round : {E W K V : Type 0} (rules : Rules W K V) (fold : Fold E) (plan : Plan) (unit : ℕ) (a : Auto E)
-    (what : Arrival) (w w₁ w₂ : W) (k k₁ k₂ : K) (v v₁ : V)
+pub one_round : {E W J : Type 0} (rules : Rules W J) (fold : Fold E) (plan : Plan) (unit : ℕ) (a : Auto E)
+    (what : Arrival) (w w₁ w₂ : W) (k k₁ k₂ : J)
     → Chain rules.adds (given_notes (given plan a.state)) k k₁
     → Chain rules.does (sending fold.drops unit (given plan a.state)) w w₁
-    → rules.sees (ticked a.state) v v₁ → rules.does (brings what) w₁ w₂
+    → rules.does (brings what) w₁ w₂
     → Notes rules.adds fold plan unit (ticked a.state) a.ear k₁ k₂ what
-    → Happens rules (round fold plan unit what a) (at w k v) (at w₂ k₂ v₁)
-one_round rules fold plan unit a what w w₁ w₂ k k₁ k₂ v v₁ kept sent seen brought noted =
+    → Happens rules (round fold plan unit what a) (at w k) (at w₂ k₂)
+one_round rules fold plan unit a what w w₁ w₂ k k₁ k₂ kept sent brought noted =
     let ends = ended_notes (ended plan (inputs fold unit what a.ear) (ticked a.state)) in
-    chain_both (Does rules) (opening fold plan unit a) (looks (ticked a.state) ∷ acts (brings what) ∷ map keeps ends)
-    (at w k v) (at w₁ k₁ v) (at w₂ k₂ v₁) (opened rules fold plan unit a w w₁ k k₁ v kept sent)
-    (at w₁ k₁ v₁, (seen, refl), (at w₂ k₁ v₁, (brought, refl), on_journal rules ends w₂ k₁ k₂ v₁ noted))
+    chain_both (Does rules) (opening fold plan unit a) (acts (brings what) ∷ map keeps ends)
+    (at w k) (at w₁ k₁) (at w₂ k₂) (opened rules fold plan unit a w w₁ k k₁ kept sent)
+    (at w₂ k₁, (brought, refl), on_journal rules ends w₂ k₁ k₂ noted)
 
 -- nothing came before it was over
-cut : {E W K V : Type 0} (rules : Rules W K V) (fold : Fold E) (plan : Plan) (unit : ℕ) (a a' : Auto E)
-    (world world' : World W K V) (answer : Result Ran KeptFault) (more : List Step) → Happens rules more world world'
+cut : {E W J : Type 0} (rules : Rules W J) (fold : Fold E) (plan : Plan) (unit : ℕ) (a a' : Auto E)
+    (world world' : World W J) (answer : Result Ran KeptFault) (more : List Step) → Happens rules more world world'
     → Ending fold plan unit 1 [] a answer more a' → HasRun rules fold plan unit 1 a a' world world' answer
 cut rules fold plan unit a a' world world' answer more happened ending = record {
-  came = [];
-  octets = All-nil AreOctetsIn;
-  closes_last = refl;
-  more = more;
+  run = record {
+    events = [];
+    octets = All-nil AreOctetsIn;
+    closes_last = refl;
+    made = tt;
+    more = more;
+    ending = ending;
+  };
   happened = happened;
-  ending = ending;
 }
 
-unkept : {E W K V : Type 0} (rules : Rules W K V) (fold : Fold E) (plan : Plan) (unit : ℕ) (a : Auto E) (w : W) (k k' : K)
-    (v : V) (g : Option Command) → given plan a.state ≡ g → Misses rules.loses g k k'
-    → HasRun rules fold plan unit 1 a a (at w k v) (at w k' v) (Err fault.Unkept)
-unkept rules fold plan unit a w k k' v None gives_it lost = absurd lost
-unkept rules fold plan unit a w k k' v (Some c) gives_it lost =
-    cut rules fold plan unit a a (at w k v) (at w k' v) (Err fault.Unkept) (misses c ∷ []) (at w k' v, (lost, refl), refl)
-    (in_keep c refl gives_it refl refl)
+-- Before it a call is made.
+pub called_first : {E W J : Type 0} (rules : Rules W J) (fold : Fold E) (plan plan' : Plan) (unit count : ℕ) (a a' : Auto E)
+    (s : State) (w : W) (k k₁ : J) (world : World W J) (answer : Result Ran KeptFault) → plan' ≡ plan
+    → IsAsked rules.adds rules.can_call a.state s k k₁
+    → HasRun rules fold plan' unit count (record { ear = a.ear; state = s }) a' (at w k₁) world answer
+    → HasRun rules fold plan unit count a a' (at w k) world answer
+called_first rules fold plan plan' unit count a a' s w k k₁ world answer planned (uncalled same kept) h =
+    rw (planned, same, kept) at h
+called_first {E} {W} {J} rules fold plan plan' unit count a a' s w k k₁ world answer planned (gave c can going kept is) h =
+    let r : HasRun rules fold plan unit count (heeds c a) a' (at w k₁) world answer = rw (planned, is) at h in record {
+      run = record {
+        events = calls c ∷ r.run.events;
+        octets = r.run.octets;
+        closes_last = r.run.closes_last;
+        made = (can, going, r.run.made);
+        more = r.run.more;
+        ending = r.run.ending;
+      };
+      happened = (at w k₁, (kept, refl), r.happened);
+    }
 
-unsent : {E W K V : Type 0} (rules : Rules W K V) (fold : Fold E) (plan : Plan) (unit : ℕ) (a : Auto E) (state' : State)
-    (w w' : W) (k k' : K) (v : V) → Chain rules.adds (given_notes (given plan a.state)) k k'
+-- or a call isn't kept
+pub round_missed : {E W J : Type 0} (rules : Rules W J) (fold : Fold E) (plan : Plan) (unit : ℕ) (a : Auto E) (s : State)
+    (w : W) (k k' : J) → HasMissed rules.loses a.state s k k'
+    → HasRun rules fold plan unit 1 a (record { ear = a.ear; state = s }) (at w k) (at w k') (Err fault.Unkept)
+round_missed {E} rules fold plan unit a s w k k' h =
+    cut rules fold plan unit a _ (at w k) (at w k') (Err fault.Unkept) (misses (row.Called h.call) ∷ [])
+    (at w k', (h.lost, refl), refl)
+    (in_keep (row.Called h.call) refl h.going refl (ap {B = Auto E} (λ (x : State). record { ear = a.ear; state = x }) h.stays))
+
+pub given_going : (plan : Plan) (s : State) (c : Command) → given plan s ≡ Some c → outcome_of s.stage ≡ None
+given_going plan s c is = by s.stage is where
+  by : (stage : Stage) → given_in plan s.stop stage ≡ Some c → outcome_of stage ≡ None
+  by (Ready p) g = refl
+  by (Awaiting p) g = refl
+  by (Ended o) g = cc
+
+unkept : {E W J : Type 0} (rules : Rules W J) (fold : Fold E) (plan : Plan) (unit : ℕ) (a : Auto E) (w : W) (k k' : J)
+    (g : Option Command) → given plan a.state ≡ g → Misses rules.loses g k k'
+    → HasRun rules fold plan unit 1 a a (at w k) (at w k') (Err fault.Unkept)
+unkept rules fold plan unit a w k k' None gives_it lost = absurd lost
+unkept rules fold plan unit a w k k' (Some c) gives_it lost =
+    cut rules fold plan unit a a (at w k) (at w k') (Err fault.Unkept) (misses (row.Sent c) ∷ []) (at w k', (lost, refl), refl)
+    (in_keep (row.Sent c) refl (given_going plan a.state c gives_it) refl refl)
+
+unsent : {E W J : Type 0} (rules : Rules W J) (fold : Fold E) (plan : Plan) (unit : ℕ) (a : Auto E) (state' : State)
+    (w w' : W) (k k' : J) → Chain rules.adds (given_notes (given plan a.state)) k k'
     → HasSendBroken rules.does fold.drops plan unit a.state state' w w'
-    → HasRun rules fold plan unit 1 a (record { ear = a.ear; state = state' }) (at w k v) (at w' k' v) (Err fault.Device)
-unsent {E} rules fold plan unit a state' w w' k k' v kept (leaves.in_drop c gives_it first stays broke) =
+    → HasRun rules fold plan unit 1 a (record { ear = a.ear; state = state' }) (at w k) (at w' k') (Err fault.Device)
+unsent {E} rules fold plan unit a state' w w' k k' kept (leaves.in_drop c gives_it first stays broke) =
     let keeping = subst (λ (g : Option Command). Chain rules.adds (given_notes g) k k') gives_it kept in
-    cut rules fold plan unit a _ (at w k v) (at w' k' v) (Err fault.Device) (keeps (row.Sent c) ∷ acts fails ∷ [])
-    (at w keeping.0 v, (keeping.1, refl), (at w' keeping.0 v, (broke, refl), ap (λ (x : _). at w' x v) keeping.2))
+    cut rules fold plan unit a _ (at w k) (at w' k') (Err fault.Device) (keeps (row.Sent c) ∷ acts fails ∷ [])
+    (at w keeping.0, (keeping.1, refl), (at w' keeping.0, (broke, refl), ap (λ (x : _). at w' x) keeping.2))
     (in_drop c refl first gives_it refl (ap {B = Auto E} (λ (s : State). record { ear = a.ear; state = s }) stays))
-unsent {E} rules fold plan unit a state' w w' k k' v kept (leaves.in_send c front rest gives_it ticks parts sent) =
+unsent {E} rules fold plan unit a state' w w' k k' kept (leaves.in_send c front rest gives_it ticks parts sent) =
     let keeping = subst (λ (g : Option Command). Chain rules.adds (given_notes g) k k') gives_it kept in
     let out : List Act = dropping fold.drops ++ sends front ∷ [] in
-    cut rules fold plan unit a _ (at w k v) (at w' k' v) (Err fault.Device) (keeps (row.Sent c) ∷ map acts out)
-    (chain_both (Does rules) (keeps (row.Sent c) ∷ []) (map acts out) (at w k v) (at w k' v) (at w' k' v)
-    (on_journal rules (row.Sent c ∷ []) w k k' v keeping) (on_line rules out w w' k' v sent))
+    cut rules fold plan unit a _ (at w k) (at w' k') (Err fault.Device) (keeps (row.Sent c) ∷ map acts out)
+    (chain_both (Does rules) (keeps (row.Sent c) ∷ []) (map acts out) (at w k) (at w k') (at w' k')
+    (on_journal rules (row.Sent c ∷ []) w k k' keeping) (on_line rules out w w' k' sent))
     (in_send c front rest refl gives_it parts refl
     (ap {B = Auto E} (λ (s : State). record { ear = a.ear; state = s }) ticks))
 
 -- the command isn't kept, or doesn't go out
-pub round_unsent : {E W K V : Type 0} (rules : Rules W K V) (fold : Fold E) (plan : Plan) (unit : ℕ) (a : Auto E) (state' : State)
-    (w w' : W) (k k' : K) (v : V) (f : KeptFault)
-    → HasKeptAndSent rules.does rules.adds rules.loses fold.drops plan unit a.state state' w w' k k' (Err f)
-    → HasRun rules fold plan unit 1 a (record { ear = a.ear; state = state' }) (at w k v) (at w' k' v) (Err f)
-round_unsent rules fold plan unit a state' w w' k k' v fault.Unkept h =
-    rw (h.0, h.1) (unkept rules fold plan unit a w k k' v (given plan a.state) refl h.2)
-round_unsent rules fold plan unit a state' w w' k k' v fault.Device h =
-    unsent rules fold plan unit a state' w w' k k' v h.0 h.1
+pub round_unsent : {E W J : Type 0} (rules : Rules W J) (fold : Fold E) (plan : Plan) (unit : ℕ) (a : Auto E) (state' : State)
+    (w w' : W) (k k' : J) (f : KeptFault)
+    → HasKeptAndSent rules fold.drops plan unit a.state state' (at w k) (at w' k') (Err f)
+    → HasRun rules fold plan unit 1 a (record { ear = a.ear; state = state' }) (at w k) (at w' k') (Err f)
+round_unsent rules fold plan unit a state' w w' k k' fault.Unkept h =
+    rw (h.0, h.1) (unkept rules fold plan unit a w k k' (given plan a.state) refl h.2)
+round_unsent rules fold plan unit a state' w w' k k' fault.Device h =
+    unsent rules fold plan unit a state' w w' k k' h.0 h.1
 
 -- nothing is awaited after a tick: the controller has ended
 pub record HasEnded (plan : Plan) (s : State) : Type 0 where
@@ -132,32 +187,29 @@ ended_in plan s (Ended o) is idle = record {
   outcome = subst (λ (x : Stage). IsSome (outcome_of x)) (sym is) refl;
 }
 
-pub round_ended : {E W K V : Type 0} (rules : Rules W K V) (fold : Fold E) (plan : Plan) (unit : ℕ) (a : Auto E) (state' : State)
-    (w w' : W) (k k' : K) (v : V) → Chain rules.adds (given_notes (given plan a.state)) k k' → state' ≡ ticked a.state
+pub round_ended : {E W J : Type 0} (rules : Rules W J) (fold : Fold E) (plan : Plan) (unit : ℕ) (a : Auto E) (state' : State)
+    (w w' : W) (k k' : J) → Chain rules.adds (given_notes (given plan a.state)) k k' → state' ≡ ticked a.state
     → Chain rules.does (sending fold.drops unit (given plan a.state)) w w' → is_awaiting state'.stage ≡ false
-    → HasRun rules fold plan unit 1 a (record { ear = a.ear; state = state' }) (at w k v) (at w' k' v) (Ok ran.Ended)
-round_ended rules fold plan unit a state' w w' k k' v kept ticks sent idle =
+    → HasRun rules fold plan unit 1 a (record { ear = a.ear; state = state' }) (at w k) (at w' k') (Ok ran.Ended)
+round_ended rules fold plan unit a state' w w' k k' kept ticks sent idle =
     let e : HasEnded plan a.state = ended_in plan a.state a.state.stage refl (rw ticks at idle) in
     let k_is : k' ≡ k = rw e.none at kept in
     let w_is : w' ≡ w = rw e.none at sent in
-    rw (ticks, e.stays, w_is, k_is) (cut rules fold plan unit a a (at w k v) (at w k v) (Ok ran.Ended) [] refl
+    rw (ticks, e.stays, w_is, k_is) (cut rules fold plan unit a a (at w k) (at w k) (Ok ran.Ended) [] refl
     (by_itself ran.Ended refl (e.outcome, omega arith) refl refl))
 
 -- it went out, and the listen failed
-pub round_unheard : {E W K V : Type 0} (rules : Rules W K V) (fold : Fold E) (plan : Plan) (unit : ℕ) (a : Auto E)
-    (s₁ s₂ : State) (e₂ : E) (w w₁ w₂ : W) (k k₁ k₂ : K) (v v' : V) → Chain rules.adds (given_notes (given plan a.state)) k k₁
+pub round_unheard : {E W J : Type 0} (rules : Rules W J) (fold : Fold E) (plan : Plan) (unit : ℕ) (a : Auto E)
+    (s₁ s₂ : State) (e₂ : E) (w w₁ w₂ : W) (k k₁ k₂ : J) → Chain rules.adds (given_notes (given plan a.state)) k k₁
     → s₁ ≡ ticked a.state → Chain rules.does (sending fold.drops unit (given plan a.state)) w w₁
-    → rules.sees s₁ v v' → (s₂ ≡ s₁) × (e₂ ≡ a.ear) × rules.does fails w₁ w₂ → k₂ ≡ k₁
-    → HasRun rules fold plan unit 1 a (record { ear = e₂; state = s₂ }) (at w k v) (at w₂ k₂ v') (Err fault.Device)
-round_unheard {E} {W} {K} {V} rules fold plan unit a s₁ s₂ e₂ w w₁ w₂ k k₁ k₂ v v' kept ticks sent seen broke unnoted =
-    let tail : List Step = looks (ticked a.state) ∷ acts fails ∷ [] in
-    cut rules fold plan unit a _ (at w k v) (at w₂ k₂ v') (Err fault.Device) (opening fold plan unit a ++ tail)
-    (chain_both (Does rules) (opening fold plan unit a) tail (at w k v) (at w₁ k₁ v) (at w₂ k₂ v')
-    (opened rules fold plan unit a w w₁ k k₁ v kept sent) (
-      at w₁ k₁ v',
-      (subst (λ (s : State). rules.sees s v v') ticks seen, refl),
-      (at w₂ k₁ v', (broke.2, refl), ap (λ (x : K). at w₂ x v') unnoted),
-    ))
+    → (s₂ ≡ s₁) × (e₂ ≡ a.ear) × rules.does fails w₁ w₂ → k₂ ≡ k₁
+    → HasRun rules fold plan unit 1 a (record { ear = e₂; state = s₂ }) (at w k) (at w₂ k₂) (Err fault.Device)
+round_unheard {E} {W} {J} rules fold plan unit a s₁ s₂ e₂ w w₁ w₂ k k₁ k₂ kept ticks sent broke unnoted =
+    let tail : List Step = acts fails ∷ [] in
+    cut rules fold plan unit a _ (at w k) (at w₂ k₂) (Err fault.Device) (opening fold plan unit a ++ tail)
+    (chain_both (Does rules) (opening fold plan unit a) tail (at w k) (at w₁ k₁) (at w₂ k₂)
+    (opened rules fold plan unit a w w₁ k k₁ kept sent)
+    (at w₂ k₁, (broke.2, refl), ap (λ (x : J). at w₂ x) unnoted))
     (in_listen refl refl (ap₂ {C = Auto E} (λ (e : E) (s : State). record { ear = e; state = s }) broke.1
     (broke.0 ∙ ticks)))
 
@@ -172,42 +224,46 @@ one_closes : (what : Arrival) → until_close (what ∷ []) ≡ what ∷ []
 one_closes (bytes piece) = refl
 one_closes what = refl
 
-pub round_heard : {E W K V : Type 0} (rules : Rules W K V) (fold : Fold E) (plan : Plan) (unit : ℕ) (a : Auto E)
-    (s₁ s₂ : State) (e₂ : E) (l : Line) (w w₁ w₂ : W) (k k₁ k₂ : K) (v v' : V)
+pub round_heard : {E W J : Type 0} (rules : Rules W J) (fold : Fold E) (plan : Plan) (unit : ℕ) (a : Auto E)
+    (s₁ s₂ : State) (e₂ : E) (l : Line) (w w₁ w₂ : W) (k k₁ k₂ : J)
     → Chain rules.adds (given_notes (given plan a.state)) k k₁ → s₁ ≡ ticked a.state
-    → Chain rules.does (sending fold.drops unit (given plan a.state)) w w₁ → rules.sees s₁ v v'
+    → Chain rules.does (sending fold.drops unit (given plan a.state)) w w₁
     → Hears rules.does fold plan unit (Notes rules.adds fold plan unit s₁ a.ear k₁ k₂) l s₁ a.ear w₁ s₂ e₂ w₂
     → (r : Ran) → r ≡ ran_unless_ended (outcome_of s₂.stage) (ran_of l)
-    → HasRun rules fold plan unit 1 a (record { ear = e₂; state = s₂ }) (at w k v) (at w₂ k₂ v') (Ok r)
-round_heard {E} {W} {K} {V} rules fold plan unit a s₁ s₂ e₂ l w w₁ w₂ k k₁ k₂ v v' kept ticks sent seen heard r is =
+    → HasRun rules fold plan unit 1 a (record { ear = e₂; state = s₂ }) (at w k) (at w₂ k₂) (Ok r)
+round_heard {E} {W} {J} rules fold plan unit a s₁ s₂ e₂ l w w₁ w₂ k k₁ k₂ kept ticks sent heard r is =
     let left : Auto E = listens fold plan unit heard.what (gives a) in
     let left_is : ◌≡◌ {A = Auto E} (record { ear = e₂; state = s₂ }) left =
     ap₂ {C = Auto E} (λ (e : E) (s : State). record { ear = e; state = s }) heard.ear_is heard.state_is
     ∙ ap (λ (s : State). listens fold plan unit heard.what (record { ear = a.ear; state = s })) ticks in
     let steps : List Step = round fold plan unit heard.what a in record {
-      came = heard.what ∷ [];
-      octets = All-cons AreOctetsIn heard.what [] heard.octets (All-nil AreOctetsIn);
-      closes_last = one_closes heard.what;
-      more = [];
-      happened = simp append-nil (one_round rules fold plan unit a heard.what w w₁ w₂ k k₁ k₂ v v' kept sent
-          (rw ticks at seen) heard.brought (rw ticks at heard.more));
-      ending = by_itself r refl (subst (λ (x : Auto E). RunsTo r (outcome_of x.state.stage) 1 (heard.what ∷ [])) left_is
-          (subst (λ (x : Ran). RunsTo x (outcome_of s₂.stage) 1 (heard.what ∷ []))
-          (sym (is ∙ ap (λ (x : Line). ran_unless_ended (outcome_of s₂.stage) (ran_of x)) heard.line_is))
-          (one_ran (outcome_of s₂.stage) heard.what))) refl left_is;
+      happened = simp append-nil (one_round rules fold plan unit a heard.what w w₁ w₂ k k₁ k₂ kept sent
+          heard.brought (rw ticks at heard.more));
+      run = record {
+        events = arrives heard.what ∷ [];
+        octets = All-cons AreOctetsIn heard.what [] heard.octets (All-nil AreOctetsIn);
+        closes_last = one_closes heard.what;
+        made = tt;
+        more = [];
+        ending = by_itself r refl (subst (λ (x : Auto E). RunsTo r (outcome_of x.state.stage) 1 (heard.what ∷ [])) left_is
+            (subst (λ (x : Ran). RunsTo x (outcome_of s₂.stage) 1 (heard.what ∷ []))
+            (sym (is ∙ ap (λ (x : Line). ran_unless_ended (outcome_of s₂.stage) (ran_of x)) heard.line_is))
+            (one_ran (outcome_of s₂.stage) heard.what))) refl left_is;
+      };
     }
 
 -- One round more.
 
 -- after this many rounds, which brought this
-pub record Stands {E W K V : Type 0} (rules : Rules W K V) (fold : Fold E) (plan : Plan) (unit made : ℕ) (a a' : Auto E)
-    (world world' : World W K V) : Type 0 where
-  pub came : List Arrival
-  pub count : length came ≡ made
-  pub open_still : has_closed came ≡ false
-  pub octets : All AreOctetsIn came
-  pub auto_is : a' ≡ after fold plan unit a came
-  pub happened : Happens rules (steps_of fold plan unit a came) world world'
+pub record Stands {E W J : Type 0} (rules : Rules W J) (fold : Fold E) (plan : Plan) (unit rounds : ℕ) (a a' : Auto E)
+    (world world' : World W J) : Type 0 where
+  pub events : List Event
+  pub count : length (arrivals events) ≡ rounds
+  pub open_still : has_closed (arrivals events) ≡ false
+  pub octets : All AreOctetsIn (arrivals events)
+  pub made : AreMade rules.can_call fold plan unit a events
+  pub auto_is : a' ≡ after fold plan unit a events
+  pub happened : Happens rules (steps_of fold plan unit a events) world world'
 
 closed_both : (xs ys : List Arrival) → has_closed xs ≡ false → has_closed (xs ++ ys) ≡ has_closed ys
 closed_both [] ys h = refl
@@ -241,14 +297,14 @@ pub last_more : (came : List Arrival) (what : Arrival) → has_closed came ≡ f
     → until_close (came ++ what ∷ []) ≡ came ++ what ∷ []
 last_more came what h = last_both came (what ∷ []) h (one_closes what)
 
-happened_both : {E W K V : Type 0} (rules : Rules W K V) (fold : Fold E) (plan : Plan) (unit : ℕ) (made : ℕ) (a b : Auto E)
-    (world world' world₂ : World W K V) (ys : List Arrival) (more : List Step)
+happened_both : {E W J : Type 0} (rules : Rules W J) (fold : Fold E) (plan : Plan) (unit : ℕ) (made : ℕ) (a b : Auto E)
+    (world world' world₂ : World W J) (ys : List Event) (more : List Step)
     → (h : Stands rules fold plan unit made a b world world')
     → Happens rules (steps_of fold plan unit b ys ++ more) world' world₂
-    → Happens rules (steps_of fold plan unit a (h.came ++ ys) ++ more) world world₂
+    → Happens rules (steps_of fold plan unit a (h.events ++ ys) ++ more) world world₂
 happened_both rules fold plan unit made a b world world' world₂ ys more h next =
-    rw (steps_both fold plan unit a h.came ys, append_assoc) (chain_both (Does rules) (steps_of fold plan unit a h.came)
-    (steps_of fold plan unit (after fold plan unit a h.came) ys ++ more) world world' world₂ h.happened
+    rw (steps_both fold plan unit a h.events ys, append_assoc) (chain_both (Does rules) (steps_of fold plan unit a h.events)
+    (steps_of fold plan unit (after fold plan unit a h.events) ys ++ more) world world' world₂ h.happened
     (rw h.auto_is at next))
 
 ran_on : (r : Ran) (o : Option Outcome) (made count : ℕ) (xs ys : List Arrival) → RunsTo r o 1 ys → length xs ≡ made
@@ -266,8 +322,8 @@ ends_on : {E : Type 0} (fold : Fold E) (plan : Plan) (unit made count : ℕ) (xs
 ends_on fold plan unit made count xs ys a a' answer more all few still other (by_itself r is to none left) =
     by_itself r is (ran_on r (outcome_of a.state.stage) made count xs ys to all few still
     (λ spent. absurd (other (is ∙ ap (λ (x : Ran). Ok x) spent)))) none left
-ends_on fold plan unit made count xs ys a a' answer more all few still other (in_keep c is gives_it are left) =
-    in_keep c is gives_it are left
+ends_on fold plan unit made count xs ys a a' answer more all few still other (in_keep r is going are left) =
+    in_keep r is going are left
 ends_on fold plan unit made count xs ys a a' answer more all few still other (in_drop c is first gives_it are left) =
     in_drop c is first gives_it are left
 ends_on fold plan unit made count xs ys a a' answer more all few still other (in_send c front rest is gives_it parts are left) =
@@ -275,19 +331,36 @@ ends_on fold plan unit made count xs ys a a' answer more all few still other (in
 ends_on fold plan unit made count xs ys a a' answer more all few still other (in_listen is are left) =
     in_listen is are left
 
+-- what came in both, and what may be called
+made_on : {E W J : Type 0} (rules : Rules W J) (fold : Fold E) (plan : Plan) (unit made : ℕ) (a b : Auto E)
+    (world world' : World W J) (ys : List Event) → (h : Stands rules fold plan unit made a b world world')
+    → AreMade rules.can_call fold plan unit b ys → AreMade rules.can_call fold plan unit a (h.events ++ ys)
+made_on rules fold plan unit made a b world world' ys h g =
+    made_both rules.can_call fold plan unit a h.events ys h.made
+    (subst (λ (x : Auto _). AreMade rules.can_call fold plan unit x ys) h.auto_is g)
+
+octets_on : (xs ys : List Event) → All AreOctetsIn (arrivals xs) → All AreOctetsIn (arrivals ys)
+    → All AreOctetsIn (arrivals (xs ++ ys))
+octets_on xs ys h g = subst (All AreOctetsIn) (sym (arrivals_both xs ys)) (All-append AreOctetsIn (arrivals xs) (arrivals ys) h g)
+
 -- it was the last one
-pub run_over : {E W K V : Type 0} (rules : Rules W K V) (fold : Fold E) (plan : Plan) (unit : ℕ) (made count : ℕ)
-    (a b b' : Auto E) (world world' world₂ : World W K V) (answer : Result Ran KeptFault)
+pub run_over : {E W J : Type 0} (rules : Rules W J) (fold : Fold E) (plan : Plan) (unit : ℕ) (made count : ℕ)
+    (a b b' : Auto E) (world world' world₂ : World W J) (answer : Result Ran KeptFault)
     → Stands rules fold plan unit made a b world world' → made < count → answer ≢ Ok ran.Spent
     → HasRun rules fold plan unit 1 b b' world' world₂ answer → HasRun rules fold plan unit count a b' world world₂ answer
 run_over {E} rules fold plan unit made count a b b' world world' world₂ answer h few other r = record {
-  came = h.came ++ r.came;
-  octets = All-append AreOctetsIn h.came r.came h.octets r.octets;
-  closes_last = last_both h.came r.came h.open_still r.closes_last;
-  more = r.more;
-  happened = happened_both rules fold plan unit made a b world world' world₂ r.came r.more h r.happened;
-  ending = rw (after_both fold plan unit a h.came r.came, ← h.auto_is) (ends_on fold plan unit made count h.came r.came
-      (after fold plan unit b r.came) b' answer r.more h.count few h.open_still other r.ending);
+  run = record {
+    events = h.events ++ r.run.events;
+    octets = octets_on h.events r.run.events h.octets r.run.octets;
+    closes_last = rw (arrivals_both h.events r.run.events)
+        (last_both (arrivals h.events) (arrivals r.run.events) h.open_still r.run.closes_last);
+    made = made_on rules fold plan unit made a b world world' r.run.events h r.run.made;
+    more = r.run.more;
+    ending = rw (arrivals_both h.events r.run.events, after_both fold plan unit a h.events r.run.events, ← h.auto_is)
+        (ends_on fold plan unit made count (arrivals h.events) (arrivals r.run.events)
+        (after fold plan unit b r.run.events) b' answer r.run.more h.count few h.open_still other r.run.ending);
+  };
+  happened = happened_both rules fold plan unit made a b world world' world₂ r.run.events r.run.more h r.happened;
 }
 
 -- all its listens were made
@@ -304,24 +377,27 @@ spends fold plan unit came a a' answer more spent (by_itself ran.Spent is to non
     record { one = to.2; open_still = to.1; none = none; left = left }
 spends fold plan unit came a a' answer more spent (by_itself ran.Ended is to none left) = cc
 spends fold plan unit came a a' answer more spent (by_itself ran.Closed is to none left) = cc
-spends fold plan unit came a a' answer more spent (in_keep c is gives_it are left) = cc
+spends fold plan unit came a a' answer more spent (in_keep r is going are left) = cc
 spends fold plan unit came a a' answer more spent (in_drop c is first gives_it are left) = cc
 spends fold plan unit came a a' answer more spent (in_send c front rest is gives_it parts are left) = cc
 spends fold plan unit came a a' answer more spent (in_listen is are left) = cc
 
-pub stands_more : {E W K V : Type 0} (rules : Rules W K V) (fold : Fold E) (plan : Plan) (unit : ℕ) (made : ℕ)
-    (a b b' : Auto E) (world world' world₂ : World W K V) (answer : Result Ran KeptFault)
+pub stands_more : {E W J : Type 0} (rules : Rules W J) (fold : Fold E) (plan : Plan) (unit : ℕ) (made : ℕ)
+    (a b b' : Auto E) (world world' world₂ : World W J) (answer : Result Ran KeptFault)
     → Stands rules fold plan unit made a b world world' → answer ≡ Ok ran.Spent
     → HasRun rules fold plan unit 1 b b' world' world₂ answer → Stands rules fold plan unit (made + 1) a b' world world₂
 stands_more {E} rules fold plan unit made a b b' world world' world₂ answer h spent r =
-    let s = spends fold plan unit r.came (after fold plan unit b r.came) b' answer r.more spent r.ending in record {
-      came = h.came ++ r.came;
-      count = omega (arith, h.count, s.one, length-append h.came r.came);
-      open_still = closed_both h.came r.came h.open_still ∙ s.open_still;
-      octets = All-append AreOctetsIn h.came r.came h.octets r.octets;
-      auto_is = s.left ∙ ap (λ (x : Auto E). after fold plan unit x r.came) h.auto_is
-          ∙ sym (after_both fold plan unit a h.came r.came);
-      happened = simp append-nil at (happened_both rules fold plan unit made a b world world' world₂ r.came [] h
+    let s = spends fold plan unit (arrivals r.run.events) (after fold plan unit b r.run.events) b' answer r.run.more spent r.run.ending in
+    let both : arrivals (h.events ++ r.run.events) ≡ arrivals h.events ++ arrivals r.run.events = arrivals_both h.events r.run.events in
+    record {
+      events = h.events ++ r.run.events;
+      count = rw both (omega (arith, h.count, s.one, length-append (arrivals h.events) (arrivals r.run.events)));
+      open_still = rw both (closed_both (arrivals h.events) (arrivals r.run.events) h.open_still ∙ s.open_still);
+      octets = octets_on h.events r.run.events h.octets r.run.octets;
+      made = made_on rules fold plan unit made a b world world' r.run.events h r.run.made;
+      auto_is = s.left ∙ ap (λ (x : Auto E). after fold plan unit x r.run.events) h.auto_is
+          ∙ sym (after_both fold plan unit a h.events r.run.events);
+      happened = simp append-nil at (happened_both rules fold plan unit made a b world world' world₂ r.run.events [] h
           (rw s.none at r.happened));
     }
 
@@ -333,16 +409,88 @@ spent_by None count came still all = (refl, still, all)
 last_open : (xs : List Arrival) → has_closed xs ≡ false → until_close xs ≡ xs
 last_open xs h = simp append-nil at (last_both xs [] h refl)
 
-pub run_spent : {E W K V : Type 0} (rules : Rules W K V) (fold : Fold E) (plan : Plan) (unit : ℕ) (made count : ℕ)
-    (a a' : Auto E) (world world' : World W K V) (answer : Result Ran KeptFault) → Stands rules fold plan unit made a a' world world'
+pub run_spent : {E W J : Type 0} (rules : Rules W J) (fold : Fold E) (plan : Plan) (unit : ℕ) (made count : ℕ)
+    (a a' : Auto E) (world world' : World W J) (answer : Result Ran KeptFault) → Stands rules fold plan unit made a a' world world'
     → made ≡ count → answer ≡ Ok (ran_unless_ended (outcome_of a'.state.stage) ran.Spent)
     → HasRun rules fold plan unit count a a' world world' answer
 run_spent {E} rules fold plan unit made count a a' world world' answer h all is = record {
-  came = h.came;
-  octets = h.octets;
-  closes_last = last_open h.came h.open_still;
-  more = [];
   happened = simp append-nil h.happened;
-  ending = by_itself _ is (rw (← h.auto_is) (spent_by (outcome_of a'.state.stage) count h.came h.open_still
-      (h.count ∙ all))) refl h.auto_is;
+  run = record {
+    events = h.events;
+    octets = h.octets;
+    closes_last = last_open (arrivals h.events) h.open_still;
+    made = h.made;
+    more = [];
+    ending = by_itself _ is (rw (← h.auto_is) (spent_by (outcome_of a'.state.stage) count (arrivals h.events) h.open_still
+        (h.count ∙ all))) refl h.auto_is;
+  };
 }
+
+-- Runs that go on.
+
+ran_far : (r : Ran) (o : Option Outcome) (m n : ℕ) (xs ys : List Arrival) → RunsTo r o n ys → length xs ≡ m
+    → has_closed xs ≡ false → RunsTo r o (m + n) (xs ++ ys)
+ran_far ran.Ended o m n xs ys to all still = (to.0, omega (arith, to.1, all, length-append xs ys))
+ran_far ran.Closed o m n xs ys to all still =
+    (to.0, closed_both xs ys still ∙ to.1, omega (arith, to.2, all, length-append xs ys))
+ran_far ran.Spent o m n xs ys to all still =
+    (to.0, closed_both xs ys still ∙ to.1, omega (arith, to.2, all, length-append xs ys))
+
+ends_far : {E : Type 0} (fold : Fold E) (plan : Plan) (unit m n : ℕ) (xs ys : List Arrival) (a a' : Auto E)
+    (answer : Result Ran KeptFault) (more : List Step) → length xs ≡ m → has_closed xs ≡ false
+    → Ending fold plan unit n ys a answer more a' → Ending fold plan unit (m + n) (xs ++ ys) a answer more a'
+ends_far fold plan unit m n xs ys a a' answer more all still (by_itself r is to none left) =
+    by_itself r is (ran_far r (outcome_of a.state.stage) m n xs ys to all still) none left
+ends_far fold plan unit m n xs ys a a' answer more all still (in_keep r is going are left) = in_keep r is going are left
+ends_far fold plan unit m n xs ys a a' answer more all still (in_drop c is first gives_it are left) =
+    in_drop c is first gives_it are left
+ends_far fold plan unit m n xs ys a a' answer more all still (in_send c front rest is gives_it parts are left) =
+    in_send c front rest is gives_it parts are left
+ends_far fold plan unit m n xs ys a a' answer more all still (in_listen is are left) = in_listen is are left
+
+-- a run whose listens were all made, and then another
+pub record GoesOn {E : Type 0} {can : Bool} {fold : Fold E} {plan : Plan} {unit m n : ℕ} {a b a' : Auto E}
+    {answer : Result Ran KeptFault} (first : IsRun can fold plan unit m a b (Ok ran.Spent))
+    (next : IsRun can fold plan unit n b a' answer) : Type 0 where
+  pub run : IsRun can fold plan unit (m + n) a a' answer
+  pub steps : steps_in run ≡ steps_in first ++ steps_in next
+
+record AllMade {E : Type 0} (count : ℕ) (came : List Arrival) (more : List Step) (a a' : Auto E) : Type 0 where
+  all : length came ≡ count
+  open_still : has_closed came ≡ false
+  none : more ≡ []
+  left : a' ≡ a
+
+all_made : {E : Type 0} (fold : Fold E) (plan : Plan) (unit count : ℕ) (came : List Arrival) (a a' : Auto E)
+    (more : List Step) → Ending fold plan unit count came a (Ok ran.Spent) more a' → AllMade count came more a a'
+all_made fold plan unit count came a a' more (by_itself ran.Spent is to none left) =
+    record { all = to.2; open_still = to.1; none = none; left = left }
+all_made fold plan unit count came a a' more (by_itself ran.Ended is to none left) = cc
+all_made fold plan unit count came a a' more (by_itself ran.Closed is to none left) = cc
+all_made fold plan unit count came a a' more (in_keep r is going are left) = cc
+all_made fold plan unit count came a a' more (in_drop c is first gives_it are left) = cc
+all_made fold plan unit count came a a' more (in_send c front rest is gives_it parts are left) = cc
+all_made fold plan unit count came a a' more (in_listen is are left) = cc
+
+pub run_goes_on : {E : Type 0} (can : Bool) (fold : Fold E) (plan : Plan) (unit m n : ℕ) (a b a' : Auto E)
+    (answer : Result Ran KeptFault) (first : IsRun can fold plan unit m a b (Ok ran.Spent))
+    (next : IsRun can fold plan unit n b a' answer) → GoesOn first next
+run_goes_on {E} can fold plan unit m n a b a' answer first next =
+    let xs : List Event = first.events in
+    let ys : List Event = next.events in
+    let s : AllMade m (arrivals xs) first.more (after fold plan unit a xs) b =
+    all_made fold plan unit m (arrivals xs) (after fold plan unit a xs) b first.more first.ending in
+    record {
+      run = record {
+        events = xs ++ ys;
+        octets = octets_on xs ys first.octets next.octets;
+        closes_last = rw (arrivals_both xs ys) (last_both (arrivals xs) (arrivals ys) s.open_still next.closes_last);
+        made = made_both can fold plan unit a xs ys first.made
+            (subst (λ (x : Auto E). AreMade can fold plan unit x ys) s.left next.made);
+        more = next.more;
+        ending = rw (arrivals_both xs ys, after_both fold plan unit a xs ys, ← s.left)
+            (ends_far fold plan unit m n (arrivals xs) (arrivals ys) (after fold plan unit b ys) a' answer next.more s.all
+            s.open_still next.ending);
+      };
+      steps = rw (steps_both fold plan unit a xs ys, s.none, append-nil, append_assoc, ← s.left) refl;
+    }

@@ -8,13 +8,13 @@ use Rattle.vdcp_auto.specs.declared.exchange.Exchange.{Exchange}
 use Rattle.vdcp_auto.specs.declared.exchange.Heard.{Heard}
 use Rattle.vdcp_wire.specs.Wires.{Arrival}
 use Rattle.vdcp_wire.specs.Acts.{sends, brings, fails}
-use Rattle.vdcp_drive.specs.Auto.{Auto, after, ended, gives, listens}
+use Rattle.vdcp_drive.specs.Auto.{Auto, Event, after, arrivals, arrives, calls, ended, gives, heeds, listens}
 use Rattle.vdcp_drive.specs.Ears.{Fold, inputs}
-use Rattle.vdcp_drive.specs.Leaves.{Ending, by_itself, in_keep, in_drop, in_send, in_listen, HasRun}
+use Rattle.vdcp_drive.specs.Leaves.{Ending, by_itself, in_keep, in_drop, in_send, in_listen, IsRun, steps_in}
 use Rattle.vdcp_drive.specs.Safe.{AreSafe, IsFrontOf, IsCut, here, within, on}
-use Rattle.vdcp_drive.specs.Steps.{Step, acts, keeps, looks, Rules, World, command_bytes, dropping, sending, given_notes, ended_notes, end_of, opening, steps_of}
-use Rattle.vdcp_drive.specs.declared.keep.Kept.TheVariants as row
-use Rattle.vdcp_drive.specs.declared.keep.KeptFault.{KeptFault}
+use Rattle.vdcp_drive.specs.Steps.{Step, acts, keeps, command_bytes, dropping, sending, given_notes, ended_notes, end_of, opening, steps_of}
+use Rattle.vdcp_drive.specs.declared.hooks.Kept.TheVariants as row
+use Rattle.vdcp_drive.specs.declared.hooks.KeptFault.{KeptFault}
 use Rattle.vdcp_drive.specs.declared.line.Ran.{Ran}
 
 front_of_front : (unit : ℕ) (kept : Option Command) (front rest : List ℕ) → IsFrontOf unit kept (front ++ rest)
@@ -50,15 +50,16 @@ opening_safe : {E : Type 0} (fold : Fold E) (plan : Plan) (unit : ℕ) (a : Auto
     → AreSafe unit None later → AreSafe unit None (opening fold plan unit a ++ later)
 opening_safe fold plan unit a later h = opening_by fold.drops unit (given plan a.state) later h
 
-pub steps_safe : {E : Type 0} (fold : Fold E) (plan : Plan) (unit : ℕ) (a : Auto E) (came : List Arrival)
-    (more : List Step) → AreSafe unit None more → AreSafe unit None (steps_of fold plan unit a came ++ more)
+pub steps_safe : {E : Type 0} (fold : Fold E) (plan : Plan) (unit : ℕ) (a : Auto E) (events : List Event)
+    (more : List Step) → AreSafe unit None more → AreSafe unit None (steps_of fold plan unit a events ++ more)
 steps_safe fold plan unit a [] more h = h
-steps_safe {E} fold plan unit a (what ∷ later) more h =
+steps_safe fold plan unit a (calls c ∷ later) more h = steps_safe fold plan unit (heeds c a) later more h
+steps_safe {E} fold plan unit a (arrives what ∷ later) more h =
     let b : Auto E = listens fold plan unit what (gives a) in
     let rest : List Step = steps_of fold plan unit b later in
     let es : List Exchange = ended plan (inputs fold unit what a.ear) (ticked a.state) in
     simp append_assoc (simp append_assoc at (opening_safe fold plan unit a
-    (looks (ticked a.state) ∷ acts (brings what) ∷ map keeps (ended_notes es) ++ (rest ++ more))
+    (acts (brings what) ∷ map keeps (ended_notes es) ++ (rest ++ more))
     (ends_safe unit es (rest ++ more) (steps_safe fold plan unit b later more h))))
 
 ending_by : (first : Bool) (unit : ℕ) (c : Command) (front rest : List ℕ) → command_bytes unit c ≡ front ++ rest
@@ -70,19 +71,19 @@ ending_safe : {E : Type 0} (fold : Fold E) (plan : Plan) (unit count : ℕ) (cam
     (answer : Result Ran KeptFault) (more : List Step) (a' : Auto E) → Ending fold plan unit count came a answer more a'
     → AreSafe unit None more
 ending_safe fold plan unit count came a answer more a' (by_itself r is to none left) = rw none tt
-ending_safe fold plan unit count came a answer more a' (in_keep c is gives_it are left) = rw are tt
+ending_safe fold plan unit count came a answer more a' (in_keep (row.Sent c) is going are left) = rw are tt
+ending_safe fold plan unit count came a answer more a' (in_keep r is going are left) = rw are tt
 ending_safe fold plan unit count came a answer more a' (in_drop c is first gives_it are left) = rw are tt
 ending_safe fold plan unit count came a answer more a' (in_send c front rest is gives_it parts are left) =
     rw are (ending_by fold.drops unit c front rest parts)
 ending_safe fold plan unit count came a answer more a' (in_listen is are left) =
-    rw are (opening_safe fold plan unit a (looks (ticked a.state) ∷ acts fails ∷ []) tt)
+    rw are (opening_safe fold plan unit a (acts fails ∷ []) tt)
 
 -- at each moment of each run
-pub run_safe : {E W K V : Type 0} (rules : Rules W K V) (fold : Fold E) (plan : Plan) (unit count : ℕ) (a a' : Auto E)
-    (world world' : World W K V) (answer : Result Ran KeptFault)
-    → (h : HasRun rules fold plan unit count a a' world world' answer)
-    → (some : List Step) → IsCut some (steps_of fold plan unit a h.came ++ h.more) → AreSafe unit None some
-run_safe rules fold plan unit count a a' world world' answer h some cut =
-    safe_when_cut unit None some (steps_of fold plan unit a h.came ++ h.more) cut
-    (steps_safe fold plan unit a h.came h.more
-    (ending_safe fold plan unit count h.came (after fold plan unit a h.came) answer h.more a' h.ending))
+pub run_safe : {E : Type 0} (can : Bool) (fold : Fold E) (plan : Plan) (unit count : ℕ) (a a' : Auto E)
+    (answer : Result Ran KeptFault) → (h : IsRun can fold plan unit count a a' answer)
+    → (some : List Step) → IsCut some (steps_in h) → AreSafe unit None some
+run_safe can fold plan unit count a a' answer h some cut =
+    safe_when_cut unit None some (steps_of fold plan unit a h.events ++ h.more) cut
+    (steps_safe fold plan unit a h.events h.more
+    (ending_safe fold plan unit count (arrivals h.events) (after fold plan unit a h.events) answer h.more a' h.ending))

@@ -1,16 +1,13 @@
 -- One command that goes out.
 use Rattle.std.proofs.Common.{ℕ, ◌≡◌, Bool, List, [], ◌∷◌, refl, subst}
-use Rattle.std.specs.Prelude.{Some, Err}
+use Rattle.std.specs.Prelude.{Some}
 use Rattle.vdcp_words.specs.declared.command.Command.{Command}
 use Rattle.vdcp_auto.specs.Plan.{Plan}
 use Rattle.vdcp_auto.specs.State.{State}
 use Rattle.vdcp_auto.specs.Turn.{given, ticked}
 use Rattle.vdcp_wire.specs.Acts.{Act, sends, OfFront}
-use Rattle.vdcp_drive.specs.Leaves.{HasKeptAndSent, HasSendBroken, in_send}
+use Rattle.vdcp_drive.specs.Leaves.{HasSendBroken, in_send}
 use Rattle.vdcp_drive.specs.Steps.{Chain, command_bytes, dropping}
-use Rattle.vdcp_drive.specs.declared.keep.Kept.{Kept}
-use Rattle.vdcp_drive.specs.declared.keep.KeptFault.{KeptFault}
-use Rattle.vdcp_drive.specs.declared.keep.KeptFault.TheVariants as fault
 use Rattle.vdcp_drive.proofs.Chains.{chain_both}
 
 pub send_broke : {W : Type 0} (does : Act → W → W → Type 0) (first : Bool) (plan : Plan) (unit : ℕ) (state state' : State)
@@ -21,11 +18,3 @@ send_broke does first plan unit state state' c bytes w w₁ w₂ gives_it ticks 
     let b = subst (λ (l : List ℕ). OfFront l (λ front. does (sends front) w₁ w₂)) is broke in
     in_send c b.front b.rest gives_it ticks b.parts
     (chain_both does (dropping first) (sends b.front ∷ []) w w₁ w₂ dropped (w₂, b.is_so, refl))
-
--- the wire failed
-pub broken_by : {W K : Type 0} (does : Act → W → W → Type 0) (adds : Kept → K → K → Type 0)
-    (loses : Command → K → K → Type 0) (first : Bool) (plan : Plan) (unit : ℕ) (s s' : State) (w w' : W) (k k' : K)
-    (f : KeptFault) → f ≡ fault.Device → HasKeptAndSent does adds loses first plan unit s s' w w' k k' (Err f)
-    → HasSendBroken does first plan unit s s' w w'
-broken_by does adds loses first plan unit s s' w w' k k' fault.Device is h = h.1
-broken_by does adds loses first plan unit s s' w w' k k' fault.Unkept is h = cc

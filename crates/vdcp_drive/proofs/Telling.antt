@@ -13,23 +13,23 @@ use Rattle.vdcp_wire.specs.Wires.{Arrival, Told, IfTold, bytes, silence, close, 
 use Rattle.vdcp_wire.specs.WireLaws.{closed_bytes, closed_silence, closed_close}
 use Rattle.vdcp_wire.specs.Acts.{Act, sends, brings, drops}
 use Rattle.vdcp_drive.specs.Steps.{Chain}
-use Rattle.vdcp_drive.specs.Auto.{Auto, after, log_of}
+use Rattle.vdcp_drive.specs.Auto.{Auto, AreMade, Event, after, arrivals, arrives, calls, gives, listens, log_of}
 use Rattle.vdcp_drive.specs.Ears.{Fold}
 use Rattle.vdcp_drive.specs.Leaves.{Ending, by_itself, in_keep, in_drop, in_send, in_listen, HasRun, RunsTo}
 use Rattle.vdcp_drive.specs.Steps.{Step, acts, Rules, World, Happens, end_of, steps_of}
 use Rattle.vdcp_wire.specs.Streams.{StreamDoes, Streamed}
 use Rattle.vdcp_wire.specs.Acts.{Tells, told_after}
 use Rattle.vdcp_drive.specs.Tells.{RunsOn, told_after_all}
-use Rattle.vdcp_drive.specs.Traces.{acts_in, kept_in, sent_in, came_in, drops_in, commands_kept, bytes_of, kept_of, until_close}
-use Rattle.vdcp_drive.specs.declared.keep.Kept.{Kept}
-use Rattle.vdcp_drive.specs.declared.keep.Kept.TheVariants as row
+use Rattle.vdcp_drive.specs.Traces.{acts_in, kept_in, sent_in, came_in, drops_in, commands_kept, bytes_of, exchanged, kept_of, until_close}
+use Rattle.vdcp_drive.specs.declared.hooks.Kept.{Kept}
+use Rattle.vdcp_drive.specs.declared.hooks.Kept.TheVariants as row
 use Rattle.vdcp_drive.specs.declared.line.Ran.{Ran}
 use Rattle.vdcp_drive.proofs.Tracing.{commands_both, steps_kept, steps_bytes, steps_came, steps_drops}
 
 -- what happens on the wire
-pub on_wire : {W K V : Type 0} (rules : Rules W K V) (xs : List Step) (old new : World W K V) → Happens rules xs old new
+pub on_wire : {W J : Type 0} (rules : Rules W J) (xs : List Step) (old new : World W J) → Happens rules xs old new
     → Chain rules.does (acts_in xs) old.wire new.wire
-on_wire rules [] old new h = ap (λ (w : World _ _ _). w.wire) h
+on_wire rules [] old new h = ap (λ (w : World _ _). w.wire) h
 on_wire rules (acts a ∷ xs) old new h = (h.0.wire, h.1.0, on_wire rules xs h.0 new h.2)
 on_wire rules (x ∷ xs) old new h = rw h.1.1 at (on_wire rules xs h.0 new h.2)
 
@@ -90,12 +90,28 @@ commands_logged [] = refl
 commands_logged (e ∷ log) = command_first e e.heard (kept_of log)
     ∙ ap (λ (l : List Command). e.command ∷ l) (commands_logged log)
 
-pub steps_commands : {E : Type 0} (fold : Fold E) (plan : Plan) (unit : ℕ) (a : Auto E) (came : List Arrival)
-    → option_to_list (awaited plan a.state) ++ commands_kept (kept_in (steps_of fold plan unit a came))
-    ≡ map (λ e. e.command) (log_of fold plan unit a came)
-    ++ option_to_list (awaited plan (after fold plan unit a came).state)
-steps_commands fold plan unit a came =
-    simp (commands_both, commands_awaited, commands_logged) at (ap commands_kept (steps_kept fold plan unit a came))
+commands_exchanged : (rows : List Kept) → commands_kept (exchanged rows) ≡ commands_kept rows
+commands_exchanged [] = refl
+commands_exchanged (row.Called c ∷ rows) = commands_exchanged rows
+commands_exchanged (row.Sent c ∷ rows) = ap (λ (l : List Command). c ∷ l) (commands_exchanged rows)
+commands_exchanged (row.Heard h ∷ rows) = commands_exchanged rows
+commands_exchanged (row.Silence ∷ rows) = commands_exchanged rows
+
+pub steps_commands : {E : Type 0} (fold : Fold E) (plan : Plan) (unit : ℕ) (a : Auto E) (events : List Event)
+    → option_to_list (awaited plan a.state) ++ commands_kept (kept_in (steps_of fold plan unit a events))
+    ≡ map (λ e. e.command) (log_of fold plan unit a events)
+    ++ option_to_list (awaited plan (after fold plan unit a events).state)
+steps_commands fold plan unit a events =
+    simp (commands_both, commands_awaited, commands_logged, commands_exchanged) at (ap commands_kept
+    (steps_kept fold plan unit a events))
+
+-- No calls are made.
+pub no_calls : {E : Type 0} (fold : Fold E) (plan : Plan) (unit : ℕ) (a : Auto E) (events : List Event)
+    → AreMade false fold plan unit a events → events ≡ map arrives (arrivals events)
+no_calls fold plan unit a [] h = refl
+no_calls fold plan unit a (arrives x ∷ later) h =
+    ap (λ (l : List Event). arrives x ∷ l) (no_calls fold plan unit (listens fold plan unit x (gives a)) later h)
+no_calls fold plan unit a (calls c ∷ later) h = let no = h.0 in cc
 
 -- A run that came to an answer.
 
@@ -108,37 +124,44 @@ answered : {E : Type 0} (fold : Fold E) (plan : Plan) (unit count : ℕ) (came :
     (more : List Step) (a' : Auto E) → Ending fold plan unit count came a (Ok r) more a' → Answered count came r a a' more
 answered fold plan unit count came a r more a' (by_itself s is to none left) =
     let same : s ≡ r = cc in record { to = rw same at to; nothing = none; auto_is = left }
-answered fold plan unit count came a r more a' (in_keep c is gives_it are left) = cc
+answered fold plan unit count came a r more a' (in_keep row is going are left) = cc
 answered fold plan unit count came a r more a' (in_drop c is first gives_it are left) = cc
 answered fold plan unit count came a r more a' (in_send c front rest is gives_it parts are left) = cc
 answered fold plan unit count came a r more a' (in_listen is are left) = cc
 
-pub run_tells : {E W K V : Type 0} (rules : Rules W K V) (told : W → Option Told)
-    → ((act : Act) (old new : W) → rules.does act old new → Tells act (told old) (told new))
-    → (fold : Fold E) (plan : Plan) (unit count : ℕ) (a a' : Auto E) (world world' : World W K V) (r : Ran) (t : Told)
-    → HasRun rules fold plan unit count a a' world world' (Ok r) → told world.wire ≡ Some t → has_closed t.came ≡ false
+-- of a run without calls
+pub run_tells : {E W J : Type 0} (does : Act → W → W → Type 0) (adds loses : Kept → J → J → Type 0) (told : W → Option Told)
+    → ((act : Act) (old new : W) → does act old new → Tells act (told old) (told new))
+    → (fold : Fold E) (plan : Plan) (unit count : ℕ) (a a' : Auto E) (world world' : World W J) (r : Ran) (t : Told)
+    → HasRun (record { does = does; adds = adds; loses = loses; can_call = false }) fold plan unit count a a' world world' (Ok r)
+    → told world.wire ≡ Some t → has_closed t.came ≡ false
     → IfTold (told world'.wire) (λ u. RunsOn fold plan unit count a a' r t u)
-run_tells {E} {W} {K} {V} rules told law fold plan unit count a a' world world' r t h is still =
-    let b : Auto E = after fold plan unit a h.came in
-    let e : Answered count h.came r b a' h.more = answered fold plan unit count h.came b r h.more a' h.ending in
-    let steps : List Step = steps_of fold plan unit a h.came in
+run_tells {E} {W} {J} does adds loses told law fold plan unit count a a' world world' r t h is still =
+    let rules : Rules W J = record { does = does; adds = adds; loses = loses; can_call = false } in
+    let b : Auto E = after fold plan unit a h.run.events in
+    let e : Answered count (arrivals h.run.events) r b a' h.run.more =
+    answered fold plan unit count (arrivals h.run.events) b r h.run.more a' h.run.ending in
+    let plain : h.run.events ≡ map arrives (arrivals h.run.events) = no_calls fold plan unit a h.run.events h.run.made in
+    let steps : List Step = steps_of fold plan unit a h.run.events in
     let cs : List Command = commands_kept (kept_in steps) in
     let happened = simp (e.nothing, append-nil) at h.happened in
     let u : Told = told_after_all (acts_in steps) t in (
       u,
-      tells_all rules.does told law (acts_in steps) world.wire world'.wire t (on_wire rules steps world world' happened) is,
+      tells_all does told law (acts_in steps) world.wire world'.wire t (on_wire rules steps world world' happened) is,
       record {
-        since = h.came;
-        octets = h.octets;
-        closes_last = h.closes_last;
-        answers = subst (λ (x : Auto E). RunsTo r (outcome_of x.state.stage) count h.came) (sym e.auto_is) e.to;
-        came_is = simp (steps_came, h.closes_last) at (came_told (acts_in steps) t still);
-        auto_is = e.auto_is;
+        since = arrivals h.run.events;
+        octets = h.run.octets;
+        closes_last = h.run.closes_last;
+        answers = subst (λ (x : Auto E). RunsTo r (outcome_of x.state.stage) count (arrivals h.run.events)) (sym e.auto_is) e.to;
+        came_is = simp (steps_came, h.run.closes_last) at (came_told (acts_in steps) t still);
+        auto_is = e.auto_is ∙ ap (after fold plan unit a) plain;
         commands = cs;
-        commands_are = rw e.auto_is (steps_commands fold plan unit a h.came);
-        sent_is = sent_told (acts_in steps) t ∙ ap (λ (l : List ℕ). t.sent ++ l) (steps_bytes fold plan unit a h.came);
+        commands_are = subst (λ (l : List Event). option_to_list (awaited plan a.state) ++ cs
+            ≡ map (λ e. e.command) (log_of fold plan unit a l) ++ option_to_list (awaited plan a'.state)) plain
+            (rw e.auto_is (steps_commands fold plan unit a h.run.events));
+        sent_is = sent_told (acts_in steps) t ∙ ap (λ (l : List ℕ). t.sent ++ l) (steps_bytes fold plan unit a h.run.events);
         drops_are = drops_told (acts_in steps) t
-            ∙ ap (λ (l : List ℕ). t.drops ++ l) (steps_drops fold plan unit (length t.sent) a h.came);
+            ∙ ap (λ (l : List ℕ). t.drops ++ l) (steps_drops fold plan unit (length t.sent) a h.run.events);
       },
     )
 
@@ -152,9 +175,9 @@ no_err (Ok y) x is h = cc
 no_err (Err e) x is h = cc
 
 -- whatever the answer
-pub run_carries : {W K V : Type 0} (rules : Rules W K V) (told : W → Option Told)
+pub run_carries : {W J : Type 0} (rules : Rules W J) (told : W → Option Told)
     → ((act : Act) (old new : W) → rules.does act old new → Tells act (told old) (told new))
-    → (steps : List Step) (world world' : World W K V) (t : Told) → Happens rules steps world world'
+    → (steps : List Step) (world world' : World W J) (t : Told) → Happens rules steps world world'
     → told world.wire ≡ Some t → told world'.wire ≡ Some (told_after_all (acts_in steps) t)
 run_carries rules told law steps world world' t h is =
     tells_all rules.does told law (acts_in steps) world.wire world'.wire t (on_wire rules steps world world' h) is
@@ -176,16 +199,16 @@ stream_written (sends b ∷ xs) old new h =
 stream_written (x ∷ xs) old new h =
     keeps_appends old.written h.0.written new.written (sent_in xs) h.1.1 (stream_written xs h.0 new h.2)
 
-pub run_written : {E K V : Type 0} (rules : Rules Streamed K V) (fold : Fold E) (plan : Plan) (unit count : ℕ)
-    (a a' : Auto E) (world world' : World Streamed K V) (r : Ran)
+pub run_written : {E J : Type 0} (rules : Rules Streamed J) (fold : Fold E) (plan : Plan) (unit count : ℕ)
+    (a a' : Auto E) (world world' : World Streamed J) (r : Ran)
     → ((xs : List Act) (old new : Streamed) → Chain rules.does xs old new → Appends old.written new.written (sent_in xs))
     → (h : HasRun rules fold plan unit count a a' world world' (Ok r))
     → Appends world.wire.written world'.wire.written
-    (bytes_of unit (commands_kept (kept_in (steps_of fold plan unit a h.came))))
+    (bytes_of unit (commands_kept (kept_in (steps_of fold plan unit a h.run.events))))
 run_written rules fold plan unit count a a' world world' r law h =
-    let b = after fold plan unit a h.came in
-    let e : Answered count h.came r b a' h.more = answered fold plan unit count h.came b r h.more a' h.ending in
-    let steps : List Step = steps_of fold plan unit a h.came in
+    let b = after fold plan unit a h.run.events in
+    let e : Answered count (arrivals h.run.events) r b a' h.run.more = answered fold plan unit count (arrivals h.run.events) b r h.run.more a' h.run.ending in
+    let steps : List Step = steps_of fold plan unit a h.run.events in
     let happened = simp (e.nothing, append-nil) at h.happened in
-    subst (Appends world.wire.written world'.wire.written) (steps_bytes fold plan unit a h.came)
+    subst (Appends world.wire.written world'.wire.written) (steps_bytes fold plan unit a h.run.events)
     (law (acts_in steps) world.wire world'.wire (on_wire rules steps world world' happened))

@@ -16,12 +16,14 @@ use Rattle.vdcp_auto.specs.declared.phase.Transition.{Transition}
 use Rattle.vdcp_auto.specs.declared.phase.Transition.TheVariants.{Goes}
 use Rattle.vdcp_wire.specs.Wires.{Arrival}
 use Rattle.vdcp_wire.specs.Acts.{Act, sends, brings, drops}
-use Rattle.vdcp_drive.specs.Auto.{Auto, after, ended, gives, listens, log_of, receives}
+use Rattle.vdcp_drive.specs.Auto.{Auto, Event, after, arrivals, arrives, calls, ended, gives, heeds, listens, log_of, receives}
 use Rattle.vdcp_drive.specs.Ears.{Fold, inputs}
 use Rattle.vdcp_drive.specs.Steps.{Step, acts, keeps, command_bytes, sending, given_notes, ended_notes, end_of, opening, steps_of}
-use Rattle.vdcp_drive.specs.Traces.{acts_in, kept_in, sent_in, came_in, drops_in, commands_kept, bytes_of, kept_of, awaited_notes, places, starts_behind}
-use Rattle.vdcp_drive.specs.declared.keep.Kept.{Kept}
-use Rattle.vdcp_drive.specs.declared.keep.Kept.TheVariants as row
+use Rattle.vdcp_drive.specs.Traces.{acts_in, kept_in, sent_in, came_in, drops_in, commands_kept, bytes_of, exchanged, kept_of, awaited_notes, places, starts_behind}
+use Rattle.vdcp_drive.specs.declared.hooks.Call.{Call}
+use Rattle.vdcp_drive.specs.declared.hooks.Call.TheVariants as call
+use Rattle.vdcp_drive.specs.declared.hooks.Kept.{Kept}
+use Rattle.vdcp_drive.specs.declared.hooks.Kept.TheVariants as row
 
 -- Steps.
 
@@ -66,8 +68,15 @@ commands_both [] ys = refl
 commands_both (row.Sent c ∷ xs) ys = ap (λ (l : List Command). c ∷ l) (commands_both xs ys)
 commands_both (x ∷ xs) ys = commands_both xs ys
 
+pub exchanged_both : (xs ys : List Kept) → exchanged (xs ++ ys) ≡ exchanged xs ++ exchanged ys
+exchanged_both [] ys = refl
+exchanged_both (row.Called c ∷ xs) ys = exchanged_both xs ys
+exchanged_both (row.Sent c ∷ xs) ys = ap (λ (l : List Kept). row.Sent c ∷ l) (exchanged_both xs ys)
+exchanged_both (row.Heard h ∷ xs) ys = ap (λ (l : List Kept). row.Heard h ∷ l) (exchanged_both xs ys)
+exchanged_both (row.Silence ∷ xs) ys = ap (λ (l : List Kept). row.Silence ∷ l) (exchanged_both xs ys)
+
 -- what is in steps one after another
-pub ruleset traces = (acts_both, rows_both, acts_of_acts, acts_of_rows, rows_of_acts, rows_of_rows, sent_both, came_both, commands_both, map-append, flat_map-append, append-nil, append_assoc)
+pub ruleset traces = (acts_both, rows_both, acts_of_acts, acts_of_rows, rows_of_acts, rows_of_rows, sent_both, came_both, commands_both, exchanged_both, map-append, flat_map-append, append-nil, append_assoc)
 
 -- The controller.
 
@@ -136,19 +145,36 @@ opening_acts fold plan unit a = simp traces
 abbrev ends_in : {E : Type 0} → Fold E → Plan → ℕ → Arrival → Auto E → List Exchange
 ends_in fold plan unit what a = ended plan (inputs fold unit what a.ear) (ticked a.state)
 
+pub given_exchanged : (g : Option Command) → exchanged (given_notes g) ≡ given_notes g
+given_exchanged None = refl
+given_exchanged (Some c) = refl
+
+end_exchanged : (h : Option Heard) (rows : List Kept) → exchanged rows ≡ rows → exchanged (end_of h ∷ rows) ≡ end_of h ∷ rows
+end_exchanged None rows is = ap (λ (l : List Kept). row.Silence ∷ l) is
+end_exchanged (Some h) rows is = ap (λ (l : List Kept). row.Heard h ∷ l) is
+
+pub ended_exchanged : (log : List Exchange) → exchanged (ended_notes log) ≡ ended_notes log
+ended_exchanged [] = refl
+ended_exchanged (e ∷ log) = end_exchanged e.heard (ended_notes log) (ended_exchanged log)
+
+-- a call changes nothing that is awaited
+call_awaits : {E : Type 0} (plan : Plan) (c : Call) (a : Auto E) → awaited plan (heeds c a).state ≡ awaited plan a.state
+call_awaits plan call.Take a = refl
+call_awaits plan call.Stop a = refl
+
 -- The rows of a run, after the command that was awaited before it, are those of the exchanges that ended in it, and of
--- the command that is awaited behind it.
-pub steps_kept : {E : Type 0} (fold : Fold E) (plan : Plan) (unit : ℕ) (a : Auto E) (came : List Arrival)
-    → awaited_notes plan a.state ++ kept_in (steps_of fold plan unit a came)
-    ≡ kept_of (log_of fold plan unit a came) ++ awaited_notes plan (after fold plan unit a came).state
+-- the command that is awaited behind it; and its calls.
+pub steps_kept : {E : Type 0} (fold : Fold E) (plan : Plan) (unit : ℕ) (a : Auto E) (events : List Event)
+    → awaited_notes plan a.state ++ exchanged (kept_in (steps_of fold plan unit a events))
+    ≡ kept_of (log_of fold plan unit a events) ++ awaited_notes plan (after fold plan unit a events).state
 steps_kept fold plan unit a [] = append-nil (awaited_notes plan a.state)
-steps_kept {E} fold plan unit a (what ∷ later) =
+steps_kept {E} fold plan unit a (arrives what ∷ later) =
     let b : Auto E = listens fold plan unit what (gives a) in
     let es : List Exchange = ends_in fold plan unit what a in
     let given_is : List Kept = given_notes (given plan a.state) in
-    let more : List Kept = kept_in (steps_of fold plan unit b later) in
+    let more : List Kept = exchanged (kept_in (steps_of fold plan unit b later)) in
     let before : List Kept = awaited_notes plan a.state in
-    simp traces (cc (
+    simp (traces, given_exchanged, ended_exchanged) (cc (
       gives_notes plan a.state (given plan a.state) refl,
       steps_kept fold plan unit b later,
       receives_rows plan (inputs fold unit what a.ear) (ticked a.state),
@@ -156,6 +182,8 @@ steps_kept {E} fold plan unit a (what ∷ later) =
       append_assoc (awaited_notes plan (ticked a.state)) (ended_notes es) more,
       append_assoc (kept_of es) (awaited_notes plan b.state) more,
     ))
+steps_kept {E} fold plan unit a (calls c ∷ later) =
+    rw (call_awaits plan c a) at (steps_kept fold plan unit (heeds c a) later)
 
 -- What went out is the bytes of the commands of the rows, and nothing else.
 pub sending_bytes : (first : Bool) (unit : ℕ) (g : Option Command)
@@ -172,23 +200,25 @@ ends_nothing : (log : List Exchange) → commands_kept (ended_notes log) ≡ []
 ends_nothing [] = refl
 ends_nothing (e ∷ log) = end_nothing e.heard (ended_notes log) (ends_nothing log)
 
-pub steps_bytes : {E : Type 0} (fold : Fold E) (plan : Plan) (unit : ℕ) (a : Auto E) (came : List Arrival)
-    → sent_in (acts_in (steps_of fold plan unit a came))
-    ≡ bytes_of unit (commands_kept (kept_in (steps_of fold plan unit a came)))
+pub steps_bytes : {E : Type 0} (fold : Fold E) (plan : Plan) (unit : ℕ) (a : Auto E) (events : List Event)
+    → sent_in (acts_in (steps_of fold plan unit a events))
+    ≡ bytes_of unit (commands_kept (kept_in (steps_of fold plan unit a events)))
 steps_bytes fold plan unit a [] = refl
-steps_bytes fold plan unit a (what ∷ later) =
+steps_bytes fold plan unit a (arrives what ∷ later) =
     simp (traces, ends_nothing, sending_bytes, steps_bytes fold plan unit (listens fold plan unit what (gives a)) later)
+steps_bytes fold plan unit a (calls c ∷ later) = steps_bytes fold plan unit (heeds c a) later
 
 pub sending_came : (first : Bool) (unit : ℕ) (g : Option Command) → came_in (sending first unit g) ≡ []
 sending_came first unit None = refl
 sending_came true unit (Some c) = refl
 sending_came false unit (Some c) = refl
 
-pub steps_came : {E : Type 0} (fold : Fold E) (plan : Plan) (unit : ℕ) (a : Auto E) (came : List Arrival)
-    → came_in (acts_in (steps_of fold plan unit a came)) ≡ came
+pub steps_came : {E : Type 0} (fold : Fold E) (plan : Plan) (unit : ℕ) (a : Auto E) (events : List Event)
+    → came_in (acts_in (steps_of fold plan unit a events)) ≡ arrivals events
 steps_came fold plan unit a [] = refl
-steps_came fold plan unit a (what ∷ later) =
+steps_came fold plan unit a (arrives what ∷ later) =
     simp (traces, sending_came, steps_came fold plan unit (listens fold plan unit what (gives a)) later)
+steps_came fold plan unit a (calls c ∷ later) = steps_came fold plan unit (heeds c a) later
 
 -- Where what waits was dropped: before each command, or nowhere.
 pub drops_both : (n : ℕ) (xs ys : List Act) → drops_in n (xs ++ ys) ≡ drops_in n xs ++ drops_in (n + length (sent_in xs)) ys
@@ -215,14 +245,14 @@ places_both true unit n (c ∷ xs) ys =
     ∙ ap (λ (m : ℕ). starts_behind unit (n + length (command_bytes unit c)) xs ++ starts_behind unit m ys)
     (omega (arith, length-append (command_bytes unit c) (bytes_of unit xs))))
 
-pub steps_drops : {E : Type 0} (fold : Fold E) (plan : Plan) (unit n : ℕ) (a : Auto E) (came : List Arrival)
-    → drops_in n (acts_in (steps_of fold plan unit a came))
-    ≡ places fold.drops unit n (commands_kept (kept_in (steps_of fold plan unit a came)))
+pub steps_drops : {E : Type 0} (fold : Fold E) (plan : Plan) (unit n : ℕ) (a : Auto E) (events : List Event)
+    → drops_in n (acts_in (steps_of fold plan unit a events))
+    ≡ places fold.drops unit n (commands_kept (kept_in (steps_of fold plan unit a events)))
 steps_drops fold plan unit n a [] = by fold.drops where
   by : (first : Bool) → [] ≡ places first unit n []
   by true = refl
   by false = refl
-steps_drops {E} fold plan unit n a (what ∷ later) =
+steps_drops {E} fold plan unit n a (arrives what ∷ later) =
     let b : Auto E = listens fold plan unit what (gives a) in
     let cs : List Command = commands_kept (given_notes (given plan a.state)) in
     simp (traces, ends_nothing) (simp (
@@ -232,3 +262,4 @@ steps_drops {E} fold plan unit n a (what ∷ later) =
       steps_drops fold plan unit (n + length (bytes_of unit cs)) b later,
       places_both fold.drops unit n cs (commands_kept (kept_in (steps_of fold plan unit b later))),
     ))
+steps_drops fold plan unit n a (calls c ∷ later) = steps_drops fold plan unit n (heeds c a) later

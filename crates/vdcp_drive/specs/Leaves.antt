@@ -9,15 +9,16 @@ use Rattle.vdcp_auto.specs.Turn.{given, ticked, outcome_of}
 use Rattle.vdcp_auto.specs.declared.outcome.Outcome.{Outcome}
 use Rattle.vdcp_wire.specs.Wires.{Arrival, bytes, silence, close, has_closed}
 use Rattle.vdcp_wire.specs.Acts.{Act, sends, brings, fails}
-use Rattle.vdcp_drive.specs.Auto.{Auto, Driving, IsReachedFrom, auto_of, after, ended, gives, receives}
+use Rattle.vdcp_drive.specs.Auto.{Auto, AreMade, Driving, Event, IsReachedFrom, arrivals, auto_of, after, called, ended, gives, receives}
 use Rattle.vdcp_drive.specs.Ears.{Fold, inputs, ear_after}
 use Rattle.vdcp_drive.specs.Lines.{line_of}
-use Rattle.vdcp_drive.specs.Steps.{Chain, Step, acts, keeps, misses, looks, Rules, World, Happens, command_bytes, dropping, sending, ended_notes, given_notes, opening, steps_of}
+use Rattle.vdcp_drive.specs.Steps.{Chain, Step, acts, keeps, misses, Rules, World, Happens, command_bytes, dropping, sending, ended_notes, given_notes, opening, steps_of}
 use Rattle.vdcp_drive.specs.Traces.{until_close}
-use Rattle.vdcp_drive.specs.declared.keep.Kept.{Kept}
-use Rattle.vdcp_drive.specs.declared.keep.Kept.TheVariants as row
-use Rattle.vdcp_drive.specs.declared.keep.KeptFault.{KeptFault}
-use Rattle.vdcp_drive.specs.declared.keep.KeptFault.TheVariants as fault
+use Rattle.vdcp_drive.specs.declared.hooks.Call.{Call}
+use Rattle.vdcp_drive.specs.declared.hooks.Kept.{Kept}
+use Rattle.vdcp_drive.specs.declared.hooks.Kept.TheVariants as row
+use Rattle.vdcp_drive.specs.declared.hooks.KeptFault.{KeptFault}
+use Rattle.vdcp_drive.specs.declared.hooks.KeptFault.TheVariants as fault
 use Rattle.vdcp_drive.specs.declared.line.Line.{Line}
 use Rattle.vdcp_drive.specs.declared.line.Ran.{Ran}
 use Rattle.vdcp_drive.specs.declared.line.Ran.TheVariants as ran
@@ -39,21 +40,36 @@ HasSent does first plan unit state state' wire wire' (Ok is_sent) = (is_sent ≡
     × (state' ≡ ticked state) × Chain does (sending first unit (given plan state)) wire wire'
 HasSent does first plan unit state state' wire wire' (Err e) = HasSendBroken does first plan unit state state' wire wire'
 
+-- Before it a call may be made, which is kept and then given.
+pub data IsAsked {J : Type 0} (adds : Kept → J → J → Type 0) (can : Bool) (state state' : State) (keep keep' : J) :
+    Type 0 where
+  uncalled : state' ≡ state → keep' ≡ keep → IsAsked adds can state state' keep keep'
+  gave : (c : Call) → can ≡ true → outcome_of state.stage ≡ None → adds (row.Called c) keep keep' → state' ≡ called c state
+      → IsAsked adds can state state' keep keep'
+
+-- it couldn't be kept, and isn't given
+pub record HasMissed {J : Type 0} (loses : Kept → J → J → Type 0) (state state' : State) (keep keep' : J) : Type 0 where
+  pub call : Call
+  pub going : outcome_of state.stage ≡ None
+  pub lost : loses (row.Called call) keep keep'
+  pub stays : state' ≡ state
+
 -- the command that is given couldn't be kept
-abbrev pub Misses : {K : Type 0} → (Command → K → K → Type 0) → Option Command → K → K → Type 0
+abbrev pub Misses : {J : Type 0} → (Kept → J → J → Type 0) → Option Command → J → J → Type 0
 Misses loses None old new = ⊥
-Misses loses (Some c) old new = loses c old new
+Misses loses (Some c) old new = loses (row.Sent c) old new
 
 -- it is kept first
-abbrev pub HasKeptAndSent : {W K : Type 0} → (Act → W → W → Type 0) → (Kept → K → K → Type 0) → (Command → K → K → Type 0)
-    → Bool → Plan → ℕ → State → State → W → W → K → K → Result Bool KeptFault → Type 0
-HasKeptAndSent does adds loses first plan unit state state' wire wire' keep keep' (Err fault.Unkept) =
-    (state' ≡ state) × (wire' ≡ wire) × Misses loses (given plan state) keep keep'
-HasKeptAndSent does adds loses first plan unit state state' wire wire' keep keep' (Err fault.Device) =
-    Chain adds (given_notes (given plan state)) keep keep' × HasSendBroken does first plan unit state state' wire wire'
-HasKeptAndSent does adds loses first plan unit state state' wire wire' keep keep' (Ok is_sent) =
-    Chain adds (given_notes (given plan state)) keep keep' × (is_sent ≡ is_some (given plan state))
-    × (state' ≡ ticked state) × Chain does (sending first unit (given plan state)) wire wire'
+abbrev pub HasKeptAndSent : {W J : Type 0} → Rules W J → Bool → Plan → ℕ → State → State → World W J → World W J
+    → Result Bool KeptFault → Type 0
+HasKeptAndSent rules first plan unit state state' old new (Err fault.Unkept) =
+    (state' ≡ state) × (new.wire ≡ old.wire) × Misses rules.loses (given plan state) old.keep new.keep
+HasKeptAndSent rules first plan unit state state' old new (Err fault.Device) =
+    Chain rules.adds (given_notes (given plan state)) old.keep new.keep
+    × HasSendBroken rules.does first plan unit state state' old.wire new.wire
+HasKeptAndSent rules first plan unit state state' old new (Ok is_sent) =
+    Chain rules.adds (given_notes (given plan state)) old.keep new.keep × (is_sent ≡ is_some (given plan state))
+    × (state' ≡ ticked state) × Chain rules.does (sending first unit (given plan state)) old.wire new.wire
 
 -- A listen.
 
@@ -108,8 +124,8 @@ pub data Ending {E : Type 0} (fold : Fold E) (plan : Plan) (unit count : ℕ) (c
   -- by itself
   by_itself : (r : Ran) → answer ≡ Ok r → RunsTo r (outcome_of a.state.stage) count came → more ≡ [] → a' ≡ a
       → Ending fold plan unit count came a answer more a'
-  -- the next command couldn't be kept, and none of it was sent
-  in_keep : (c : Command) → answer ≡ Err fault.Unkept → given plan a.state ≡ Some c → more ≡ misses c ∷ [] → a' ≡ a
+  -- a call, or the next command, couldn't be kept: it wasn't given, or none of it was sent
+  in_keep : (r : Kept) → answer ≡ Err fault.Unkept → outcome_of a.state.stage ≡ None → more ≡ misses r ∷ [] → a' ≡ a
       → Ending fold plan unit count came a answer more a'
   -- the wire failed: in the drop before the next command, in its send, or in the listen
   in_drop : (c : Command) → answer ≡ Err fault.Device → fold.drops ≡ true → given plan a.state ≡ Some c
@@ -118,34 +134,45 @@ pub data Ending {E : Type 0} (fold : Fold E) (plan : Plan) (unit count : ℕ) (c
       → command_bytes unit c ≡ front ++ rest
       → more ≡ keeps (row.Sent c) ∷ map acts (dropping fold.drops ++ sends front ∷ []) → a' ≡ gives a
       → Ending fold plan unit count came a answer more a'
-  in_listen : answer ≡ Err fault.Device → more ≡ opening fold plan unit a ++ looks (ticked a.state) ∷ acts fails ∷ []
+  in_listen : answer ≡ Err fault.Device → more ≡ opening fold plan unit a ++ acts fails ∷ []
       → a' ≡ gives a → Ending fold plan unit count came a answer more a'
 
--- a run of at most this many listens gave this answer
-pub record HasRun {E W K V : Type 0} (rules : Rules W K V) (fold : Fold E) (plan : Plan) (unit count : ℕ) (a a' : Auto E)
-    (world world' : World W K V) (answer : Result Ran KeptFault) : Type 0 where
-  pub came : List Arrival
-  pub octets : All AreOctetsIn came
-  pub closes_last : until_close came ≡ came
+-- A run of at most this many listens gave this answer: what happened in it, and its last steps.
+pub record IsRun {E : Type 0} (can_call : Bool) (fold : Fold E) (plan : Plan) (unit count : ℕ) (a a' : Auto E)
+    (answer : Result Ran KeptFault) : Type 0 where
+  pub events : List Event
+  pub octets : All AreOctetsIn (arrivals events)
+  pub closes_last : until_close (arrivals events) ≡ arrivals events
+  pub made : AreMade can_call fold plan unit a events
   pub more : List Step
-  pub happened : Happens rules (steps_of fold plan unit a came ++ more) world world'
-  pub ending : Ending fold plan unit count came (after fold plan unit a came) answer more a'
+  pub ending : Ending fold plan unit count (arrivals events) (after fold plan unit a events) answer more a'
 
--- what a run of at most this many listens leaves of a driver, and of what keeps and watches, with this answer
-pub record RunLeaves {S E W K V : Type 0} (items : S → List Item) (rules : Rules W K V) (fold : Fold E)
-    (failures : W → ℕ) (listens : ℕ) (old new : Driving S E W) (keep keep' : K) (watch watch' : V)
+-- its steps
+abbrev pub steps_in : {E : Type 0} {can : Bool} {fold : Fold E} {plan : Plan} {unit count : ℕ} {a a' : Auto E}
+    {answer : Result Ran KeptFault} → IsRun can fold plan unit count a a' answer → List Step
+steps_in {E} {can} {fold} {plan} {unit} {count} {a} run = steps_of fold plan unit a run.events ++ run.more
+
+-- and they happened to what it ran on
+pub record HasRun {E W J : Type 0} (rules : Rules W J) (fold : Fold E) (plan : Plan) (unit count : ℕ) (a a' : Auto E)
+    (world world' : World W J) (answer : Result Ran KeptFault) : Type 0 where
+  pub run : IsRun rules.can_call fold plan unit count a a' answer
+  pub happened : Happens rules (steps_in run) world world'
+
+-- what a run of at most this many listens leaves of a driver, and of its hooks' journal, with this answer
+pub record RunLeaves {S E W J : Type 0} (items : S → List Item) (rules : Rules W J) (fold : Fold E)
+    (failures : W → ℕ) (listens : ℕ) (old new : Driving S E W) (keep keep' : J)
     (answer : Result Ran KeptFault) : Type 0 where
   pub runs : failures old.wire ≡ 0 → HasRun rules fold (plan_of items old.controller) old.unit listens
-      (auto_of old) (auto_of new) (record { wire = old.wire; keep = keep; watch = watch })
-      (record { wire = new.wire; keep = keep'; watch = watch' }) answer
+      (auto_of old) (auto_of new) (record { wire = old.wire; keep = keep })
+      (record { wire = new.wire; keep = keep' }) answer
   -- of any automation over any wire: the controller, whose plan and unit stay
   pub reached : IsReachedFrom (plan_of items old.controller) old.controller.state new.controller.state
   pub ended : IfOk answer (λ r. (r ≡ ran.Ended) ↔ IsSome (outcome_of new.controller.state.stage))
-  pub unsent : answer ≡ Err fault.Unkept → IsSome (given (plan_of items old.controller) new.controller.state)
+  pub unended : answer ≡ Err fault.Unkept → outcome_of new.controller.state.stage ≡ None
   pub controller : new.controller ≡ record old.controller { state = new.controller.state }
   pub unit : new.unit ≡ old.unit
   -- the wire: it fails exactly if the answer is that, and then for good
   pub works : OnOk answer (failures new.wire ≡ 0)
   pub unkept : answer ≡ Err fault.Unkept → failures new.wire ≡ 0
   pub device : answer ≡ Err fault.Device → failures new.wire ≡ 1
-  pub stays : failures old.wire ≡ 1 → IsErr answer × (new ≡ old) × (keep' ≡ keep) × (watch' ≡ watch)
+  pub stays : failures old.wire ≡ 1 → IsErr answer × (new ≡ old) × (keep' ≡ keep)

@@ -1,8 +1,8 @@
 -- What a driver answers to what came.
 use Rattle.std.specs.Prelude.{Bool, true, false, Option, Some, None, Result, Ok, Err}
 use Rattle.vdcp_auto.specs.declared.outcome.Outcome.{Outcome}
-use Rattle.vdcp_drive.specs.declared.keep.KeptFault.{KeptFault}
-use Rattle.vdcp_drive.specs.declared.keep.KeptFault.TheVariants as fault
+use Rattle.vdcp_drive.specs.declared.hooks.KeptFault.{KeptFault}
+use Rattle.vdcp_drive.specs.declared.hooks.KeptFault.TheVariants as fault
 use Rattle.vdcp_drive.specs.declared.line.Line.{Line}
 use Rattle.vdcp_drive.specs.declared.line.Line.TheVariants as line
 use Rattle.vdcp_drive.specs.declared.line.Ran.{Ran}

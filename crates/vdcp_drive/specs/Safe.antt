@@ -2,8 +2,8 @@
 use Rattle.std.specs.Prelude.{ℕ, ◌≡◌, List, [], ◌∷◌, ◌++◌, Option, None, Some}
 use Rattle.vdcp_words.specs.declared.command.Command.{Command}
 use Rattle.vdcp_wire.specs.Acts.{sends, brings, drops, fails}
-use Rattle.vdcp_drive.specs.Steps.{Step, acts, keeps, misses, looks, command_bytes}
-use Rattle.vdcp_drive.specs.declared.keep.Kept.TheVariants as row
+use Rattle.vdcp_drive.specs.Steps.{Step, acts, keeps, misses, command_bytes}
+use Rattle.vdcp_drive.specs.declared.hooks.Kept.TheVariants as row
 
 -- the bytes are a beginning of this command
 abbrev pub IsFrontOf : ℕ → Option Command → List ℕ → Type 0
@@ -16,8 +16,8 @@ AreSafe unit kept [] = Unit {0}
 AreSafe unit kept (keeps (row.Sent c) ∷ later) = AreSafe unit (Some c) later
 AreSafe unit kept (keeps (row.Heard h) ∷ later) = AreSafe unit kept later
 AreSafe unit kept (keeps row.Silence ∷ later) = AreSafe unit kept later
+AreSafe unit kept (keeps (row.Called c) ∷ later) = AreSafe unit kept later
 AreSafe unit kept (misses c ∷ later) = AreSafe unit kept later
-AreSafe unit kept (looks s ∷ later) = AreSafe unit kept later
 AreSafe unit kept (acts (sends bytes) ∷ later) = IsFrontOf unit kept bytes × AreSafe unit None later
 AreSafe unit kept (acts (brings what) ∷ later) = AreSafe unit kept later
 AreSafe unit kept (acts drops ∷ later) = AreSafe unit kept later

@@ -5,16 +5,15 @@ use Rattle.vdcp_frame.specs.Message.{spelling}
 use Rattle.vdcp_words.specs.Commands.{command_message}
 use Rattle.vdcp_words.specs.declared.command.Command.{Command}
 use Rattle.vdcp_auto.specs.Plan.{Plan}
-use Rattle.vdcp_auto.specs.State.{State}
 use Rattle.vdcp_auto.specs.Turn.{given, ticked}
 use Rattle.vdcp_auto.specs.declared.exchange.Exchange.{Exchange}
 use Rattle.vdcp_auto.specs.declared.exchange.Heard.{Heard}
 use Rattle.vdcp_wire.specs.Wires.{Arrival}
 use Rattle.vdcp_wire.specs.Acts.{Act, sends, brings, drops}
-use Rattle.vdcp_drive.specs.Auto.{Auto, ended, gives, listens}
+use Rattle.vdcp_drive.specs.Auto.{Auto, Event, arrives, calls, ended, gives, heeds, listens}
 use Rattle.vdcp_drive.specs.Ears.{Fold, inputs}
-use Rattle.vdcp_drive.specs.declared.keep.Kept.{Kept}
-use Rattle.vdcp_drive.specs.declared.keep.Kept.TheVariants as row
+use Rattle.vdcp_drive.specs.declared.hooks.Kept.{Kept}
+use Rattle.vdcp_drive.specs.declared.hooks.Kept.TheVariants as row
 
 -- one after another
 abbrev pub Chain : {A W : Type 0} → (A → W → W → Type 0) → List A → W → W → Type 0
@@ -24,33 +23,29 @@ Chain {A} {W} does (one ∷ more) old new = (next : W) × does one old next × C
 pub data Step : Type 0 where
   -- the wire does this
   acts : Act → Step
-  -- this is kept: a command is made safe, or what ended its exchange is noted
+  -- this is kept: a command or a call is made safe, or what ended an exchange is noted
   keeps : Kept → Step
-  -- this command can't be kept
-  misses : Command → Step
-  -- the watcher is lent the controller in this state
-  looks : State → Step
+  -- this can't be kept
+  misses : Kept → Step
 
--- what a driver runs on
-pub record World (W K V : Type 0) : Type 0 where
+-- what a driver runs on: its wire, and the journal of its hooks
+pub record World (W J : Type 0) : Type 0 where
   pub wire : W
-  pub keep : K
-  pub watch : V
+  pub keep : J
 
--- what each of these does in a step
-pub record Rules (W K V : Type 0) : Type 1 where
+-- what each of these does in a step; and whether calls are made
+pub record Rules (W J : Type 0) : Type 1 where
   pub does : Act → W → W → Type 0
-  pub adds : Kept → K → K → Type 0
-  pub loses : Command → K → K → Type 0
-  pub sees : State → V → V → Type 0
+  pub adds : Kept → J → J → Type 0
+  pub loses : Kept → J → J → Type 0
+  pub can_call : Bool
 
-abbrev pub Does : {W K V : Type 0} → Rules W K V → Step → World W K V → World W K V → Type 0
+abbrev pub Does : {W J : Type 0} → Rules W J → Step → World W J → World W J → Type 0
 Does rules (acts a) old new = rules.does a old.wire new.wire × (new ≡ record old { wire = new.wire })
 Does rules (keeps r) old new = rules.adds r old.keep new.keep × (new ≡ record old { keep = new.keep })
-Does rules (misses c) old new = rules.loses c old.keep new.keep × (new ≡ record old { keep = new.keep })
-Does rules (looks s) old new = rules.sees s old.watch new.watch × (new ≡ record old { watch = new.watch })
+Does rules (misses r) old new = rules.loses r old.keep new.keep × (new ≡ record old { keep = new.keep })
 
-abbrev pub Happens : {W K V : Type 0} → Rules W K V → List Step → World W K V → World W K V → Type 0
+abbrev pub Happens : {W J : Type 0} → Rules W J → List Step → World W J → World W J → Type 0
 Happens rules steps old new = Chain (Does rules) steps old new
 
 -- the bytes of a command to a unit
@@ -82,12 +77,14 @@ abbrev pub opening : {E : Type 0} → Fold E → Plan → ℕ → Auto E → Lis
 opening fold plan unit a = map keeps (given_notes (given plan a.state))
     ++ map acts (sending fold.drops unit (given plan a.state))
 
--- one round: the next command, a look, a listen, and the ends of the exchanges that it ended
+-- one round: the next command, a listen, and the ends of the exchanges that it ended
 abbrev pub round : {E : Type 0} → Fold E → Plan → ℕ → Arrival → Auto E → List Step
-round fold plan unit what a = opening fold plan unit a ++ looks (ticked a.state) ∷ acts (brings what)
+round fold plan unit what a = opening fold plan unit a ++ acts (brings what)
     ∷ map keeps (ended_notes (ended plan (inputs fold unit what a.ear) (ticked a.state)))
 
-abbrev pub steps_of : {E : Type 0} → Fold E → Plan → ℕ → Auto E → List Arrival → List Step
+-- a call is kept before it is given
+abbrev pub steps_of : {E : Type 0} → Fold E → Plan → ℕ → Auto E → List Event → List Step
 steps_of fold plan unit a [] = []
-steps_of fold plan unit a (what ∷ later) =
+steps_of fold plan unit a (arrives what ∷ later) =
     round fold plan unit what a ++ steps_of fold plan unit (listens fold plan unit what (gives a)) later
+steps_of fold plan unit a (calls c ∷ later) = keeps (row.Called c) ∷ steps_of fold plan unit (heeds c a) later

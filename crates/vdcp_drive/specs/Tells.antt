@@ -6,7 +6,7 @@ use Rattle.vdcp_auto.specs.Plan.{Plan}
 use Rattle.vdcp_auto.specs.Turn.{awaited, outcome_of}
 use Rattle.vdcp_wire.specs.Wires.{Arrival, Told}
 use Rattle.vdcp_wire.specs.Acts.{Act, told_after}
-use Rattle.vdcp_drive.specs.Auto.{Auto, after, gives, log_of}
+use Rattle.vdcp_drive.specs.Auto.{Auto, after, arrives, gives, log_of}
 use Rattle.vdcp_drive.specs.Ears.{Fold}
 use Rattle.vdcp_drive.specs.Leaves.{AreOctetsIn, RunsTo}
 use Rattle.vdcp_drive.specs.declared.line.Ran.{Ran}
@@ -26,10 +26,10 @@ pub record RunsOn {E : Type 0} (fold : Fold E) (plan : Plan) (unit count : ℕ) 
   pub closes_last : until_close since ≡ since
   pub answers : RunsTo r (outcome_of a'.state.stage) count since
   pub came_is : new.came ≡ old.came ++ since
-  pub auto_is : a' ≡ after fold plan unit a since
+  pub auto_is : a' ≡ after fold plan unit a (map arrives since)
   pub commands : List Command
   pub commands_are : option_to_list (awaited plan a.state) ++ commands
-      ≡ map (λ e. e.command) (log_of fold plan unit a since) ++ option_to_list (awaited plan a'.state)
+      ≡ map (λ e. e.command) (log_of fold plan unit a (map arrives since)) ++ option_to_list (awaited plan a'.state)
   pub sent_is : new.sent ≡ old.sent ++ bytes_of unit commands
   pub drops_are : new.drops ≡ old.drops ++ places fold.drops unit (length old.sent) commands
 
@@ -39,10 +39,10 @@ pub record BreaksOn {E : Type 0} (fold : Fold E) (plan : Plan) (unit : ℕ) (a a
   pub octets : All AreOctetsIn since
   pub closes_last : until_close since ≡ since
   pub came_is : new.came ≡ old.came ++ since
-  pub auto_is : (a' ≡ after fold plan unit a since) ⊎ (a' ≡ gives (after fold plan unit a since))
+  pub auto_is : (a' ≡ after fold plan unit a (map arrives since)) ⊎ (a' ≡ gives (after fold plan unit a (map arrives since)))
   pub commands : List Command
   pub commands_are : option_to_list (awaited plan a.state) ++ commands
-      ≡ map (λ e. e.command) (log_of fold plan unit a since) ++ option_to_list (awaited plan a'.state)
+      ≡ map (λ e. e.command) (log_of fold plan unit a (map arrives since)) ++ option_to_list (awaited plan a'.state)
   pub unsent : List ℕ
   pub sent_is : new.sent ++ unsent ≡ old.sent ++ bytes_of unit commands
   pub drops_are : new.drops ≡ old.drops ++ places fold.drops unit (length old.sent) commands

@@ -9,9 +9,9 @@ use Rattle.vdcp_auto.specs.Turn.{awaited}
 use Rattle.vdcp_auto.specs.declared.exchange.Exchange.{Exchange}
 use Rattle.vdcp_wire.specs.Wires.{Arrival, bytes, silence, close}
 use Rattle.vdcp_wire.specs.Acts.{Act, sends, brings, drops, fails}
-use Rattle.vdcp_drive.specs.Steps.{Step, acts, keeps, misses, looks, command_bytes, end_of}
-use Rattle.vdcp_drive.specs.declared.keep.Kept.{Kept}
-use Rattle.vdcp_drive.specs.declared.keep.Kept.TheVariants as row
+use Rattle.vdcp_drive.specs.Steps.{Step, acts, keeps, misses, command_bytes, end_of}
+use Rattle.vdcp_drive.specs.declared.hooks.Kept.{Kept}
+use Rattle.vdcp_drive.specs.declared.hooks.Kept.TheVariants as row
 
 -- those of the wire, and the rows of the keep
 abbrev pub acts_in : List Step → List Act
@@ -19,14 +19,12 @@ acts_in [] = []
 acts_in (acts a ∷ later) = a ∷ acts_in later
 acts_in (keeps r ∷ later) = acts_in later
 acts_in (misses c ∷ later) = acts_in later
-acts_in (looks s ∷ later) = acts_in later
 
 abbrev pub kept_in : List Step → List Kept
 kept_in [] = []
 kept_in (acts a ∷ later) = kept_in later
 kept_in (keeps r ∷ later) = r ∷ kept_in later
 kept_in (misses c ∷ later) = kept_in later
-kept_in (looks s ∷ later) = kept_in later
 
 -- what went out, what came, and how many bytes had gone out before each drop, if n had gone out before
 abbrev pub sent_in : List Act → List ℕ
@@ -56,6 +54,15 @@ commands_kept [] = []
 commands_kept (row.Sent c ∷ later) = c ∷ commands_kept later
 commands_kept (row.Heard h ∷ later) = commands_kept later
 commands_kept (row.Silence ∷ later) = commands_kept later
+commands_kept (row.Called c ∷ later) = commands_kept later
+
+-- the rows of exchanges alone
+abbrev pub exchanged : List Kept → List Kept
+exchanged [] = []
+exchanged (row.Sent c ∷ later) = row.Sent c ∷ exchanged later
+exchanged (row.Heard h ∷ later) = row.Heard h ∷ exchanged later
+exchanged (row.Silence ∷ later) = row.Silence ∷ exchanged later
+exchanged (row.Called c ∷ later) = exchanged later
 
 abbrev pub bytes_of : ℕ → List Command → List ℕ
 bytes_of unit commands = flat_map (command_bytes unit) commands

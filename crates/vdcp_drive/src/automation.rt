@@ -33,7 +33,7 @@ impl<S: Source, W: Wire> Driver<S, AtSilences, W> {
         Self::with_ear(controller, unit, AtSilences::new(), wire)
     }
 
-    /// As `run_with`, but nobody watches, nothing is kept and nothing waits.
+    /// As `run_with`, but without hooks.
     pub fn run(&mut self, listens: u64) -> Result<Ran, DriveFault>
         // a new automation over a fresh wire: the course of what came, also if the wire failed
         ensures course { IfOk result (λ _. self.old.controller.state ≡ start → self.old.ear ≡ begun (holds []) →
@@ -75,7 +75,7 @@ impl<S: Source, W: Wire> Driver<S, AtOnce, W> {
         Self::with_ear(controller, unit, AtOnce::new(), wire)
     }
 
-    /// As `run_with`, but nobody watches, nothing is kept and nothing waits.
+    /// As `run_with`, but without hooks.
     pub fn run(&mut self, listens: u64) -> Result<Ran, DriveFault>
         ensures tells { IfOk result (λ r. (t : Told) → W.told self.old.wire ≡ Some t → has_closed t.came ≡ false →
             IfTold (W.told self.new.wire) (λ u. RunsOn at_once (plan_of S.items self.old.controller) self.old.unit

@@ -6,16 +6,15 @@ ghost use Rattle.vdcp_auto.specs.Plan.{plan_of};
 ghost use Rattle.vdcp_auto.specs.Turn as turns;
 ghost use Rattle.vdcp_wire.specs.Wires.{IfTold, Told, has_closed};
 ghost use Rattle.vdcp_wire.specs.Acts.{fails};
-ghost use Rattle.vdcp_drive.specs.Auto.{IsReachedFrom, auto_of, ended, receives};
-ghost use Rattle.vdcp_drive.specs.Leaves.{HasKeptAndSent, HasListened, HasRun, HasSent, HearsPiece, Notes, RunLeaves};
+ghost use Rattle.vdcp_drive.specs.Auto.{IsReachedFrom, auto_of, called, ended, receives};
+ghost use Rattle.vdcp_drive.specs.Leaves.{HasKeptAndSent, HasListened, HasMissed, HasRun, HasSent, HearsPiece, IsAsked, Notes, RunLeaves};
 ghost use Rattle.vdcp_drive.specs.Lines.{is_broken, ran_of, ran_unless_ended};
 ghost use Rattle.vdcp_drive.specs.Tells.{BreaksOn, RunsOn};
 ghost use Rattle.vdcp_drive.specs.Steps.{Chain, dropping, ended_notes};
 
 use crate::ear::Ear;
-use crate::keep::{Keep, KeepFault, KeptFault, Unkept};
+use crate::hooks::{Call, Hooks, KeepFault, KeptFault, Unhooked};
 use crate::line::{DriveFault, Line, Ran};
-use crate::watch::{Pace, Unpaced, Unwatched, Watch};
 use std::marker::Model;
 use vdcp_auto::{Controller, Heard, Source};
 use vdcp_wire::{Came, PIECE, Wire, WireFault};
@@ -114,8 +113,7 @@ impl<S: Source, E: Ear, W: Wire> Driver<S, E, W> {
             self.unit,
             &self.ear,
             &mut self.wire,
-            &mut Unkept,
-            &mut Unpaced,
+            &mut Unhooked,
         ) {
             Ok(is_sent) => Ok(is_sent),
             Err(KeptFault::Device) => {
@@ -145,7 +143,7 @@ impl<S: Source, E: Ear, W: Wire> Driver<S, E, W> {
             self.unit,
             &mut self.ear,
             &mut self.wire,
-            &mut Unkept,
+            &mut Unhooked,
         ) {
             Ok(line) => Ok(line),
             Err(WireFault) => {
@@ -155,7 +153,7 @@ impl<S: Source, E: Ear, W: Wire> Driver<S, E, W> {
         }
     }
 
-    /// As `run_with`, but nobody watches, nothing is kept and nothing waits.
+    /// As `run_with`, but without hooks.
     pub(crate) fn run_on(&mut self, listens: u64) -> Result<Ran, DriveFault>
         ensures tells { IfOk result (λ r. (t : Told) → W.told self.old.wire ≡ Some t → has_closed t.came ≡ false →
             IfTold (W.told self.new.wire) (λ u. RunsOn E.fold (plan_of S.items self.old.controller) self.old.unit
@@ -173,7 +171,7 @@ impl<S: Source, E: Ear, W: Wire> Driver<S, E, W> {
         ensures device { OnErr result (W.failures self.new.wire ≡ 1) }
         ensures stays { W.failures self.old.wire ≡ 1 → IsErr result × (self.new ≡ self.old) }
     {
-        match self.run_with(listens, &mut Unwatched, &mut Unkept, &mut Unpaced) {
+        match self.run_with(listens, &mut Unhooked) {
             Ok(ran) => Ok(ran),
             Err(KeptFault::Device) => Err(DriveFault::Device),
             Err(KeptFault::Unkept) => unreachable!(),
@@ -181,20 +179,14 @@ impl<S: Source, E: Ear, W: Wire> Driver<S, E, W> {
     }
 
     /// Sends commands and hears what comes until the controller has ended, the other end has closed or this many
-    /// listens were made. It sends a command only if a listen for its answer is left. Before each command `pace`
-    /// waits and `keep` keeps it; `watch` is lent the controller before each listen.
-    /// `Device` if the wire fails or has failed before. `Unkept` if a command can't be kept: none of it is sent then,
-    /// and a later run tries again.
-    pub fn run_with<V: Watch<S>, K: Keep, P: Pace>(
-        &mut self,
-        listens: u64,
-        watch: &mut V,
-        keep: &mut K,
-        pace: &mut P,
-    ) -> Result<Ran, KeptFault>
-        ensures leaves { RunLeaves S.items (record { does = W.does; adds = K.adds; loses = K.loses; sees = V.sees })
-            E.fold W.failures listens self.old self.new keep.old keep.new watch.old watch.new result }
-        ensures fails { result ≡ Err KeptFault.Unkept → K.can_fail }
+    /// listens were made. It sends a command only if a listen for its answer is left. Before each listen the hooks may
+    /// wait and make a call, which is kept and then given; and each command is kept before it goes out.
+    /// `Device` if the wire fails or has failed before. `Unkept` if a command or a call can't be kept: none of it is
+    /// sent, or it isn't given, and a later run tries again.
+    pub fn run_with<H: Hooks<S>>(&mut self, listens: u64, hooks: &mut H) -> Result<Ran, KeptFault>
+        ensures leaves { RunLeaves S.items (record { does = W.does; adds = H.adds; loses = H.loses; can_call = H.can_call })
+            E.fold W.failures listens self.old self.new (H.journal hooks.old) (H.journal hooks.new) result }
+        ensures fails { result ≡ Err KeptFault.Unkept → H.can_fail }
     {
         if self.failed {
             return Err(KeptFault::Device);
@@ -206,9 +198,7 @@ impl<S: Source, E: Ear, W: Wire> Driver<S, E, W> {
                 self.unit,
                 &mut self.ear,
                 &mut self.wire,
-                watch,
-                keep,
-                pace,
+                hooks,
             );
             self.failed = is_broken(ran);
             if !is_spent(ran) {
@@ -232,38 +222,74 @@ impl<S: Source + Drop, E: Ear + Drop, W: Wire> Driver<S, E, W> {
     }
 }
 
-// Runs an automation for one listen: before it the next command goes out.
-fn run_round<S: Source, E: Ear, W: Wire, V: Watch<S>, K: Keep, P: Pace>(
+// Runs an automation for one listen: before it a call may be made, and the next command goes out.
+fn run_round<S: Source, E: Ear, W: Wire, H: Hooks<S>>(
     controller: &mut Controller<S>,
     unit: u8,
     ear: &mut E,
     wire: &mut W,
-    watch: &mut V,
-    keep: &mut K,
-    pace: &mut P,
+    hooks: &mut H,
 ) -> Result<Ran, KeptFault>
     requires unit { unit ≤ 15 }
     requires works { W.failures wire.old ≡ 0 }
-    ensures runs { HasRun (record { does = W.does; adds = K.adds; loses = K.loses; sees = V.sees }) E.fold
+    ensures runs { HasRun (record { does = W.does; adds = H.adds; loses = H.loses; can_call = H.can_call }) E.fold
         (plan_of S.items controller.old) unit 1
         (record { ear = ear.old; state = controller.old.state })
         (record { ear = ear.new; state = controller.new.state })
-        (record { wire = wire.old; keep = keep.old; watch = watch.old })
-        (record { wire = wire.new; keep = keep.new; watch = watch.new }) result }
+        (record { wire = wire.old; keep = H.journal hooks.old })
+        (record { wire = wire.new; keep = H.journal hooks.new }) result }
     ensures controller { controller.new ≡ record controller.old { state = controller.new.state } }
-    ensures fails { result ≡ Err KeptFault.Unkept → K.can_fail }
+    ensures fails { result ≡ Err KeptFault.Unkept → H.can_fail }
     ensures failures { W.failures wire.new ≡ (if is_broken result then 1 else 0) }
 {
-    if let Err(fault) = send_next(controller, unit, ear, wire, keep, pace) {
+    if let Err(KeepFault) = ask(controller, hooks) {
+        return Err(KeptFault::Unkept);
+    }
+    if let Err(fault) = send_next(controller, unit, ear, wire, hooks) {
         return Err(fault);
     }
     if !controller.awaiting() {
         return Ok(Ran::Ended);
     }
-    watch.look(controller);
-    match hear(controller, unit, ear, wire, keep) {
+    hooks.see(controller);
+    match hear(controller, unit, ear, wire, hooks) {
         Ok(line) => Ok(ran_of(controller, line)),
         Err(WireFault) => Err(KeptFault::Device),
+    }
+}
+
+// Has the hooks wait, and gives the call that they make, if they make one, once it is kept.
+fn ask<S: Source, H: Hooks<S>>(
+    controller: &mut Controller<S>,
+    hooks: &mut H,
+) -> Result<(), KeepFault>
+    ensures asked { OnOk result (IsAsked H.adds H.can_call controller.old.state controller.new.state
+        (H.journal hooks.old) (H.journal hooks.new)) }
+    ensures missed { OnErr result (HasMissed H.loses controller.old.state controller.new.state
+        (H.journal hooks.old) (H.journal hooks.new)) }
+    ensures controller { controller.new ≡ record controller.old { state = controller.new.state } }
+    ensures fails { OnErr result H.can_fail }
+{
+    if controller.outcome().is_some() {
+        return Ok(());
+    }
+    let Some(call) = hooks.due(controller) else {
+        return Ok(());
+    };
+    if let Err(KeepFault) = hooks.keep_call(call) {
+        return Err(KeepFault);
+    }
+    give(controller, call);
+    Ok(())
+}
+
+// Gives a controller this call.
+fn give<S: Source>(controller: &mut Controller<S>, call: Call)
+    ensures { controller.new ≡ record controller.old { state = called call controller.old.state } }
+{
+    match call {
+        Call::Take => controller.take(),
+        Call::Stop => controller.stop(),
     }
 }
 
@@ -293,29 +319,29 @@ fn is_broken(ran: Result<Ran, KeptFault>) -> bool
     matches!(ran, Err(KeptFault::Device))
 }
 
-// Waits by the pace, has the next command kept, and sends it, if there is one. Answers whether there was one.
-fn send_next<S: Source, E: Ear, W: Wire, K: Keep, P: Pace>(
+// Has the next command kept, and sends it, if there is one. Answers whether there was one.
+fn send_next<S: Source, E: Ear, W: Wire, H: Hooks<S>>(
     controller: &mut Controller<S>,
     unit: u8,
     ear: &E,
     wire: &mut W,
-    keep: &mut K,
-    pace: &mut P,
+    hooks: &mut H,
 ) -> Result<bool, KeptFault>
     requires unit { unit ≤ 15 }
     requires works { W.failures wire.old ≡ 0 }
-    ensures sends { HasKeptAndSent W.does K.adds K.loses E.fold.drops (plan_of S.items controller.old) unit
-        controller.old.state controller.new.state wire.old wire.new keep.old keep.new result }
+    ensures sends { HasKeptAndSent (record { does = W.does; adds = H.adds; loses = H.loses; can_call = H.can_call })
+        E.fold.drops (plan_of S.items controller.old) unit controller.old.state controller.new.state
+        (record { wire = wire.old; keep = H.journal hooks.old })
+        (record { wire = wire.new; keep = H.journal hooks.new }) result }
     ensures controller { controller.new ≡ record controller.old { state = controller.new.state } }
-    ensures fails { result ≡ Err KeptFault.Unkept → K.can_fail }
+    ensures fails { result ≡ Err KeptFault.Unkept → H.can_fail }
     ensures failures { W.failures wire.new ≡ (if is_broken result then 1 else 0) }
 {
     let Some(command) = controller.to_send() else {
         return Ok(false);
     };
-    pace.wait(&command);
     let bytes = command.encode(unit);
-    if let Err(KeepFault) = keep.keep_sent(unit, &command, bytes.as_slice()) {
+    if let Err(KeepFault) = hooks.keep_sent(unit, &command, bytes.as_slice()) {
         return Err(KeptFault::Unkept);
     }
     if ear.drops() && wire.drop_waiting().is_err() {
@@ -329,19 +355,19 @@ fn send_next<S: Source, E: Ear, W: Wire, K: Keep, P: Pace>(
 }
 
 // Listens once, hears what came, and has the end of each exchange noted.
-fn hear<S: Source, E: Ear, W: Wire, K: Keep>(
+fn hear<S: Source, E: Ear, W: Wire, H: Hooks<S>>(
     controller: &mut Controller<S>,
     unit: u8,
     ear: &mut E,
     wire: &mut W,
-    keep: &mut K,
+    hooks: &mut H,
 ) -> Result<Line, WireFault>
     requires { W.failures wire.old ≡ 0 }
     ensures hears { HasListened W.does E.fold (plan_of S.items controller.old) unit
-        (Notes K.adds E.fold (plan_of S.items controller.old) unit controller.old.state ear.old
-        keep.old keep.new) controller.old.state ear.old wire.old
+        (Notes H.adds E.fold (plan_of S.items controller.old) unit controller.old.state ear.old
+        (H.journal hooks.old) (H.journal hooks.new)) controller.old.state ear.old wire.old
         controller.new.state ear.new wire.new result }
-    ensures unnoted { OnErr result (keep.new ≡ keep.old) }
+    ensures unnoted { OnErr result (H.journal hooks.new ≡ H.journal hooks.old) }
     ensures controller { controller.new ≡ record controller.old { state = controller.new.state } }
     ensures works { OnOk result (W.failures wire.new ≡ 0) }
     ensures failed { OnErr result (W.failures wire.new ≡ 1) }
@@ -349,30 +375,30 @@ fn hear<S: Source, E: Ear, W: Wire, K: Keep>(
     let mut buffer = [0; PIECE];
     match wire.listen(&mut buffer)? {
         Came::Bytes(n) => {
-            hear_piece(controller, unit, ear, &buffer[..n], keep);
+            hear_piece(controller, unit, ear, &buffer[..n], hooks);
             Ok(Line::More)
         }
         Came::Silence => {
-            receive(controller, ear.rest(), keep);
+            receive(controller, ear.rest(), hooks);
             Ok(Line::Ended)
         }
         Came::Closed => {
-            receive(controller, ear.rest(), keep);
+            receive(controller, ear.rest(), hooks);
             Ok(Line::Closed)
         }
     }
 }
 
 // Hears each message that is heard at once in these bytes.
-fn hear_piece<S: Source, E: Ear, K: Keep>(
+fn hear_piece<S: Source, E: Ear, H: Hooks<S>>(
     controller: &mut Controller<S>,
     unit: u8,
     ear: &mut E,
     piece: &[u8],
-    keep: &mut K,
+    hooks: &mut H,
 )
-    ensures hears { HearsPiece E.fold K.adds (plan_of S.items controller.old) unit piece.now controller.old.state
-        ear.old keep.old controller.new.state ear.new keep.new }
+    ensures hears { HearsPiece E.fold H.adds (plan_of S.items controller.old) unit piece.now controller.old.state
+        ear.old (H.journal hooks.old) controller.new.state ear.new (H.journal hooks.new) }
     ensures octets { AreOctets piece.now }
     ensures controller { controller.new ≡ record controller.old { state = controller.new.state } }
 {
@@ -383,18 +409,22 @@ fn hear_piece<S: Source, E: Ear, K: Keep>(
         let Some(heard) = heard else {
             continue;
         };
-        receive(controller, Some(heard), keep);
+        receive(controller, Some(heard), hooks);
     }
 }
 
 // The controller receives what came, or that nothing came in time, and the exchange that this ended is noted.
-fn receive<S: Source, K: Keep>(controller: &mut Controller<S>, came: Option<Heard>, keep: &mut K)
+fn receive<S: Source, H: Hooks<S>>(
+    controller: &mut Controller<S>,
+    came: Option<Heard>,
+    hooks: &mut H,
+)
     ensures state { controller.new.state ≡ receives (plan_of S.items controller.old) (came ∷ []) controller.old.state }
-    ensures noted { Chain K.adds (ended_notes (ended (plan_of S.items controller.old) (came ∷ [])
-        controller.old.state)) keep.old keep.new }
+    ensures noted { Chain H.adds (ended_notes (ended (plan_of S.items controller.old) (came ∷ [])
+        controller.old.state)) (H.journal hooks.old) (H.journal hooks.new) }
     ensures controller { controller.new ≡ record controller.old { state = controller.new.state } }
 {
     if let Some(exchange) = controller.receive(came) {
-        keep.note_end(exchange.heard);
+        hooks.note_end(exchange.heard);
     }
 }

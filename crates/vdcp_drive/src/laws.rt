@@ -1,6 +1,6 @@
 //! The laws of the definitions that the contracts of this crate cite. The functions do nothing.
 ghost use Rattle.std.specs.Option.{option_to_list};
-ghost use Rattle.std.specs.Prelude.{◌≡◌, ◌≤◌, ℕ, All, List, [], ◌∷◌, ◌++◌, Result, Ok, Err, false, None, Some, map};
+ghost use Rattle.std.specs.Prelude.{◌≡◌, ◌≤◌, ◌+◌, ℕ, Bool, All, List, [], ◌∷◌, ◌++◌, Result, Ok, Err, false, None, Some, map};
 ghost use Rattle.std.specs.Io.KnownBytes.{Appends};
 ghost use Rattle.vdcp_auto.specs.Course.{Reached, course};
 ghost use Rattle.vdcp_auto.specs.Law.{IsLawful};
@@ -9,36 +9,36 @@ ghost use Rattle.vdcp_auto.specs.declared.exchange.Exchange.{Exchange};
 ghost use Rattle.vdcp_auto.specs.Plan.{Plan};
 ghost use Rattle.vdcp_auto.specs.Turn.{awaited};
 ghost use Rattle.vdcp_wire.specs.Wires.{Arrival, IfTold, Told, bytes, close, has_closed, nothing_told, silence};
-ghost use Rattle.vdcp_drive.specs.Auto.{Auto, after, log_of};
+ghost use Rattle.vdcp_drive.specs.Auto.{Auto, Event, after, arrivals, log_of};
 ghost use Rattle.vdcp_drive.specs.Courses.{HasCourse, HasCourseBroken, inputs_of, new_auto};
 ghost use Rattle.vdcp_drive.specs.Hearing.{Burst, at_silences};
 ghost use Rattle.vdcp_wire.specs.Streams.{StreamDoes, Streamed};
 ghost use Rattle.vdcp_drive.specs.Tells.{BreaksOn, RunsOn, told_after_all};
 ghost use Rattle.vdcp_frame.specs.Message.{Content};
-ghost use Rattle.vdcp_frame.specs.Progress.{Progress};
-ghost use Rattle.vdcp_port.specs.Clock.{ClockedPort};
-ghost use Rattle.vdcp_value.specs.declared.part.Item.{Item};
-ghost use Rattle.vdcp_wire.specs.Acts.{Act};
 ghost use Rattle.vdcp_frame.specs.Reading.{SpellsAll, IsUnfinished};
 ghost use Rattle.vdcp_drive.specs.Bursts.{ended_bursts, open_burst};
 ghost use Rattle.vdcp_drive.specs.Keeping.{KeepsRun};
-ghost use Rattle.vdcp_drive.specs.Leaves.{AreOctetsIn, HasRun};
+ghost use Rattle.vdcp_drive.specs.Leaves.{AreOctetsIn, HasRun, IsRun, steps_in};
 ghost use Rattle.vdcp_drive.specs.Reading.{Held, holds, completed, held_after};
-ghost use Rattle.vdcp_drive.specs.ServeLeaves.{ServeEnding};
-ghost use Rattle.vdcp_drive.specs.Served.{IsOpen, items_served, served, stands_at};
-ghost use Rattle.vdcp_drive.specs.Serving.{Look, Service, acts_of, items_in, left_by, looks_of};
 ghost use Rattle.vdcp_drive.specs.Safe.{AreSafe, IsCut};
 ghost use Rattle.vdcp_drive.specs.Below.{Below};
 ghost use Rattle.vdcp_drive.specs.Steps.{Chain, Happens, Step, World, steps_of};
-ghost use Rattle.vdcp_drive.specs.Traces.{acts_in, kept_in, sent_in, came_in, commands_kept, bytes_of, kept_of, awaited_notes, until_close};
+ghost use Rattle.vdcp_drive.specs.Traces.{acts_in, kept_in, sent_in, came_in, commands_kept, bytes_of, exchanged, kept_of, awaited_notes, until_close};
+ghost use Rattle.vdcp_port.specs.Clock.{ClockedPort};
+ghost use Rattle.vdcp_value.specs.declared.part.Item.{Item};
+ghost use Rattle.vdcp_frame.specs.Progress.{Progress};
+ghost use Rattle.vdcp_wire.specs.Acts.{Act};
+ghost use Rattle.vdcp_drive.specs.ServeLeaves.{ServeEnding};
+ghost use Rattle.vdcp_drive.specs.Served.{IsOpen, items_served, served, stands_at};
+ghost use Rattle.vdcp_drive.specs.Serving.{Look, Service, acts_of, items_in, left_by, looks_of};
 ghost use Rattle.vdcp_drive.specs.Watching.{tells_airing};
-ghost use Rattle.vdcp_drive.specs.declared.keep.KeptFault.{KeptFault};
 ghost use Rattle.vdcp_drive.specs.declared.line.DriveFault.{DriveFault};
+ghost use Rattle.vdcp_drive.specs.declared.hooks.KeptFault.{KeptFault};
 ghost use Rattle.vdcp_drive.specs.declared.line.Ran.{Ran};
 
 use crate::ear::Ear;
-use crate::keep::Keep;
-use crate::watch::{Watch, WatchPort};
+use crate::hooks::Hooks;
+use crate::watch::WatchPort;
 use vdcp_auto::{Source, laws as courses};
 use vdcp_frame::laws as bursts;
 use vdcp_port::{Catalogue, laws as answers};
@@ -86,29 +86,29 @@ pub fn a_run_is_lawful()
 }
 
 /// At each moment of a run, also in a send, what went out is commands whose row was safe before, and a beginning of one.
-pub fn what_goes_out_is_kept<S: Source, E: Ear, W: Wire, V: Watch<S>, K: Keep>()
-    ensures { (plan : Plan) (unit count : ℕ) (a a' : Auto E) (old new : World W K V) (answer : Result Ran KeptFault) →
-        (h : HasRun (record { does = W.does; adds = K.adds; loses = K.loses; sees = V.sees }) E.fold plan unit count
-        a a' old new answer) → (some : List Step) → IsCut some (steps_of E.fold plan unit a h.came ++ h.more) →
+pub fn what_goes_out_is_kept<E: Ear>()
+    ensures { (can : Bool) (plan : Plan) (unit count : ℕ) (a a' : Auto E) (answer : Result Ran KeptFault) →
+        (run : IsRun can E.fold plan unit count a a' answer) → (some : List Step) → IsCut some (steps_in run) →
         AreSafe unit None some }
 {}
 
 /// What a run keeps, whatever its automation, its answer and the state of its wire were.
-pub fn what_a_run_keeps<S: Source, E: Ear, W: Wire, V: Watch<S>, K: Keep>()
-    ensures { (plan : Plan) (unit count : ℕ) (a a' : Auto E) (old new : World W K V) (answer : Result Ran KeptFault) →
-        HasRun (record { does = W.does; adds = K.adds; loses = K.loses; sees = V.sees }) E.fold plan unit count
-        a a' old new answer →
-        KeepsRun K.adds K.loses W.told E.fold plan unit a a' old.wire new.wire answer old.keep new.keep }
+pub fn what_a_run_keeps<S: Source, E: Ear, W: Wire, H: Hooks<S>>()
+    ensures { (plan : Plan) (unit count : ℕ) (a a' : Auto E) (old new : World W H.Journal) (answer : Result Ran KeptFault) →
+        (h : HasRun (record { does = W.does; adds = H.adds; loses = H.loses; can_call = H.can_call }) E.fold plan unit count
+        a a' old new answer) →
+        KeepsRun H.adds H.loses W.told E.fold plan unit a a' old.wire new.wire answer old.keep new.keep
+        h.run.events (kept_in (steps_in h.run)) }
 {}
 
 /// A run has moments: between any two of its steps all that it runs on was in some state, to which its first steps led.
-pub fn a_run_has_moments<S: Source, E: Ear, W: Wire, V: Watch<S>, K: Keep>()
-    ensures { (plan : Plan) (unit count : ℕ) (a a' : Auto E) (old new : World W K V) (answer : Result Ran KeptFault) →
-        (h : HasRun (record { does = W.does; adds = K.adds; loses = K.loses; sees = V.sees }) E.fold plan unit count
-        a a' old new answer) → (some later : List Step) → steps_of E.fold plan unit a h.came ++ h.more ≡ some ++ later →
-        (moment : World W K V)
-        × Happens (record { does = W.does; adds = K.adds; loses = K.loses; sees = V.sees }) some old moment
-        × Happens (record { does = W.does; adds = K.adds; loses = K.loses; sees = V.sees }) later moment new }
+pub fn a_run_has_moments<S: Source, E: Ear, W: Wire, H: Hooks<S>>()
+    ensures { (plan : Plan) (unit count : ℕ) (a a' : Auto E) (old new : World W H.Journal) (answer : Result Ran KeptFault) →
+        (h : HasRun (record { does = W.does; adds = H.adds; loses = H.loses; can_call = H.can_call }) E.fold plan unit
+        count a a' old new answer) → (some later : List Step) → steps_in h.run ≡ some ++ later →
+        (moment : World W H.Journal)
+        × Happens (record { does = W.does; adds = H.adds; loses = H.loses; can_call = H.can_call }) some old moment
+        × Happens (record { does = W.does; adds = H.adds; loses = H.loses; can_call = H.can_call }) later moment new }
 {}
 
 /// What the steps of a run come to, from any automation. Take the row of the command that was awaited before the run, if
@@ -116,58 +116,66 @@ pub fn a_run_has_moments<S: Source, E: Ear, W: Wire, V: Watch<S>, K: Keep>()
 /// command that is awaited after it. The bytes that went out are those of the commands in the run's rows, and what came
 /// is what the steps brought.
 pub fn steps_are_exchanges<E: Ear>()
-    ensures rows { (plan : Plan) (unit : ℕ) (a : Auto E) (came : List Arrival) →
-        awaited_notes plan a.state ++ kept_in (steps_of E.fold plan unit a came)
-        ≡ kept_of (log_of E.fold plan unit a came) ++ awaited_notes plan (after E.fold plan unit a came).state }
-    ensures commands { (plan : Plan) (unit : ℕ) (a : Auto E) (came : List Arrival) →
-        option_to_list (awaited plan a.state) ++ commands_kept (kept_in (steps_of E.fold plan unit a came))
-        ≡ map (λ e. e.command) (log_of E.fold plan unit a came)
-        ++ option_to_list (awaited plan (after E.fold plan unit a came).state) }
-    ensures bytes { (plan : Plan) (unit : ℕ) (a : Auto E) (came : List Arrival) →
-        sent_in (acts_in (steps_of E.fold plan unit a came))
-        ≡ bytes_of unit (commands_kept (kept_in (steps_of E.fold plan unit a came))) }
-    ensures came { (plan : Plan) (unit : ℕ) (a : Auto E) (came : List Arrival) →
-        came_in (acts_in (steps_of E.fold plan unit a came)) ≡ came }
+    ensures rows { (plan : Plan) (unit : ℕ) (a : Auto E) (events : List Event) →
+        awaited_notes plan a.state ++ exchanged (kept_in (steps_of E.fold plan unit a events))
+        ≡ kept_of (log_of E.fold plan unit a events) ++ awaited_notes plan (after E.fold plan unit a events).state }
+    ensures commands { (plan : Plan) (unit : ℕ) (a : Auto E) (events : List Event) →
+        option_to_list (awaited plan a.state) ++ commands_kept (kept_in (steps_of E.fold plan unit a events))
+        ≡ map (λ e. e.command) (log_of E.fold plan unit a events)
+        ++ option_to_list (awaited plan (after E.fold plan unit a events).state) }
+    ensures bytes { (plan : Plan) (unit : ℕ) (a : Auto E) (events : List Event) →
+        sent_in (acts_in (steps_of E.fold plan unit a events))
+        ≡ bytes_of unit (commands_kept (kept_in (steps_of E.fold plan unit a events))) }
+    ensures came { (plan : Plan) (unit : ℕ) (a : Auto E) (events : List Event) →
+        came_in (acts_in (steps_of E.fold plan unit a events)) ≡ arrivals events }
 {}
 
 /// A run leads where calls of a controller lead, and its exchanges go on with the log; so all that holds of a controller
 /// and its log holds after each run.
 pub fn a_run_is_reached<E: Ear>()
-    ensures { (plan : Plan) (unit : ℕ) (a : Auto E) (came : List Arrival) (log : List Exchange) →
+    ensures { (plan : Plan) (unit : ℕ) (a : Auto E) (events : List Event) (log : List Exchange) →
         Reached plan a.state log →
-        Reached plan (after E.fold plan unit a came).state (log ++ log_of E.fold plan unit a came) }
+        Reached plan (after E.fold plan unit a events).state (log ++ log_of E.fold plan unit a events) }
 {}
 
-/// A run that goes on where another left is one run.
+/// What happens after what happened before is one.
 pub fn runs_go_on<E: Ear>()
-    ensures after { (plan : Plan) (unit : ℕ) (a : Auto E) (xs ys : List Arrival) →
+    ensures after { (plan : Plan) (unit : ℕ) (a : Auto E) (xs ys : List Event) →
         after E.fold plan unit a (xs ++ ys) ≡ after E.fold plan unit (after E.fold plan unit a xs) ys }
-    ensures steps { (plan : Plan) (unit : ℕ) (a : Auto E) (xs ys : List Arrival) →
+    ensures steps { (plan : Plan) (unit : ℕ) (a : Auto E) (xs ys : List Event) →
         steps_of E.fold plan unit a (xs ++ ys)
         ≡ steps_of E.fold plan unit a xs ++ steps_of E.fold plan unit (after E.fold plan unit a xs) ys }
 {}
 
+/// A run of which all listens were made, and then another from there on, are one run, whose steps are those of both.
+pub fn a_run_goes_on<E: Ear>()
+    ensures { (can : Bool) (plan : Plan) (unit m n : ℕ) (a b a' : Auto E) (answer : Result Ran KeptFault) →
+        (first : IsRun can E.fold plan unit m a b (Ok Ran.Spent)) →
+        (next : IsRun can E.fold plan unit n b a' answer) → (run : IsRun can E.fold plan unit (m + n) a a' answer)
+        × (steps_in run ≡ steps_in first ++ steps_in next) }
+{}
+
 /// What a wire tells after a run, whatever its answer, is what happened on it.
-pub fn a_wire_tells_what_happened<S: Source, E: Ear, W: Wire, V: Watch<S>, K: Keep>()
-    ensures { (plan : Plan) (unit count : ℕ) (a a' : Auto E) (old new : World W K V) (answer : Result Ran KeptFault) →
-        (h : HasRun (record { does = W.does; adds = K.adds; loses = K.loses; sees = V.sees }) E.fold plan unit count
-        a a' old new answer) → (t : Told) → W.told old.wire ≡ Some t →
-        W.told new.wire ≡ Some (told_after_all (acts_in (steps_of E.fold plan unit a h.came ++ h.more)) t) }
+pub fn a_wire_tells_what_happened<S: Source, E: Ear, W: Wire, H: Hooks<S>>()
+    ensures { (plan : Plan) (unit count : ℕ) (a a' : Auto E) (old new : World W H.Journal) (answer : Result Ran KeptFault) →
+        (h : HasRun (record { does = W.does; adds = H.adds; loses = H.loses; can_call = H.can_call }) E.fold plan unit
+        count a a' old new answer) → (t : Told) → W.told old.wire ≡ Some t →
+        W.told new.wire ≡ Some (told_after_all (acts_in (steps_in h.run)) t) }
 {}
 
 /// A stream whose bytes are known has gained, after a run that came to an answer, just the bytes of the commands that the
-/// keep has.
-pub fn a_stream_carries_a_run<S: Source, E: Ear, V: Watch<S>, K: Keep>()
-    ensures { (plan : Plan) (unit count : ℕ) (a a' : Auto E) (old new : World Streamed K V) (r : Ran) →
-        (h : HasRun (record { does = StreamDoes; adds = K.adds; loses = K.loses; sees = V.sees }) E.fold plan unit
-        count a a' old new (Ok r)) → Appends old.wire.written new.wire.written
-        (bytes_of unit (commands_kept (kept_in (steps_of E.fold plan unit a h.came)))) }
+/// journal has.
+pub fn a_stream_carries_a_run<S: Source, E: Ear, H: Hooks<S>>()
+    ensures { (plan : Plan) (unit count : ℕ) (a a' : Auto E) (old new : World Streamed H.Journal) (r : Ran) →
+        (h : HasRun (record { does = StreamDoes; adds = H.adds; loses = H.loses; can_call = H.can_call }) E.fold plan
+        unit count a a' old new (Ok r)) → Appends old.wire.written new.wire.written
+        (bytes_of unit (commands_kept (kept_in (steps_of E.fold plan unit a h.run.events)))) }
 {}
 
-/// The same for a run in which the wire failed: what it tells then.
-pub fn a_broken_run_tells<S: Source, E: Ear, W: Wire, V: Watch<S>, K: Keep>()
-    ensures { (plan : Plan) (unit count : ℕ) (a a' : Auto E) (old new : World W K V) (t : Told) →
-        HasRun (record { does = W.does; adds = K.adds; loses = K.loses; sees = V.sees }) E.fold plan unit count a a'
+/// A run without calls in which the wire failed: what it tells then.
+pub fn a_broken_run_tells<S: Source, E: Ear, W: Wire, H: Hooks<S>>()
+    ensures { (plan : Plan) (unit count : ℕ) (a a' : Auto E) (old new : World W H.Journal) (t : Told) →
+        HasRun (record { does = W.does; adds = H.adds; loses = H.loses; can_call = false }) E.fold plan unit count a a'
         old new (Err KeptFault.Device) → W.told old.wire ≡ Some t → has_closed t.came ≡ false →
         IfTold (W.told new.wire) (λ u. BreaksOn E.fold plan unit a a' t u) }
 {}

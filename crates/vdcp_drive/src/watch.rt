@@ -1,21 +1,6 @@
-//! Observers of an automation and of a port, and the pace of commands.
-use vdcp_auto::{Controller, Source};
+//! Observers of a port.
 use vdcp_port::{Catalogue, Port};
 use vdcp_value::Item;
-use vdcp_words::Command;
-
-/// Watches an automation run.
-pub trait Watch<S: Source> {
-    ghost use Rattle.std.specs.Prelude.{⊤};
-    ghost use Rattle.vdcp_auto.specs.State.{State};
-
-    /// From one of its states to the next it is lent a controller in this state, if it tells that.
-    ghost sees: { State → Self → Self → Type 0 } = { λ _ _ _. ⊤ };
-
-    /// It is lent the controller before each listen.
-    fn look(&mut self, controller: &Controller<S>)
-        ensures { sees controller.now.state self.old self.new };
-}
 
 /// Watches a server's port.
 pub trait WatchPort<C: Catalogue> {
@@ -35,24 +20,6 @@ pub trait WatchPort<C: Catalogue> {
 #[derive(Drop)]
 pub struct Unwatched;
 
-impl<S: Source> Watch<S> for Unwatched {
-    fn look(&mut self, _controller: &Controller<S>) {}
-}
-
 impl<C: Catalogue> WatchPort<C> for Unwatched {
     fn look(&mut self, _port: &Port<C>, _aired: Option<Item>) {}
-}
-
-/// Sets the pace of an automation's commands.
-pub trait Pace {
-    /// It is lent the command that goes out next, and may wait before that is kept.
-    fn wait(&mut self, command: &Command);
-}
-
-/// Waits for nothing.
-#[derive(Drop)]
-pub struct Unpaced;
-
-impl Pace for Unpaced {
-    fn wait(&mut self, _command: &Command) {}
 }

@@ -4,6 +4,7 @@ mod calls;
 mod clips;
 mod ends;
 mod expecting;
+mod hooks;
 mod loopback;
 mod memory;
 mod messages;

@@ -3,7 +3,7 @@ use super::calls::run;
 use super::ends::{Auto, automation, controller, failing_automation};
 use super::expecting::{expect, expect_row};
 use super::messages::{ACK, CLOSE, GRANTED, IDLE, OPEN, SELECT, STATUS};
-use super::scripts::{SILENCE, entry, spells};
+use super::scripts::{ALL_ANSWERED, SILENCE, entry, spells};
 use std::alloc::{AllocError, Global};
 use std::test::Fail;
 use vdcp_auto::Outcome;
@@ -17,10 +17,6 @@ struct Row {
     ran: Ran,
     outcome: Option<Outcome>,
 }
-
-const ALL_ANSWERED: &'static [&'static [u8]] = &[
-    GRANTED, SILENCE, ACK, SILENCE, IDLE, SILENCE, ACK, SILENCE,
-];
 
 // The other end closes after the last piece.
 static ROWS: [Row; 2] = [

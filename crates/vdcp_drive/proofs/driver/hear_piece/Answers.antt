@@ -12,7 +12,7 @@ piece-preserved-in_default g c =
     let xs : List ℕ = c.args.piece.now in record {
       within = omega (arith, e.within, ap (length {A = ℕ}) (take_rest xs c.piece.at), length-drop c.piece.at xs);
       controller = inv.controller;
-      hears = hears_further g.E.Ear.fold g.K.Keep.adds _ c.args.unit g.met.E.Ear.pieces xs c.piece.at _ _ _ _ _ _ _ _ _ _ _
+      hears = hears_further g.E.Ear.fold g.H.Hooks.adds _ c.args.unit g.met.E.Ear.pieces xs c.piece.at _ _ _ _ _ _ _ _ _ _ _
           inv.hears (rw c.in_default.is at e.hears) e.takes refl refl;
     }
 
@@ -26,7 +26,7 @@ piece-preserved g c =
     ap (plan_of g.S.Source.items) inv.controller in record {
       within = omega (arith, e.within, ap (length {A = ℕ}) (take_rest xs c.piece.at), length-drop c.piece.at xs);
       controller = r.controller ∙ ap (λ (v : View _). record v { state = c.receive.new.controller.state }) inv.controller;
-      hears = rw planned at (hears_further g.E.Ear.fold g.K.Keep.adds _ c.args.unit g.met.E.Ear.pieces xs c.piece.at _ _ _ _ _
+      hears = rw planned at (hears_further g.E.Ear.fold g.H.Hooks.adds _ c.args.unit g.met.E.Ear.pieces xs c.piece.at _ _ _ _ _
           _ _ _ _ _ _ (rw (← planned) at inv.hears) (rw c.in-Some.is at e.hears) e.takes r.state r.noted);
     }
 

@@ -7,8 +7,8 @@ abbrev pub invariant-piece : goal.invariant-piece
 invariant-piece g l = record {
   within : l.at ≤ length l.piece;
   controller : l.controller ≡ record l.fn.controller { state = l.controller.state };
-  hears : HearsPiece g.E.Ear.fold g.K.Keep.adds (plan_of g.S.Source.items l.fn.controller) l.unit
-      (take l.at l.piece) l.fn.controller.state l.fn.ear l.fn.keep l.controller.state l.ear l.keep;
+  hears : HearsPiece g.E.Ear.fold g.H.Hooks.adds (plan_of g.S.Source.items l.fn.controller) l.unit
+      (take l.at l.piece) l.fn.controller.state l.fn.ear (g.H.Hooks.journal l.fn.hooks) l.controller.state l.ear (g.H.Hooks.journal l.hooks);
 }
 
 abbrev pub decreases-piece : goal.decreases-piece

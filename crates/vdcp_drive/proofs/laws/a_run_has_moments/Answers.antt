@@ -5,10 +5,10 @@ use Rattle.vdcp_drive.proofs.laws.a_run_has_moments.Goals as goal
 
 pub returns : goal.returns
 returns g c plan unit count a b old new answer h some later is =
-    let rules : Rules _ _ _ = record {
+    let rules : Rules _ _ = record {
       does = g.W.Wire.does;
-      adds = g.K.Keep.adds;
-      loses = g.K.Keep.loses;
-      sees = g.V.Watch.sees;
+      adds = g.H.Hooks.adds;
+      loses = g.H.Hooks.loses;
+      can_call = g.H.Hooks.can_call;
     } in
     chain_split (Does rules) some later old new (subst (λ (l : List Step). Happens rules l old new) is h.happened)

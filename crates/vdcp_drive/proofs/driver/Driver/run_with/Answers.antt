@@ -5,7 +5,7 @@ use Rattle.vdcp_auto.specs.Plan.{View, plan_of}
 use Rattle.vdcp_auto.specs.Turn.{outcome_of}
 use Rattle.vdcp_auto.specs.declared.outcome.Outcome.{Outcome}
 use Rattle.vdcp_drive.specs.Lines.{is_broken, ran_unless_ended}
-use Rattle.vdcp_drive.specs.declared.keep.KeptFault.{KeptFault}
+use Rattle.vdcp_drive.specs.declared.hooks.KeptFault.{KeptFault}
 use Rattle.vdcp_drive.specs.declared.line.Ran.{Ran}
 use Rattle.vdcp_drive.specs.declared.line.Ran.TheVariants as ran
 use Rattle.vdcp_drive.proofs.Reaching.{run_leaves}
@@ -34,7 +34,7 @@ returns-then-not-is_spent-clause-leaves g c =
     let inv = c.listens.invariant in
     let n = c.run_round-ran.new in
     let worked : g.W.Wire.failures c.args.self.now.wire ≡ 0 = grind (arith, common_steps) in
-    run_leaves g.S.Source.items _ g.E.Ear.fold g.W.Wire.failures c.args.listens _ _ _ _ _ _ c.run_round-ran.result
+    run_leaves g.S.Source.items _ g.E.Ear.fold g.W.Wire.failures c.args.listens _ _ _ _ c.run_round-ran.result
     worked (run_over _ g.E.Ear.fold _ c.args.self.now.unit c.listens.made c.args.listens _ _ _ _ _ _ c.run_round-ran.result
     inv.stands c.listens-test.true (c.is_spent.ensures.not c.if-not-is_spent.true)
     (rw (ap (plan_of g.S.Source.items) inv.controller, inv.unit) at e.runs))
@@ -49,7 +49,7 @@ returns-clause-leaves g c =
       | in-Some w ↦ w.result-is ∙ ap answer (sym w.in-Some.is ∙ c.outcome.ensures)
       | in-None w ↦ w.result-is ∙ ap answer (sym w.in-None.is ∙ c.outcome.ensures)
     ] in
-    run_leaves g.S.Source.items _ g.E.Ear.fold g.W.Wire.failures c.args.listens _ _ _ _ _ _ c.match-outcome.result worked
+    run_leaves g.S.Source.items _ g.E.Ear.fold g.W.Wire.failures c.args.listens _ _ _ _ c.match-outcome.result worked
     (run_spent _ g.E.Ear.fold _ c.args.self.now.unit c.listens.made c.args.listens _ _ _ _ c.match-outcome.result inv.stands
     (omega (arith, inv.within, c.listens-test.false)) is) inv.controller inv.unit
     (inv.works ∙ sym (ap {B = ℕ} (λ (r : Result Ran KeptFault). if is_broken r then 1 else 0) is))

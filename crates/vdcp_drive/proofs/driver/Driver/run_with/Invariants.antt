@@ -15,12 +15,12 @@ invariant-listens g l =
       unit : now.unit ≡ l.fn.self.unit;
       stands : Stands (record {
         does = g.W.Wire.does;
-        adds = g.K.Keep.adds;
-        loses = g.K.Keep.loses;
-        sees = g.V.Watch.sees;
+        adds = g.H.Hooks.adds;
+        loses = g.H.Hooks.loses;
+        can_call = g.H.Hooks.can_call;
       }) g.E.Ear.fold (plan_of g.S.Source.items l.fn.self.controller) l.fn.self.unit l.made (auto_of l.fn.self)
-          (record { ear = now.ear; state = now.controller.state }) (at l.fn.self.wire l.fn.keep l.fn.watch)
-          (at now.wire l.keep l.watch);
+          (record { ear = now.ear; state = now.controller.state }) (at l.fn.self.wire (g.H.Hooks.journal l.fn.hooks))
+          (at now.wire (g.H.Hooks.journal l.hooks));
     }
 
 abbrev pub decreases-listens : goal.decreases-listens

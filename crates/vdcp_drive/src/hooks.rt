@@ -1,0 +1,226 @@
+//! What takes part in an automation's run beside its wire: what keeps its exchanges, makes calls and looks on.
+use thiserror::Error;
+use vdcp_auto::{Controller, Heard, Source};
+use vdcp_words::Command;
+
+/// A call of an operator.
+#[derive(Clone, Copy, Debug, PartialEq, Eq)]
+pub enum Call {
+    /// The next event goes to air though the last one still plays.
+    Take,
+    /// What plays ends, and nothing comes after it.
+    Stop,
+}
+
+/// What is kept of a run.
+#[derive(Clone, Copy, Debug, PartialEq, Eq)]
+pub enum Kept {
+    /// A command, before it goes out.
+    Sent(Command),
+    /// What was heard, which ended an exchange.
+    Heard(Heard),
+    /// That nothing came in time, which ended an exchange.
+    Silence,
+    /// A call, before it is given.
+    Called(Call),
+}
+
+/// A command or a call isn't kept.
+#[derive(Clone, Copy, Debug, PartialEq, Eq, Error)]
+#[error("it isn't kept")]
+pub struct KeepFault;
+
+/// Why a driver gives up that has its exchanges kept.
+#[derive(Clone, Copy, Debug, PartialEq, Eq, Error)]
+pub enum KeptFault {
+    /// The wire failed, in this call or an earlier one: the driver sends nothing any more.
+    #[error("the line failed")]
+    Device,
+    /// The next command couldn't be kept, and nothing of it was sent; or a call couldn't, and it wasn't given.
+    #[error("it isn't kept")]
+    Unkept,
+}
+
+/// Takes part in an automation's run.
+pub trait Hooks<S: Source> {
+    ghost use Rattle.std.specs.Prelude.{◌≡◌, OnErr, OnOk, IsSome, Bool, true, ⊤};
+    ghost use Rattle.vdcp_frame.specs.Message.{spelling};
+    ghost use Rattle.vdcp_words.specs.Commands.{command_message};
+    ghost use Rattle.vdcp_drive.specs.Steps.{end_of};
+    ghost use Rattle.vdcp_drive.specs.declared.hooks.Kept.{Kept};
+    ghost use Rattle.vdcp_drive.specs.declared.hooks.Kept.TheVariants as kept;
+
+    /// Its journal.
+    ghost Journal: { Type 0 };
+
+    ghost journal: { Self → Journal };
+
+    /// `adds note a b`: going from `a` to `b`, the journal kept this.
+    ghost adds: { Kept → Journal → Journal → Type 0 };
+
+    /// `loses note a b`: going from `a` to `b`, it failed to keep this.
+    ghost loses: { Kept → Journal → Journal → Type 0 };
+
+    /// Whether it can fail, and whether calls are made.
+    ghost can_fail: { Type 0 } = { ⊤ };
+
+    ghost can_call: { Bool } = { true };
+
+    /// It is lent the controller before each listen, before the next command goes out, unless it has ended. It may wait
+    /// before it answers, and answers with a call or none.
+    fn due(&mut self, _controller: &Controller<S>) -> Option<Call>
+        ensures due_keeps { journal self.new ≡ journal self.old }
+        ensures calls { IsSome result → can_call ≡ true }
+    {
+        None
+    }
+
+    /// It is given a call before the controller is, and makes it safe, with all that it noted before.
+    fn keep_call(&mut self, call: Call) -> Result<(), KeepFault>
+        ensures called { OnOk result (adds (kept.Called call) (journal self.old) (journal self.new)) }
+        ensures missed { OnErr result (loses (kept.Called call) (journal self.old) (journal self.new)) }
+        ensures call_fails { OnErr result can_fail };
+
+    /// It is given a command to this unit, and its bytes, before the first of them goes out, and makes it safe, with all
+    /// that it noted before. If it fails, the command may be missing, and the end of the exchange before it.
+    fn keep_sent(&mut self, unit: u8, command: &Command, bytes: &[u8]) -> Result<(), KeepFault>
+        requires { bytes.now ≡ spelling (command_message unit command.now) }
+        ensures kept { OnOk result (adds (kept.Sent command.now) (journal self.old) (journal self.new)) }
+        ensures lost { OnErr result (loses (kept.Sent command.now) (journal self.old) (journal self.new)) }
+        ensures fails { OnErr result can_fail };
+
+    /// It notes what ended an exchange: what was heard, or that nothing came in time. This is safe once the next
+    /// command is.
+    fn note_end(&mut self, heard: Option<Heard>)
+        ensures { adds (end_of heard) (journal self.old) (journal self.new) };
+
+    /// It is lent the controller before each listen, once the next command is out.
+    fn see(&mut self, _controller: &Controller<S>)
+        ensures { journal self.new ≡ journal self.old }
+    {}
+}
+
+/// Keeps nothing, makes no call and doesn't look on.
+#[derive(Drop)]
+pub struct Unhooked;
+
+impl<S: Source> Hooks<S> for Unhooked {
+    ghost use Rattle.std.specs.Prelude.{false};
+
+    ghost Journal = { Unit {0} };
+
+    ghost journal = { λ _. tt };
+
+    ghost adds = { λ _ _ _. Unit {0} };
+
+    ghost loses = { λ _ _ _. Unit {0} };
+
+    ghost can_fail = { ⊥ };
+
+    ghost can_call = { false };
+
+    fn keep_call(&mut self, _call: Call) -> Result<(), KeepFault> {
+        Ok(())
+    }
+
+    fn keep_sent(&mut self, _unit: u8, _command: &Command, _bytes: &[u8]) -> Result<(), KeepFault> {
+        Ok(())
+    }
+
+    fn note_end(&mut self, _heard: Option<Heard>) {}
+}
+
+/// These hooks, if there are any.
+impl<S: Source, H: Hooks<S>> Hooks<S> for Option<H> {
+    ghost use Rattle.std.specs.Option.{option_map};
+    ghost use Rattle.std.specs.Prelude.{Option};
+    ghost use Rattle.vdcp_drive.specs.Hooked.{MayKeep};
+
+    ghost Journal = { Option H.Journal };
+
+    ghost journal = { λ h. option_map H.journal h };
+
+    ghost adds = { MayKeep H.adds };
+
+    ghost loses = { MayKeep H.loses };
+
+    ghost can_fail = { H.can_fail };
+
+    ghost can_call = { H.can_call };
+
+    fn due(&mut self, controller: &Controller<S>) -> Option<Call> {
+        match self {
+            Some(hooks) => hooks.due(controller),
+            None => None,
+        }
+    }
+
+    fn keep_call(&mut self, call: Call) -> Result<(), KeepFault> {
+        match self {
+            Some(hooks) => hooks.keep_call(call),
+            None => Ok(()),
+        }
+    }
+
+    fn keep_sent(&mut self, unit: u8, command: &Command, bytes: &[u8]) -> Result<(), KeepFault> {
+        match self {
+            Some(hooks) => hooks.keep_sent(unit, command, bytes),
+            None => Ok(()),
+        }
+    }
+
+    fn note_end(&mut self, heard: Option<Heard>) {
+        if let Some(hooks) = self {
+            hooks.note_end(heard);
+        }
+    }
+
+    fn see(&mut self, controller: &Controller<S>) {
+        if let Some(hooks) = self {
+            hooks.see(controller);
+        }
+    }
+}
+
+/// What the one keeps, beside what the other does: it waits, makes calls and looks on, and its own journal isn't told of.
+#[derive(Drop)]
+pub struct Beside<K, O> {
+    /// What keeps.
+    pub keep: K,
+    /// What makes calls and looks on.
+    pub other: O,
+}
+
+impl<S: Source, K: Hooks<S>, O: Hooks<S>> Hooks<S> for Beside<K, O> {
+    ghost Journal = { K.Journal };
+
+    ghost journal = { λ h. K.journal h.keep };
+
+    ghost adds = { K.adds };
+
+    ghost loses = { K.loses };
+
+    ghost can_fail = { K.can_fail };
+
+    ghost can_call = { O.can_call };
+
+    fn due(&mut self, controller: &Controller<S>) -> Option<Call> {
+        self.other.due(controller)
+    }
+
+    fn keep_call(&mut self, call: Call) -> Result<(), KeepFault> {
+        self.keep.keep_call(call)
+    }
+
+    fn keep_sent(&mut self, unit: u8, command: &Command, bytes: &[u8]) -> Result<(), KeepFault> {
+        self.keep.keep_sent(unit, command, bytes)
+    }
+
+    fn note_end(&mut self, heard: Option<Heard>) {
+        self.keep.note_end(heard);
+    }
+
+    fn see(&mut self, controller: &Controller<S>) {
+        self.other.see(controller);
+    }
+}
