@@ -13,15 +13,17 @@ use Rattle.vdcp_auto.specs.Turn.{awaited, ticked}
 use Rattle.vdcp_auto.specs.declared.exchange.Exchange.{Exchange}
 use Rattle.vdcp_auto.specs.declared.exchange.Heard.{Heard}
 use Rattle.vdcp_auto.specs.declared.exchange.Heard.TheVariants as heard
-use Rattle.vdcp_drive.specs.Auto.{Auto, log_of}
+use Rattle.vdcp_drive.specs.Auto.{Auto, Event, log_of}
 use Rattle.vdcp_drive.specs.Ears.{Fold}
 use Rattle.vdcp_drive.specs.Keeping.{KeepsRun, notes_of}
 use Rattle.vdcp_drive.specs.Steps.{Chain, end_of}
-use Rattle.vdcp_drive.specs.Traces.{commands_kept, kept_of}
-use Rattle.vdcp_drive.specs.declared.keep.Kept.{Kept}
-use Rattle.vdcp_drive.specs.declared.keep.Kept.TheVariants as kept
-use Rattle.vdcp_drive.specs.declared.keep.KeptFault.{KeptFault}
-use Rattle.vdcp_drive.specs.declared.keep.KeptFault.TheVariants as fault
+use Rattle.vdcp_drive.specs.Traces.{commands_kept, exchanged, kept_of}
+use Rattle.vdcp_drive.specs.declared.hooks.Call.{Call}
+use Rattle.vdcp_drive.specs.declared.hooks.Call.TheVariants as call
+use Rattle.vdcp_drive.specs.declared.hooks.Kept.{Kept}
+use Rattle.vdcp_drive.specs.declared.hooks.Kept.TheVariants as kept
+use Rattle.vdcp_drive.specs.declared.hooks.KeptFault.{KeptFault}
+use Rattle.vdcp_drive.specs.declared.hooks.KeptFault.TheVariants as fault
 use Rattle.vdcp_drive.specs.declared.line.Ran.{Ran}
 use Rattle.vdcp_journal.specs.Rows.{fields_text, row_fields, rows_text}
 use Rattle.vdcp_journal.specs.Thinned.{IsThinned, asks_state, before_play, notes_in, takes, whole, without}
@@ -29,7 +31,7 @@ use Rattle.vdcp_journal.specs.declared.moment.Moment.{Moment}
 use Rattle.vdcp_journal.specs.declared.row.Note.{Note}
 use Rattle.vdcp_journal.specs.declared.row.Note.TheVariants as note
 use Rattle.vdcp_journal.specs.declared.row.Row.{Row}
-use Rattle.vdcp_journal_file.specs.Recorded.{IsNoAct, IsRecorded, IsTornBy, MayBeLeft, MayHold, KeepsRow, Loses, LosesRow, Notes, NotesEnd, acting, commands_of_note, commands_of_rows, note_for}
+use Rattle.vdcp_journal_file.specs.Recorded.{IsNoAct, IsRecorded, IsTornBy, MayBeLeft, MayHold, KeepsRow, Loses, LosesRow, Notes, NotesEnd, acting, call_note, commands_of_note, commands_of_rows, note_for}
 use Rattle.vdcp_journal_file.specs.Recording.{MakesBeginning, MakesSafe, Recording, after_row, announces, end_note, ended, is_again, is_announced, notes_seen, rows_due, rows_left, says_nothing_new, seen_before, seen_last, seen_of, with_play}
 use Rattle.vdcp_journal_file.specs.declared.pending.Pending.{Pending}
 use Rattle.vdcp_journal_file.specs.declared.pending.Pending.TheVariants as pending
@@ -181,6 +183,7 @@ is_pending (pending.Failed f) = true
 abbrev Alternates : Bool → List Kept → Type 0
 Alternates b [] = Unit {0}
 Alternates b (kept.Sent c ∷ more) = Alternates false more
+Alternates b (kept.Called c ∷ more) = Alternates false more
 Alternates false (kept.Heard h ∷ more) = Alternates true more
 Alternates false (kept.Silence ∷ more) = Alternates true more
 Alternates true (kept.Heard h ∷ more) = ⊥
@@ -202,6 +205,24 @@ notes_alternate : (b : Bool) (plan : Plan) (log : List Exchange) (state : State)
 notes_alternate b plan log state (Ok ran) = log_alternates b log (awaited plan state)
 notes_alternate b plan log state (Err fault.Device) = log_alternates b log (awaited plan (ticked state))
 notes_alternate b plan log state (Err fault.Unkept) = log_alternates b log (awaited plan state)
+
+alternates_less : (b : Bool) (notes : List Kept) → Alternates b notes → Alternates false notes
+alternates_less false notes h = h
+alternates_less true [] h = h
+alternates_less true (kept.Sent c ∷ more) h = h
+alternates_less true (kept.Called c ∷ more) h = h
+alternates_less true (kept.Heard x ∷ more) h = absurd h
+alternates_less true (kept.Silence ∷ more) h = absurd h
+
+-- also with the calls
+calls_alternate : (b : Bool) (notes : List Kept) → Alternates b (exchanged notes) → Alternates b notes
+calls_alternate b [] h = tt
+calls_alternate b (kept.Sent c ∷ more) h = calls_alternate false more h
+calls_alternate b (kept.Called c ∷ more) h = calls_alternate false more (alternates_less b (exchanged more) h)
+calls_alternate false (kept.Heard x ∷ more) h = calls_alternate true more h
+calls_alternate false (kept.Silence ∷ more) h = calls_alternate true more h
+calls_alternate true (kept.Heard x ∷ more) h = absurd h
+calls_alternate true (kept.Silence ∷ more) h = absurd h
 
 end_no_command : (heard : Option Heard) (more : List Kept) → commands_kept (end_of heard ∷ more) ≡ commands_kept more
 end_no_command None more = refl
@@ -593,9 +614,6 @@ not_pending p row true false is =
     subst (λ (q : Pending). is_pending (with_play q row) ≡ false) (sym (plays_after p row.note is).left) refl
 not_pending p row false false is = refl
 
-commands_more : (c : Command) (more : List Kept) → acting (commands_kept (kept.Sent c ∷ more)) ≡ acting (c ∷ []) ++ acting (commands_kept more)
-commands_more c more = acting_both (c ∷ []) (commands_kept more)
-
 -- the acts of one command and of those after it
 more_acts : (p q : Pending) (now rows : List Row) (last c more : List Command)
     → held p ++ c ≡ acting (commands_of_rows now) ++ held q → held q ++ more ≡ acting (commands_of_rows rows) ++ last
@@ -622,10 +640,13 @@ more_stands before seen now rows last front first next = record {
       ∙ sym (append_assoc front next.front (notes_seen last));
 }
 
-sent_more : {F : Type 0} (safe : F → Option (List ℕ)) (c : Command) (more : List Kept) (k l m : Recording F)
-    → Notes safe (kept.Sent c) k l → RowsOf safe more l m → RowsOf safe (kept.Sent c ∷ more) k m
-sent_more {F} safe c more k l m n r =
-    let row : Row = record { time = n.0; note = note.Sent c } in
+-- a command or a call
+row_more : {F : Type 0} (safe : F → Option (List ℕ)) (one : Kept) (more : List Kept) (k l m : Recording F)
+    → acting (commands_kept (one ∷ more)) ≡ acting (commands_of_note (note_for one)) ++ acting (commands_kept more)
+    → (Alternates (is_pending k.pending) (one ∷ more) → Alternates false more)
+    → KeepsRow safe (note_for one) k l → RowsOf safe more l m → RowsOf safe (one ∷ more) k m
+row_more {F} safe one more k l m parts goes n r =
+    let row : Row = record { time = n.0; note = note_for one } in
     let p : Pending = k.pending in
     let now : List Row = rows_due p row in
     let left : l.pending ≡ after_row p row = ap (λ (x : Recording F). x.pending) n.2 in
@@ -642,8 +663,8 @@ sent_more {F} safe c more k l m n r =
           r.appends);
       united = r.united ∙ same;
       acts = λ is.
-          ap (λ (l : List Command). held p ++ l) (commands_more c more)
-          ∙ more_acts p (after_row p row) now r.rows (held m.pending) (acting (c ∷ [])) (acting (commands_kept more))
+          ap (λ (l : List Command). held p ++ l) parts
+          ∙ more_acts p (after_row p row) now r.rows (held m.pending) (acting (commands_of_note (note_for one))) (acting (commands_kept more))
           (row_acts p row (says_nothing_new p row.note) (is_announced p row.note) (asks_state row.note) refl refl is)
           (subst (λ (q : Pending). held q ++ acting (commands_kept more) ≡ acting (commands_of_rows r.rows) ++ held m.pending)
           left (r.acts (may is)));
@@ -660,14 +681,19 @@ sent_more {F} safe c more k l m n r =
           subst (λ (q : Pending). IsThinned (notes_seen (seen_before q) ++ (notes_in (rows_left q) ++ map note_for more))
           (notes_seen (seen_before q) ++ told)) left
           (r.tells (subst (λ (b : Bool). Alternates b more)
-          (sym (ap is_pending left ∙ not_pending p row (is_announced p row.note) (asks_state row.note) refl)) alternate)) in
-          subst (IsThinned (notes_seen (seen_before p) ++ (notes_in (rows_left p) ++ (note.Sent c ∷ map note_for more))))
+          (sym (ap is_pending left ∙ not_pending p row (is_announced p row.note) (asks_state row.note) refl)) (goes alternate))) in
+          subst (IsThinned (notes_seen (seen_before p) ++ (notes_in (rows_left p) ++ (note_for one ∷ map note_for more))))
           (ap (λ (l : List Note). notes_seen (seen_before p) ++ l)
           (sym (ap notes_in (append_assoc now r.rows (rows_left m.pending))
           ∙ notes_both now (r.rows ++ rows_left m.pending))))
           (leads p row (map note_for more) told (says_nothing_new p row.note) (is_announced p row.note)
           (asks_state row.note) refl refl next);
     }
+
+call_parts : (c : Call) (more : List Kept)
+    → acting (commands_kept (kept.Called c ∷ more)) ≡ acting (commands_of_note (call_note c)) ++ acting (commands_kept more)
+call_parts call.Take more = refl
+call_parts call.Stop more = refl
 
 -- an end comes if none is pending
 end_tells : (p q : Pending) (heard : Option Heard) (time : Moment) (more : List Kept) (told : List Note)
@@ -739,23 +765,17 @@ rows_of : {F : Type 0} (safe : F → Option (List ℕ)) (notes : List Kept) (k m
     → Chain (Notes safe) notes k m → RowsOf safe notes k m
 rows_of safe [] k m chain = none_more safe k m chain
 rows_of safe (kept.Sent c ∷ more) k m chain =
-    sent_more safe c more k chain.0 m chain.1 (rows_of safe more chain.0 m chain.2)
+    row_more safe (kept.Sent c) more k chain.0 m (acting_both (c ∷ []) (commands_kept more)) (λ h. h) chain.1
+    (rows_of safe more chain.0 m chain.2)
+rows_of safe (kept.Called c ∷ more) k m chain =
+    row_more safe (kept.Called c) more k chain.0 m (call_parts c more) (λ h. h) chain.1
+    (rows_of safe more chain.0 m chain.2)
 rows_of safe (kept.Heard h ∷ more) k m chain =
     end_more safe (Some h) more k chain.0 m chain.1 (rows_of safe more chain.0 m chain.2)
 rows_of safe (kept.Silence ∷ more) k m chain =
     end_more safe None more k chain.0 m chain.1 (rows_of safe more chain.0 m chain.2)
 
 -- Runs.
-
--- the rows are those of what is noted
-of_notes : {F : Type 0} (safe : F → Option (List ℕ)) (notes noted : List Kept) (k m : Recording F)
-    → (r : RowsOf safe notes k m) → notes ≡ noted → Alternates (is_pending k.pending) noted
-    → IsThinned (notes_seen (seen_before k.pending) ++ (notes_in (rows_left k.pending) ++ map note_for noted))
-    (notes_seen (seen_before k.pending) ++ notes_in (r.rows ++ rows_left m.pending))
-of_notes safe notes noted k m r is alternate =
-    subst (λ (l : List Kept). IsThinned (notes_seen (seen_before k.pending) ++ (notes_in (rows_left k.pending)
-    ++ map note_for l)) (notes_seen (seen_before k.pending) ++ notes_in (r.rows ++ rows_left m.pending))) is
-    (r.tells (subst (Alternates (is_pending k.pending)) (sym is) alternate))
 
 -- of what is left only a PLAY acts
 may_be_left : (q : Pending) (notes : List Note) → Stands notes (seen_before q) → MayHold q → MayBeLeft notes (held q)
@@ -794,24 +814,27 @@ may_be_left (pending.Over before asks hears plays row) notes stands may = inr (
 )
 may_be_left (pending.Failed f) notes stands may = inl refl
 
--- with what they are if nothing was awaited before
-shown : {E W K : Type 0} (adds : Kept → K → K → Type 0) (loses : Command → K → K → Type 0) (told : W → Option Told)
+-- ends and commands alternate if nothing was awaited before
+shown : {E W K : Type 0} (adds loses : Kept → K → K → Type 0) (told : W → Option Told)
     (fold : Fold E) (plan : Plan) (unit : ℕ) (a a' : Auto E) (wire wire' : W) (answer : Result Ran KeptFault) (k m : K)
-    (n : KeepsRun adds loses told fold plan unit a a' wire wire' answer k m) → awaited plan a.state ≡ None
-    → n.notes ≡ notes_of plan (log_of fold plan unit a n.came) a'.state answer
-shown adds loses told fold plan unit a a' wire wire' answer k m n none =
-    ap (λ (c : Option Command). map kept.Sent (option_to_list c) ++ n.notes) (sym none) ∙ n.shows
+    (events : List Event) (notes : List Kept)
+    → KeepsRun adds loses told fold plan unit a a' wire wire' answer k m events notes
+    → (b : Bool) → awaited plan a.state ≡ None → Alternates b notes
+shown adds loses told fold plan unit a a' wire wire' answer k m events notes n b none =
+    calls_alternate b notes
+    (subst (Alternates b) (sym (ap (λ (c : Option Command). map kept.Sent (option_to_list c) ++ exchanged notes) (sym none)
+    ∙ n.shows)) (notes_alternate b plan (log_of fold plan unit a events) a'.state answer))
 
 -- if each command was kept
 whole_run : {E W F : Type 0} (safe : F → Option (List ℕ)) (told : W → Option Told) (fold : Fold E) (plan : Plan)
     (unit : ℕ) (a a' : Auto E) (wire wire' : W) (answer : Result Ran KeptFault) (k m : Recording F)
-    (n : KeepsRun (Notes safe) (Loses safe) told fold plan unit a a' wire wire' answer k m)
-    → MayHold k.pending → Chain (Notes safe) n.notes k m
+    (events : List Event) (notes : List Kept)
+    → KeepsRun (Notes safe) (Loses safe) told fold plan unit a a' wire wire' answer k m events notes
+    → MayHold k.pending → Chain (Notes safe) notes k m
     → IsTornBy answer k.unit (rows_left m.pending) []
-    → IsRecorded safe told fold plan unit a a' wire wire' answer k m
-whole_run safe told fold plan unit a a' wire wire' answer k m n none chain untorn =
-    let r = rows_of safe n.notes k m chain in record {
-      came = n.came;
+    → IsRecorded safe told fold plan unit a a' wire wire' answer k m events notes
+whole_run safe told fold plan unit a a' wire wire' answer k m events notes n none chain untorn =
+    let r = rows_of safe notes k m chain in record {
       rows = r.rows;
       last = rows_left m.pending;
       few = few_left m.pending;
@@ -819,32 +842,31 @@ whole_run safe told fold plan unit a a' wire wire' answer k m n none chain untor
       safe_since = subst (λ (b : List ℕ). Appends (safe k.file) (safe m.file) b) (sym (append-nil (rows_text k.unit r.rows)))
           r.appends;
       torn_by = untorn;
-      commands = commands_kept n.notes;
+      commands = commands_kept notes;
       sends = n.sends;
       left = held m.pending;
       kept = r.acts none;
       unkept = may_be_left m.pending _ r.stands (r.holds none);
+      waits = r.holds none;
       comes = n.comes;
-      shows = λ idle.
-          of_notes safe n.notes (notes_of plan (log_of fold plan unit a n.came) a'.state answer) k m r
-          (shown (Notes safe) (Loses safe) told fold plan unit a a' wire wire' answer k m n idle)
-          (notes_alternate (is_pending k.pending) plan (log_of fold plan unit a n.came) a'.state answer);
+      shows = λ idle. r.tells (shown (Notes safe) (Loses safe) told fold plan unit a a' wire wire' answer k m events notes n
+          (is_pending k.pending) idle);
     }
 
 -- if the next one couldn't be kept
 lost_run : {E W F : Type 0} (safe : F → Option (List ℕ)) (told : W → Option Told) (fold : Fold E) (plan : Plan)
-    (unit : ℕ) (a a' : Auto E) (wire wire' : W) (k l m : Recording F) (c : Command)
-    (n : KeepsRun (Notes safe) (Loses safe) told fold plan unit a a' wire wire' (Err fault.Unkept) k m)
-    → MayHold k.pending → Chain (Notes safe) n.notes k l → Loses safe c l m
-    → IsRecorded safe told fold plan unit a a' wire wire' (Err fault.Unkept) k m
-lost_run safe told fold plan unit a a' wire wire' k l m c n none chain lost =
-    let r = rows_of safe n.notes k l chain in
-    let row : Row = record { time = lost.0; note = note.Sent c } in
+    (unit : ℕ) (a a' : Auto E) (wire wire' : W) (k l m : Recording F) (one : Kept) (events : List Event)
+    (notes : List Kept)
+    → KeepsRun (Notes safe) (Loses safe) told fold plan unit a a' wire wire' (Err fault.Unkept) k m events notes
+    → MayHold k.pending → Chain (Notes safe) notes k l → Loses safe one l m
+    → IsRecorded safe told fold plan unit a a' wire wire' (Err fault.Unkept) k m events notes
+lost_run {F = F} safe told fold plan unit a a' wire wire' k l m one events notes n none chain lost =
+    let r = rows_of safe notes k l chain in
+    let row : Row = record { time = lost.0; note = note_for one } in
     let text : List ℕ = rows_text l.unit (rows_due l.pending row) in
     let torn = due_torn l.unit lost.2.0 l.pending row (says_nothing_new l.pending row.note) (is_announced l.pending row.note)
     (asks_state row.note) in
     record {
-      came = n.came;
       rows = r.rows;
       last = rows_left l.pending;
       few = few_left l.pending;
@@ -856,27 +878,26 @@ lost_run safe told fold plan unit a a' wire wire' k l m c n none chain lost =
         torn.0,
         torn.1 ∙ ap (λ (u : ℕ). rows_text u (rows_left l.pending ++ row ∷ [])) r.united,
       );
-      commands = commands_kept n.notes;
+      commands = commands_kept notes;
       sends = n.sends;
       left = held l.pending;
       kept = r.acts none;
       unkept = may_be_left l.pending _ r.stands (r.holds none);
+      waits = subst MayHold (sym (ap (λ (x : Recording F). x.pending) lost.3)) tt;
       comes = n.comes;
-      shows = λ idle.
-          of_notes safe n.notes (notes_of plan (log_of fold plan unit a n.came) a'.state (Err fault.Unkept)) k l r
-          (shown (Notes safe) (Loses safe) told fold plan unit a a' wire wire' (Err fault.Unkept) k m n idle)
-          (notes_alternate (is_pending k.pending) plan (log_of fold plan unit a n.came) a'.state (Err fault.Unkept));
+      shows = λ idle. r.tells (shown (Notes safe) (Loses safe) told fold plan unit a a' wire wire' (Err fault.Unkept) k m
+          events notes n (is_pending k.pending) idle);
     }
 
 -- what is kept in a run is recorded
 pub run_is_recorded : {E W F : Type 0} (safe : F → Option (List ℕ)) (told : W → Option Told) (fold : Fold E) (plan : Plan)
-    (unit : ℕ) (a a' : Auto E) (wire wire' : W) (answer : Result Ran KeptFault) (k m : Recording F)
-    → MayHold k.pending
-    → KeepsRun (Notes safe) (Loses safe) told fold plan unit a a' wire wire' answer k m
-    → IsRecorded safe told fold plan unit a a' wire wire' answer k m
-run_is_recorded safe told fold plan unit a a' wire wire' (Ok ran) k m none n =
-    whole_run safe told fold plan unit a a' wire wire' (Ok ran) k m n none n.noted refl
-run_is_recorded safe told fold plan unit a a' wire wire' (Err fault.Device) k m none n =
-    whole_run safe told fold plan unit a a' wire wire' (Err fault.Device) k m n none n.noted refl
-run_is_recorded safe told fold plan unit a a' wire wire' (Err fault.Unkept) k m none n =
-    lost_run safe told fold plan unit a a' wire wire' k n.noted.0 m n.noted.1 n none n.noted.2 n.noted.3
+    (unit : ℕ) (a a' : Auto E) (wire wire' : W) (answer : Result Ran KeptFault) (k m : Recording F) (events : List Event)
+    (notes : List Kept) → MayHold k.pending
+    → KeepsRun (Notes safe) (Loses safe) told fold plan unit a a' wire wire' answer k m events notes
+    → IsRecorded safe told fold plan unit a a' wire wire' answer k m events notes
+run_is_recorded safe told fold plan unit a a' wire wire' (Ok ran) k m events notes none n =
+    whole_run safe told fold plan unit a a' wire wire' (Ok ran) k m events notes n none n.noted refl
+run_is_recorded safe told fold plan unit a a' wire wire' (Err fault.Device) k m events notes none n =
+    whole_run safe told fold plan unit a a' wire wire' (Err fault.Device) k m events notes n none n.noted refl
+run_is_recorded safe told fold plan unit a a' wire wire' (Err fault.Unkept) k m events notes none n =
+    lost_run safe told fold plan unit a a' wire wire' k n.noted.0 m n.noted.1 events notes n none n.noted.2 n.noted.3

@@ -6,17 +6,16 @@ use Rattle.vdcp_auto.specs.Commands.{is_status_command}
 use Rattle.vdcp_auto.specs.Plan.{Plan}
 use Rattle.vdcp_auto.specs.Turn.{awaited}
 use Rattle.vdcp_auto.specs.declared.exchange.Heard.{Heard}
-use Rattle.vdcp_drive.specs.Auto.{Auto, log_of}
+use Rattle.vdcp_drive.specs.Auto.{Auto, Event, arrivals}
 use Rattle.vdcp_drive.specs.Ears.{Fold}
-use Rattle.vdcp_drive.specs.Keeping.{notes_of}
 use Rattle.vdcp_drive.specs.Traces.{bytes_of}
-use Rattle.vdcp_drive.specs.declared.keep.Kept.{Kept}
-use Rattle.vdcp_drive.specs.declared.keep.Kept.TheVariants as kept
-use Rattle.vdcp_drive.specs.declared.keep.KeptFault.{KeptFault}
-use Rattle.vdcp_drive.specs.declared.keep.KeptFault.TheVariants as fault
+use Rattle.vdcp_drive.specs.declared.hooks.Kept.{Kept}
+use Rattle.vdcp_drive.specs.declared.hooks.Kept.TheVariants as kept
+use Rattle.vdcp_drive.specs.declared.hooks.KeptFault.{KeptFault}
+use Rattle.vdcp_drive.specs.declared.hooks.KeptFault.TheVariants as fault
 use Rattle.vdcp_drive.specs.declared.line.Ran.{Ran}
-use Rattle.vdcp_drive.specs.declared.operator.Call.{Call}
-use Rattle.vdcp_drive.specs.declared.operator.Call.TheVariants as call
+use Rattle.vdcp_drive.specs.declared.hooks.Call.{Call}
+use Rattle.vdcp_drive.specs.declared.hooks.Call.TheVariants as call
 use Rattle.vdcp_journal.specs.Rows.{rows_text}
 use Rattle.vdcp_journal.specs.Thinned.{IsThinned, asks_state, hears_waiting, notes_in}
 use Rattle.vdcp_journal.specs.declared.moment.Moment.{Moment}
@@ -27,15 +26,21 @@ use Rattle.vdcp_journal_file.specs.Recording.{MakesBeginning, MakesSafe, Recordi
 use Rattle.vdcp_journal_file.specs.declared.pending.Pending.{Pending}
 use Rattle.vdcp_journal_file.specs.declared.pending.Pending.TheVariants as pending
 use Rattle.vdcp_journal_file.specs.declared.pending.RecordFault.{RecordFault}
-use Rattle.vdcp_wire.specs.Wires.{Arrival, IfTold, Told, has_closed}
+use Rattle.vdcp_wire.specs.Wires.{IfTold, Told, has_closed}
 use Rattle.vdcp_words.specs.declared.command.Command.{Command}
 use Rattle.vdcp_words.specs.declared.command.Command.TheVariants as command
+
+-- the note of a call
+abbrev pub call_note : Call → Note
+call_note call.Take = note.Take
+call_note call.Stop = note.Stop
 
 -- the note of what is kept
 abbrev pub note_for : Kept → Note
 note_for (kept.Sent command) = note.Sent command
 note_for (kept.Heard heard) = note.Heard heard
 note_for kept.Silence = note.Silence
+note_for (kept.Called c) = call_note c
 
 abbrev pub commands_of_note : Note → List Command
 commands_of_note (note.Sent command) = command ∷ []
@@ -104,14 +109,10 @@ abbrev pub Notes : {F : Type 0} → (F → Option (List ℕ)) → Kept → Recor
 Notes safe (kept.Sent command) old new = KeepsRow safe (note.Sent command) old new
 Notes safe (kept.Heard heard) old new = NotesEnd (Some heard) old new
 Notes safe kept.Silence old new = NotesEnd None old new
+Notes safe (kept.Called c) old new = KeepsRow safe (call_note c) old new
 
-abbrev pub Loses : {F : Type 0} → (F → Option (List ℕ)) → Command → Recording F → Recording F → Type 0
-Loses safe command old new = LosesRow safe (note.Sent command) old new
-
--- the note of a call
-abbrev pub call_note : Call → Note
-call_note call.Take = note.Take
-call_note call.Stop = note.Stop
+abbrev pub Loses : {F : Type 0} → (F → Option (List ℕ)) → Kept → Recording F → Recording F → Type 0
+Loses safe one old new = LosesRow safe (note_for one) old new
 
 -- a beginning of the text of these rows, and of one more
 abbrev pub IsTorn : ℕ → List Row → List ℕ → Type 0
@@ -124,12 +125,12 @@ IsTornBy (Ok ran) unit last torn = torn ≡ []
 IsTornBy (Err fault.Device) unit last torn = torn ≡ []
 IsTornBy (Err fault.Unkept) unit last torn = IsTorn unit last torn
 
--- a run of any automation gave this answer: these rows are safe in the file since, and they have each command of which
--- a byte went out and that does more than ask for the state, but for a PLAY that they announce. It holds wherever a call of
--- the wire or of the file fails, so at each moment
+-- a run of any automation gave this answer, in which this happened and these were noted: these rows are safe in the file
+-- since, and they have each command of which a byte went out and that does more than ask for the state, but for a PLAY
+-- that they announce. It holds wherever a call of the wire or of the file fails, so at each moment
 pub record IsRecorded {E W F : Type 0} (safe : F → Option (List ℕ)) (told : W → Option Told) (fold : Fold E) (plan : Plan)
-    (unit : ℕ) (a a' : Auto E) (wire wire' : W) (answer : Result Ran KeptFault) (old new : Recording F) : Type 0 where
-  pub came : List Arrival
+    (unit : ℕ) (a a' : Auto E) (wire wire' : W) (answer : Result Ran KeptFault) (old new : Recording F) (events : List Event)
+    (notes : List Kept) : Type 0 where
   pub rows : List Row
   -- what was noted after them, and is safe with a later command: a state that is asked, a PLAY that was announced, what
   -- was heard last
@@ -145,11 +146,12 @@ pub record IsRecorded {E W F : Type 0} (safe : F → Option (List ℕ)) (told : 
   pub left : List Command
   pub kept : acting (commands_of_rows (rows_left old.pending)) ++ acting commands ≡ acting (commands_of_rows rows) ++ left
   pub unkept : MayBeLeft (notes_seen (seen_before old.pending) ++ notes_in rows) left
+  -- so the next run is recorded, too
+  pub waits : MayHold new.pending
   pub comes : (t : Told) → told wire ≡ Some t → has_closed t.came ≡ false
-      → IfTold (told wire') (λ u. u.came ≡ t.came ++ came)
-  -- if nothing was awaited before, the rows are just what came shows, each command and what ended its exchange, but for
-  -- what says nothing new
+      → IfTold (told wire') (λ u. u.came ≡ t.came ++ arrivals events)
+  -- if nothing was awaited before, the rows are just what was noted, but for what says nothing new
   pub shows : awaited plan a.state ≡ None
       → IsThinned (notes_seen (seen_before old.pending) ++ (notes_in (rows_left old.pending)
-      ++ map note_for (notes_of plan (log_of fold plan unit a came) a'.state answer)))
+      ++ map note_for notes))
       (notes_seen (seen_before old.pending) ++ notes_in (rows ++ last))

@@ -2,16 +2,13 @@
 ghost use Rattle.std.specs.Duration.{as_nanos};
 ghost use Rattle.std.specs.Io.KnownBytes.{Appends};
 ghost use Rattle.std.specs.Option.{option_copied, option_to_list};
-ghost use Rattle.std.specs.Prelude.{◌≡◌, ◌≢◌, ◌≤◌, ◌⊎◌, ◌/◌, ◌∷◌, [], ◌++◌, Err, IfErr, IfOk, IfSome, IsFalse, IsTrue, None, OnErr, OnOk, false, min, true};
+ghost use Rattle.std.specs.Prelude.{◌≡◌, ◌≢◌, ◌≤◌, ◌⊎◌, ◌/◌, [], ◌++◌, Err, IfErr, IfOk, IfSome, IsTrue, None, OnErr, OnOk, false, min, true};
 ghost use Rattle.vdcp_list.specs.Asrun.{AppendsBeginning};
 ghost use Rattle.vdcp_journal.specs.Rows.{AreBytesOf, fields_text, heading_fields, rows_text};
 ghost use Rattle.vdcp_journal.specs.declared.moment.Moment.{Moment};
-ghost use Rattle.vdcp_auto.specs.Plan.{plan_of};
-ghost use Rattle.vdcp_drive.specs.Auto.{auto_of};
-ghost use Rattle.vdcp_drive.specs.Leaves.{RunLeaves};
 ghost use Rattle.vdcp_journal.specs.Thinned.{asks_state};
-ghost use Rattle.vdcp_journal_file.specs.Recorded.{IsRecorded, KeepsRow, Loses, LosesRow, MayHold, Notes, call_note};
-ghost use Rattle.vdcp_journal_file.specs.Recording.{Adds, AddsBeginning, FitHeldRows, IsSynced, IsUnwritten, MakesBeginning, MakesSafe, Recording, after_row, end_note, ended, from_rows, is_announced, outcome_rows, rows_due, rows_left, with_play};
+ghost use Rattle.vdcp_journal_file.specs.Recorded.{KeepsRow, LosesRow, MayHold, call_note};
+ghost use Rattle.vdcp_journal_file.specs.Recording.{Adds, AddsBeginning, FitHeldRows, IsSynced, IsUnwritten, MakesBeginning, MakesSafe, Recording, after_row, ended, from_rows, outcome_rows, rows_due, rows_left, with_play};
 ghost use Rattle.vdcp_journal_file.specs.declared.pending.Pending.TheVariants.{Failed, Nothing};
 ghost use Rattle.vdcp_journal_file.specs.declared.pending.RecordFault.{RecordFault};
 ghost use Rattle.vdcp_journal_file.specs.declared.pending.RecordFault.TheVariants.{Replaced};
@@ -24,7 +21,7 @@ use std::marker::Model;
 use std::rt::{Clock, Files};
 use std::time::Duration;
 use vdcp_auto::{Heard, Outcome, Source};
-use vdcp_drive::{Call, Driver, Ear, Keep, KeepFault, KeptFault, Pace, Ran, Watch, Wire, laws};
+use vdcp_drive::{Call, Hooks, KeepFault};
 use vdcp_journal::{Heading, Moment, Note, Row, write_heading, write_row};
 use vdcp_text::Failure;
 use vdcp_words::{Command, LONGEST};
@@ -45,7 +42,7 @@ pub struct Recorder<'a, 'r, R, F: Disk> {
     file: F,
     // The event with which the run began, if one was named. Its row is in the file.
     from: Option<usize>,
-    pending: Pending,
+    pub(crate) pending: Pending,
     held: HeldBytes,
 }
 
@@ -198,27 +195,6 @@ impl<'a, 'r, R: Files + Clock + AllocGlobal, F: Disk + Drop> Recorder<'a, 'r, R,
         self.write(outcome_row(time, outcome), None)
     }
 
-    /// Runs an automation, and keeps each of its commands before it goes out. At each moment the rows that are safe have
-    /// every command of which a byte went out, but for those that ask for the state, and a PLAY that they announce.
-    pub fn run<S: Source, E: Ear, W: Wire, V: Watch<S>, P: Pace>(
-        &mut self,
-        driver: &mut Driver<S, E, W>,
-        listens: u64,
-        watch: &mut V,
-        pace: &mut P,
-    ) -> Result<Ran, KeptFault>
-        ensures leaves { RunLeaves S.items (record
-            { does = W.does; adds = Notes F.safe; loses = Loses F.safe; sees = V.sees }) E.fold W.failures listens
-            driver.old driver.new self.old self.new watch.old watch.new result }
-        ensures recorded { W.failures driver.old.wire ≡ 0 → IsRecorded F.safe W.told E.fold
-            (plan_of S.items driver.old.controller) driver.old.unit (auto_of driver.old) (auto_of driver.new)
-            driver.old.wire driver.new.wire result self.old self.new }
-    {
-        let _ = &self.pending;
-        laws::what_a_run_keeps::<S, E, W, V, Self>();
-        driver.run_with(listens, watch, self, pace)
-    }
-
     // Writes what is pending, and then a row, if there is one. `bytes` are those of its command.
     fn write(
         &mut self,
@@ -260,16 +236,18 @@ impl<'a, 'r, R: Files + Clock + AllocGlobal, F: Disk + Drop> Recorder<'a, 'r, R,
     }
 }
 
-impl<R: Files + Clock + AllocGlobal, F: Disk + Drop> Keep for Recorder<'_, '_, R, F> {
-    ghost use Rattle.vdcp_journal_file.specs.Recorded.{KeepsRow, Loses, LosesRow, Notes, call_note};
+impl<S: Source, R: Files + Clock + AllocGlobal, F: Disk + Drop> Hooks<S>
+    for Recorder<'_, '_, R, F> {
+    ghost use Rattle.vdcp_journal_file.specs.Recorded.{Loses, Notes};
+    ghost use Rattle.vdcp_journal_file.specs.Recording.{Recording};
+
+    ghost Journal = { Recording F };
+
+    ghost journal = { λ r. r };
 
     ghost adds = { Notes F.safe };
 
     ghost loses = { Loses F.safe };
-
-    ghost calls = { λ call. KeepsRow F.safe (call_note call) };
-
-    ghost misses = { λ call. LosesRow F.safe (call_note call) };
 
     fn keep_sent(&mut self, unit: u8, command: &Command, bytes: &[u8]) -> Result<(), KeepFault> {
         // (the row has the bytes to the journal's own unit)

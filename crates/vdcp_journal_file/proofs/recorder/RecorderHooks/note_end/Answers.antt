@@ -6,7 +6,7 @@ use Rattle.vdcp_journal_file.specs.declared.pending.Pending.{Pending}
 use Rattle.vdcp_journal_file.proofs.Chains.{end_note_no_act, ended_may_hold}
 use Rattle.vdcp_journal_file.proofs.Disking.{synced_at_end}
 use Rattle.vdcp_journal_file.proofs.Held.{held_at_end, notes_end}
-use Rattle.vdcp_journal_file.proofs.recorder.RecorderKeep.note_end.Goals as goal
+use Rattle.vdcp_journal_file.proofs.recorder.RecorderHooks.note_end.Goals as goal
 
 pub invariant_of-self : goal.invariant_of-self
 invariant_of-self g c =

@@ -1,6 +1,6 @@
 use Rattle.std.proofs.Common.{subst}
 use Rattle.vdcp_journal.specs.declared.row.Note.{Note}
-use Rattle.vdcp_journal_file.proofs.recorder.RecorderKeep.keep_call.Goals as goal
+use Rattle.vdcp_journal_file.proofs.recorder.RecorderHooks.keep_call.Goals as goal
 use Rattle.vdcp_journal_file.specs.Recorded.{KeepsRow, LosesRow}
 
 pub returns-in-Ok-clause-called : goal.returns-in-Ok-clause-called

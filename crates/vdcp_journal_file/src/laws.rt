@@ -1,0 +1,56 @@
+//! The laws of what a recorder keeps. What a law says is the contract of its function.
+ghost use Rattle.std.specs.Prelude.{◌≡◌, ℕ, Bool, None, Option, Result, Some};
+ghost use Rattle.vdcp_auto.specs.Plan.{Plan};
+ghost use Rattle.vdcp_drive.specs.Auto.{Auto};
+ghost use Rattle.vdcp_drive.specs.Hooked.{MayKeep};
+ghost use Rattle.vdcp_drive.specs.Leaves.{HasRun, steps_in};
+ghost use Rattle.vdcp_drive.specs.Steps.{World};
+ghost use Rattle.vdcp_drive.specs.Traces.{kept_in};
+ghost use Rattle.vdcp_drive.specs.declared.hooks.KeptFault.{KeptFault};
+ghost use Rattle.vdcp_drive.specs.declared.line.Ran.{Ran};
+ghost use Rattle.vdcp_journal_file.specs.Recorded.{IsRecorded, Loses, MayHold, Notes};
+ghost use Rattle.vdcp_journal_file.specs.Recording.{Recording};
+
+use crate::disk::Disk;
+use crate::recorder::Recorder;
+use std::rt::{Clock, Files};
+use vdcp_auto::Source;
+use vdcp_drive::{Ear, Wire, laws};
+
+/// A run whose hooks keep its commands, ends and calls by a recorder is recorded, whatever its automation and its answer
+/// were. The rows that are safe then have each command of which a byte went out, but for those that ask for the state, and
+/// a PLAY that the rows announce. If nothing was awaited before the run, they are what was kept in it, but for what says
+/// nothing new, and for what waits for a later row. It holds wherever a call of the wire or of the disk fails, so at each
+/// moment. If the hooks had no recorder, they have none after it.
+pub fn a_run_is_recorded<
+    'a,
+    'r,
+    S: Source,
+    E: Ear,
+    W: Wire,
+    R: Files + Clock + AllocGlobal + 'r,
+    F: Disk + Drop,
+>()
+    ensures recorded { (can : Bool) (plan : Plan) (unit count : ℕ) (a a' : Auto E)
+        (old new : World W (Option (Recording F))) (answer : Result Ran KeptFault) →
+        (h : HasRun (record
+        { does = W.does; adds = MayKeep (Notes F.safe); loses = MayKeep (Loses F.safe); can_call = can }) E.fold plan unit
+        count a a' old new answer) → (before : Recording F) → old.keep ≡ Some before → MayHold before.pending →
+        (since : Recording F) × (new.keep ≡ Some since) × IsRecorded F.safe W.told E.fold plan unit a a' old.wire new.wire
+        answer before since h.run.events (kept_in (steps_in h.run)) }
+    ensures unrecorded { (can : Bool) (plan : Plan) (unit count : ℕ) (a a' : Auto E)
+        (old new : World W (Option (Recording F))) (answer : Result Ran KeptFault) → HasRun (record
+        { does = W.does; adds = MayKeep (Notes F.safe); loses = MayKeep (Loses F.safe); can_call = can }) E.fold plan unit
+        count a a' old new answer → old.keep ≡ None → new.keep ≡ None }
+{
+    laws::what_a_run_keeps::<S, E, W, Option<Recorder<'a, 'r, R, F>>>();
+}
+
+/// Of commands, a recorder has only those still to write that ask for the state, and a PLAY that its rows announce.
+pub fn few_commands_wait<R: Files + Clock + AllocGlobal, F: Disk + Drop>(
+    recorder: &Recorder<'_, '_, R, F>,
+)
+    ensures { MayHold recorder.now.pending }
+{
+    let _ = &recorder.pending;
+}
