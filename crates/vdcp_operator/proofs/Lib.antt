@@ -2,3 +2,5 @@
 pub mod Rounds
 pub mod Showing
 pub mod Typing
+pub mod Pacing
+pub mod Unattended

@@ -1,16 +1,16 @@
 -- The calls that an operator's hand makes: each that was asked for once, and no other.
 use Rattle.std.specs.Duration.{as_nanos}
 use Rattle.std.specs.Option.{option_to_list}
-use Rattle.std.specs.Prelude.{ℕ, ◌≡◌, ◌-◌, Option, None, Some, List, ◌++◌}
-use Rattle.std.specs.Time.{instant_nanos}
+use Rattle.std.specs.Prelude.{ℕ, ◌≡◌, ◌≤◌, Option, None, Some, List, ◌++◌}
 use Rattle.std.specs.declared.time.Duration.{Duration}
-use Rattle.std.specs.declared.time.Instant.{Instant}
 use Rattle.vdcp_auto.specs.Plan.{View}
-use Rattle.vdcp_drive.specs.declared.operator.Call.{Call}
-use Rattle.vdcp_drive.specs.declared.operator.Call.TheVariants.{Take, Stop}
+use Rattle.vdcp_drive.specs.declared.hooks.Call.{Call}
+use Rattle.vdcp_drive.specs.declared.hooks.Call.TheVariants.{Take, Stop}
 use Rattle.vdcp_list.specs.Rests.{FromEvent}
 use Rattle.vdcp_operator.specs.Seen.{ShowsRun}
 use Rattle.vdcp_operator.specs.Typed.{SaysOn, left}
+use Rattle.vdcp_operator.specs.declared.hand.Until.{Until}
+use Rattle.vdcp_operator.specs.declared.hand.Until.TheVariants as until
 use Rattle.vdcp_operator.specs.declared.shown.RunPage.{RunPage}
 use Rattle.vdcp_operator.specs.declared.typed.Said.{Said}
 use Rattle.vdcp_operator.specs.declared.typed.Said.TheVariants as said
@@ -74,15 +74,19 @@ abbrev pub latest : (said held : Option Call) → Option Call
 latest None held = held
 latest (Some call) held = Some call
 
--- how long a command waits, in nanoseconds, by the time since 1970, when the last STATUS went out and this moment: PLAY up to
--- the start, if one is said, and STATUS as long as the port isn't to be asked
-abbrev pub wait_nanos : Option Command → (start now : Option Duration) → (poll : Duration) → (last moment : Option Instant) → ℕ
-wait_nanos (Some command.Play) (Some start) (Some now) poll last moment = as_nanos start - as_nanos now
-wait_nanos (Some (command.Status groups)) start now poll (Some last) (Some moment) =
-    as_nanos poll - (instant_nanos moment - instant_nanos last)
-wait_nanos _ _ _ _ _ _ = 0
+-- until when a command waits: PLAY up to the start, if one is said, and STATUS as long as the port isn't to be asked
+abbrev pub until_for : Option Command → (start : Option Duration) → Until
+until_for (Some command.Play) (Some start) = until.Time start
+until_for (Some (command.Status groups)) start = until.Poll
+until_for _ start = until.Now
 
--- how long it is, in nanoseconds, until the connection is made for a start: two seconds before it
-abbrev pub lead_nanos : (start now : Option Duration) → ℕ
-lead_nanos (Some start) (Some now) = as_nanos start - 2000000000 - as_nanos now
-lead_nanos _ _ = 0
+-- a time has come, by what the clock shows, if it can be read
+abbrev pub HasCome : Duration → (now : Option Duration) → Type 0
+HasCome time None = Unit {0}
+HasCome time (Some now) = as_nanos time ≤ as_nanos now
+
+-- it is waited no more, by what the clock shows, and the run's stopwatch if that is waited for
+abbrev pub IsOver : Until → (now : Option Duration) → (due moment : ℕ) → Type 0
+IsOver (until.Time time) now due moment = HasCome time now
+IsOver until.Poll now due moment = due ≤ moment
+IsOver until.Now now due moment = Unit {0}

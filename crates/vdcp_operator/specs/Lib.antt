@@ -2,5 +2,6 @@
 pub mod Typed
 pub mod Seen
 pub mod Hands
+pub mod Polls
 pub mod Starts
 pub mod Channel

@@ -1,6 +1,6 @@
 -- What the lines say that are typed.
 use Rattle.std.specs.Prelude.{ℕ, ◌≡◌, ◌||◌, ⊤, Option, None, Some, List, [], ◌∷◌, ◌++◌, bytes_eq, codes, nat_eq, if◌then◌else◌}
-use Rattle.vdcp_drive.specs.declared.operator.Call.TheVariants.{Take, Stop}
+use Rattle.vdcp_drive.specs.declared.hooks.Call.TheVariants.{Take, Stop}
 use Rattle.vdcp_operator.specs.declared.typed.Got.{Got}
 use Rattle.vdcp_operator.specs.declared.typed.Got.TheVariants as got
 use Rattle.vdcp_operator.specs.declared.typed.Said.{Said}

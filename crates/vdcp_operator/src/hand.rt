@@ -1,30 +1,32 @@
-//! The operator in a driver's turns: calls are taken, and commands wait.
+//! The operator's part in a run: calls are taken, and commands wait.
 ghost use Rattle.std.specs.Duration.{as_nanos};
-ghost use Rattle.std.specs.Prelude.{◌≡◌, ◌≢◌, ◌↔◌, ◌-◌, min, IsSome, None, Option, Some, is_some, option_map, ℕ};
+ghost use Rattle.std.specs.Prelude.{◌≡◌, ◌≢◌, ◌↔◌, ◌*◌, ◌-◌, ◌≤◌, min, IsSome, IsTrue, None, Option, Some, is_some, option_map, ℕ};
 ghost use Rattle.vdcp_auto.specs.Plan.{plan_of};
 ghost use Rattle.vdcp_auto.specs.Turn.{given};
-ghost use Rattle.vdcp_drive.specs.declared.operator.Call.{Call};
+ghost use Rattle.vdcp_drive.specs.declared.hooks.Call.{Call};
 ghost use Rattle.vdcp_list.specs.Rests.{items_left};
-ghost use Rattle.vdcp_operator.specs.Hands.{Asks, IsNext, PageCalls, TypedCalls, as_call, latest, lead_nanos, wait_nanos};
+ghost use Rattle.vdcp_operator.specs.Hands.{Asks, HasCome, IsNext, IsOver, PageCalls, TypedCalls, as_call, latest, until_for};
+ghost use Rattle.vdcp_operator.specs.Polls.{Paces, poll_of, unless_called};
 ghost use Rattle.vdcp_operator.specs.declared.hand.Until.{Until};
 ghost use Rattle.vdcp_operator.specs.declared.shown.RunPage.{RunPage};
 ghost use Rattle.vdcp_words.specs.declared.command.Command.{Command};
 
+use crate::polling::Polling;
 use crate::seen::EventBefore;
 use crate::shown::RunPage;
 use crate::typed::{Said, Typed};
 use std::io::{Read, Write};
 use std::rt::Clock;
-use std::time::{Duration, Instant};
+use std::time::Duration;
 use vdcp_auto::{Controller, Outcome, Source};
-use vdcp_drive::{Call, Operator};
+use vdcp_drive::Call;
 use vdcp_list::Rest;
 use vdcp_log::Hearing;
 use vdcp_panel as panel;
 use vdcp_words::Command;
 
-/// How long a wait is cut into at most, so that requests for the page are answered meanwhile, in milliseconds.
-const PIECE: u64 = 20;
+/// How long a wait is cut into at most, so that requests for the page are answered meanwhile, in nanoseconds.
+const PIECE: u64 = 20_000_000;
 
 /// How long before the start the connection is made, in milliseconds.
 const LEAD: u64 = 2_000;
@@ -32,7 +34,8 @@ const LEAD: u64 = 2_000;
 /// How many pieces of time the page is shown once the run has ended, so that a browser that follows it sees that.
 const LINGER: u64 = 50;
 
-/// The hand that an operator has in a run: what is typed, the page, and when commands may go out.
+/// The hand that an operator has in a run: what is typed, the page, and when commands may go out. A run without an operator
+/// has one too, by which a STATUS waits.
 #[derive(Drop)]
 pub struct Hand<'a, R: Clock, I: Read, E: Write> {
     clock: &'a R,
@@ -41,12 +44,9 @@ pub struct Hand<'a, R: Clock, I: Read, E: Write> {
     page: Option<RunPage>,
     // The first PLAY goes out then, since 1970, unless it has gone out.
     start: Option<Duration>,
-    // From one STATUS to the next at least, and when the last one went out.
-    poll: Duration,
-    last: Option<Instant>,
-    // What the clock showed when it was read last, since 1970 and since its start. (None if it can't be read.)
+    // What the clock showed when it was read last for the start, since 1970. (None if it can't be read.)
     time: Option<Duration>,
-    moment: Option<Instant>,
+    polling: Polling<'a, R>,
     commands: u64,
     /// A call that was made before the driver asked for it.
     pub held: Option<Call>,
@@ -55,10 +55,12 @@ pub struct Hand<'a, R: Clock, I: Read, E: Write> {
 /// Until when calls are asked for.
 #[derive(Clone, Copy)]
 enum Until {
-    /// The connection is to be made.
-    Lead,
-    /// The command that is to be sent may go out.
-    Command,
+    /// It is this time since 1970.
+    Time(Duration),
+    /// The state may be asked again.
+    Poll,
+    /// They are asked for once.
+    Now,
 }
 
 impl<'a, R: Clock, I: Read + Drop, E: Write> Hand<'a, R, I, E> {
@@ -76,11 +78,9 @@ impl<'a, R: Clock, I: Read + Drop, E: Write> Hand<'a, R, I, E> {
         ensures start { result.start ≡ start }
         ensures typed { IsSome result.typed ↔ IsSome typed }
         ensures held { result.held ≡ None }
+        ensures least { result.polling.least ≡ poll_of hearing * 1000000 }
+        ensures due { result.polling.due ≡ 0 }
     {
-        let poll = match hearing {
-            Hearing::AtSilences => 0,
-            Hearing::AtOnce(poll) => poll,
-        };
         Hand {
             clock,
             typed: match typed {
@@ -90,10 +90,8 @@ impl<'a, R: Clock, I: Read + Drop, E: Write> Hand<'a, R, I, E> {
             told,
             page,
             start,
-            poll: Duration::from_millis(u64::from(poll)),
-            last: None,
             time: None,
-            moment: None,
+            polling: Polling::new(clock, hearing),
             commands: 0,
             held: None,
         }
@@ -121,10 +119,10 @@ impl<'a, R: Clock, I: Read + Drop, E: Write> Hand<'a, R, I, E> {
             Asks S.items I.remaining controller.now self.old.page self.old.typed self.new.held self.new.page self.new.typed }
         ensures holds { (call : Call) → self.old.held ≡ Some call → self.new ≡ self.old }
     {
-        let (Some(_), None) = (self.start, self.held) else {
+        let (Some(start), None) = (self.start, self.held) else {
             return;
         };
-        self.held = self.ask_until(controller, Until::Lead);
+        self.held = self.ask_until(controller, Until::Time(lead_of(start)));
     }
 
     /// The call that is held, once the operator was asked for a later one, unless it is stop: what was called then is
@@ -148,6 +146,49 @@ impl<'a, R: Clock, I: Read + Drop, E: Write> Hand<'a, R, I, E> {
         }
     }
 
+    /// Waits until the next command may go out, and gives a call that is held or made meanwhile, which ends the wait, also
+    /// that for the start: the next event goes to air as soon as it can. Requests for the page are answered.
+    pub fn call<S: Source>(&mut self, controller: &Controller<Rest<S>>) -> Option<Call>
+        // What is held is given; else what is asked for then.
+        ensures held { (call : Call) → self.old.held ≡ Some call →
+            (result ≡ Some call) × (self.new.page ≡ self.old.page) × (self.new.typed ≡ self.old.typed) }
+        ensures asks { self.old.held ≡ None →
+            Asks S.items I.remaining controller.now self.old.page self.old.typed result self.new.page self.new.typed }
+        ensures once { self.new.held ≡ None }
+        // Where nobody calls there is no call.
+        ensures unattended { self.old.held ≡ None → self.old.page ≡ None → self.old.typed ≡ None →
+            (result ≡ None) × (self.new.page ≡ None) × (self.new.typed ≡ None) }
+        ensures start { IsSome result → self.new.start ≡ None }
+        // A PLAY waits for the start, and those after it have none.
+        ensures starts { (start : Duration) → result ≡ None → self.old.start ≡ Some start →
+            given (plan_of (items_left S.items) controller.now) controller.now.state ≡ Some Command.Play →
+            HasCome start self.new.time }
+        ensures sent { result ≡ None →
+            given (plan_of (items_left S.items) controller.now) controller.now.state ≡ Some Command.Play → self.new.start ≡ None }
+        ensures paces { Paces
+            (unless_called result (given (plan_of (items_left S.items) controller.now) controller.now.state))
+            self.old.polling self.new.polling }
+    {
+        if self.is_alone() {
+            // (where no STATUS has to wait the command isn't looked up)
+            if !self.polling.never_waits() {
+                self.note_sent(controller.to_send());
+            }
+            return None;
+        }
+        let command = controller.to_send();
+        if let Some(call) = self.held.take() {
+            self.note_call(command);
+            return Some(call);
+        }
+        if let Some(call) = self.ask_until(controller, until_for(command, self.start)) {
+            self.note_call(command);
+            return Some(call);
+        }
+        self.note_sent(command);
+        None
+    }
+
     /// Shows how the run ended, for a second.
     pub fn show_end<S: Source>(
         &mut self,
@@ -159,8 +200,18 @@ impl<'a, R: Clock, I: Read + Drop, E: Write> Hand<'a, R, I, E> {
         };
         for _ in 0..LINGER {
             page.show(self.clock, controller, Some(outcome), self.commands, None);
-            self.clock.sleep(Duration::from_millis(PIECE));
+            self.clock.sleep(Duration::from_nanos(PIECE));
         }
+    }
+
+    // Nothing is held, nobody calls, and no start is waited for.
+    fn is_alone(&self) -> bool
+        ensures held { IsTrue result → self.now.held ≡ None }
+        ensures page { IsTrue result → self.now.page ≡ None }
+        ensures typed { IsTrue result → self.now.typed ≡ None }
+        ensures start { IsTrue result → self.now.start ≡ None }
+    {
+        self.held.is_none() && self.page.is_none() && self.typed.is_none() && self.start.is_none()
     }
 
     // The next call, if one is made before that.
@@ -171,18 +222,21 @@ impl<'a, R: Clock, I: Read + Drop, E: Write> Hand<'a, R, I, E> {
     ) -> Option<Call>
         ensures asks { Asks S.items I.remaining controller.now self.old.page self.old.typed result self.new.page self.new.typed }
         ensures held { self.new.held ≡ self.old.held }
+        ensures start { self.new.start ≡ self.old.start }
+        ensures paces { Paces None self.old.polling self.new.polling }
+        ensures waited { (time : Duration) → until ≡ Until.Time time → result ≡ None → HasCome time self.new.time }
     {
         'asks: for _ in 0..u64::MAX {
             match self.next(controller) {
                 Some(call) => return Some(call),
                 None => {}
             }
-            let left = self.left(controller, until);
-            if left.is_zero() {
+            if self.wait_piece(until) {
                 return None;
             }
-            self.clock.sleep(piece_of(left));
         }
+        // (a clock that stands still for so long shows no time)
+        self.time = None;
         None
     }
 
@@ -191,6 +245,7 @@ impl<'a, R: Clock, I: Read + Drop, E: Write> Hand<'a, R, I, E> {
         ensures next { IsNext S.items I.remaining controller.now self.old.page self.old.typed result self.new.page self.new.typed }
         ensures held { self.new.held ≡ self.old.held }
         ensures start { self.new.start ≡ self.old.start }
+        ensures polling { self.new.polling ≡ self.old.polling }
     {
         match self.page_call(controller) {
             Some(call) => Some(call_of(call)),
@@ -230,87 +285,73 @@ impl<'a, R: Clock, I: Read + Drop, E: Write> Hand<'a, R, I, E> {
         }
     }
 
-    // How long it is until then.
-    fn left<S: Source>(&mut self, controller: &Controller<Rest<S>>, until: Until) -> Duration
-        ensures waits { until ≡ Until.Command → as_nanos result ≡ wait_nanos
-            (given (plan_of (items_left S.items) controller.now) controller.now.state)
-            self.old.start self.new.time self.old.poll self.old.last self.new.moment }
-        ensures leads { until ≡ Until.Lead → as_nanos result ≡ lead_nanos self.old.start self.new.time }
-        ensures page { self.new.page ≡ self.old.page }
-        ensures typed { self.new.typed ≡ self.old.typed }
-        ensures held { self.new.held ≡ self.old.held }
+    // Waits until then, but for a piece of time at most. Answers whether it is over.
+    fn wait_piece(&mut self, until: Until) -> bool
+        ensures over { IsTrue result → IsOver until self.new.time self.old.polling.due self.new.polling.stopwatch.now }
+        ensures paces { Paces None self.old.polling self.new.polling }
+        ensures rest { self.new ≡ record self.old { time = self.new.time; polling = self.new.polling } }
     {
-        self.look();
         match until {
-            Until::Lead => lead_for(self.start, self.time),
-            Until::Command => wait_for(
-                controller.to_send(),
-                self.start,
-                self.time,
-                self.poll,
-                self.last,
-                self.moment,
-            ),
+            Until::Time(time) => self.wait_for(time),
+            Until::Poll => self.polling.wait_piece(PIECE),
+            Until::Now => true,
         }
     }
 
-    // Reads the clock.
-    fn look(&mut self)
-        ensures { self.new ≡ record self.old { time = self.new.time; moment = self.new.moment } }
+    // Waits for this time since 1970, but for a piece of time at most. Answers whether it has come.
+    fn wait_for(&mut self, time: Duration) -> bool
+        ensures come { IsTrue result ↔ HasCome time self.new.time }
+        ensures rest { self.new ≡ record self.old { time = self.new.time } }
     {
         self.time = self.clock.since_1970().ok();
-        self.moment = Instant::now(self.clock).ok();
+        let left = match self.time {
+            Some(now) => time.saturating_sub(now),
+            None => Duration::ZERO,
+        };
+        if left.is_zero() {
+            return true;
+        }
+        self.clock.sleep(piece_of(left));
+        false
     }
 
-    // A call is made now.
-    fn note_call<S: Source>(&mut self, controller: &Controller<Rest<S>>)
+    // A call is made now, before this command goes out, or another one.
+    fn note_call(&mut self, command: Option<Command>)
         ensures { self.new ≡ record self.old { start = None; commands = self.new.commands } }
     {
         self.start = None;
-        self.commands = self
-            .commands
-            .saturating_add(u64::from(controller.is_ready()));
+        self.count(command);
     }
 
-    // This command goes out now.
-    fn note_sent(&mut self, command: Command)
-        ensures page { self.new.page ≡ self.old.page }
-        ensures typed { self.new.typed ≡ self.old.typed }
-        ensures held { self.new.held ≡ self.old.held }
-        ensures play { command ≡ Command.Play → self.new.start ≡ None }
-        ensures other { command ≢ Command.Play → self.new.start ≡ self.old.start }
-        ensures state { (groups : ℕ) → command ≡ Command.Status groups → self.new.last ≡ self.new.moment }
+    // This command goes out now, if there is one: a STATUS once it may.
+    fn note_sent(&mut self, command: Option<Command>)
+        ensures paces { Paces command self.old.polling self.new.polling }
+        ensures play { command ≡ Some Command.Play → self.new.start ≡ None }
+        ensures rest { self.new ≡ record self.old { start = self.new.start; polling = self.new.polling; commands = self.new.commands } }
     {
-        self.commands = self.commands.saturating_add(1);
+        self.count(command);
         match command {
-            Command::Play => self.start = None,
-            Command::Status(_) => {
-                self.look();
-                self.last = self.moment;
-            }
+            Some(Command::Play) => self.start = None,
+            Some(Command::Status(_)) => self.polling.wait(),
             _ => {}
         }
     }
+
+    fn count(&mut self, command: Option<Command>)
+        ensures { self.new ≡ record self.old { commands = self.new.commands } }
+    {
+        self.commands = self.commands.saturating_add(u64::from(command.is_some()));
+    }
 }
 
-// How long a command waits, by the time since 1970, when the last STATUS went out and this moment. For a time that isn't
-// known none waits.
-fn wait_for(
-    command: Option<Command>,
-    start: Option<Duration>,
-    now: Option<Duration>,
-    poll: Duration,
-    last: Option<Instant>,
-    moment: Option<Instant>,
-) -> Duration
-    ensures { as_nanos result ≡ wait_nanos command start now poll last moment }
+// Until when this command waits.
+fn until_for(command: Option<Command>, start: Option<Duration>) -> Until
+    ensures { result ≡ until_for command start }
 {
-    match (command, start, now, last, moment) {
-        (Some(Command::Play), Some(start), Some(now), _, _) => start.saturating_sub(now),
-        (Some(Command::Status(_)), _, _, Some(last), Some(moment)) => {
-            poll.saturating_sub(moment.duration_since(last))
-        }
-        _ => Duration::ZERO,
+    match (command, start) {
+        (Some(Command::Play), Some(start)) => Until::Time(start),
+        (Some(Command::Status(_)), _) => Until::Poll,
+        _ => Until::Now,
     }
 }
 
@@ -318,17 +359,7 @@ fn wait_for(
 fn piece_of(left: Duration) -> Duration
     ensures { as_nanos result ≡ min (as_nanos left) 20000000 }
 {
-    left.min(Duration::from_millis(PIECE))
-}
-
-// How long it is until the connection is made for a start, by the time since 1970. (By a clock that can't be read it is made at once.)
-fn lead_for(start: Option<Duration>, now: Option<Duration>) -> Duration
-    ensures { as_nanos result ≡ lead_nanos start now }
-{
-    match (start, now) {
-        (Some(start), Some(now)) => lead_of(start).saturating_sub(now),
-        _ => Duration::ZERO,
-    }
+    left.min(Duration::from_nanos(PIECE))
 }
 
 // When the connection is made for a start.
@@ -349,38 +380,5 @@ fn call_of(call: panel::Call) -> Call
     match call {
         panel::Call::Take => Call::Take,
         panel::Call::Stop => Call::Stop,
-    }
-}
-
-impl<S: Source, R: Clock, I: Read + Drop, E: Write> Operator<Rest<S>> for Hand<'_, R, I, E> {
-    // (a call ends the wait, also that for the start: the next event goes to air as soon as it can)
-    fn call(&mut self, controller: &Controller<Rest<S>>) -> Option<Call>
-        // What is held is given; else what is asked for then.
-        ensures held { (call : Call) → self.old.held ≡ Some call →
-            (result ≡ Some call) × (self.new.page ≡ self.old.page) × (self.new.typed ≡ self.old.typed) }
-        ensures asks { self.old.held ≡ None →
-            Asks S.items I.remaining controller.now self.old.page self.old.typed result self.new.page self.new.typed }
-        ensures once { self.new.held ≡ None }
-        ensures start { IsSome result → self.new.start ≡ None }
-        // Those after a PLAY have no start.
-        ensures sent { result ≡ None →
-            given (plan_of (items_left S.items) controller.now) controller.now.state ≡ Some Command.Play → self.new.start ≡ None }
-        // When a STATUS goes out is noted.
-        ensures state { (groups : ℕ) → result ≡ None →
-            given (plan_of (items_left S.items) controller.now) controller.now.state ≡ Some (Command.Status groups)
-            → self.new.last ≡ self.new.moment }
-    {
-        if let Some(call) = self.held.take() {
-            self.note_call(controller);
-            return Some(call);
-        }
-        if let Some(call) = self.ask_until(controller, Until::Command) {
-            self.note_call(controller);
-            return Some(call);
-        }
-        if let Some(command) = controller.to_send() {
-            self.note_sent(command);
-        }
-        None
     }
 }

@@ -1,27 +1,31 @@
 //! The operator of a run: calls that are typed, calls from a page, a start by the clock, and the progress line.
 //!
-//! `Hand` is the `Operator` of a driver: before each listen it reads what was typed (`Typed`, by `Keys`, which never wait),
-//! answers requests for the page (`RunPage`), and waits until the next command may go out. `Progress` shows in a terminal how
-//! far a run is, by its wire (`ShownWire`) and its controller (`Glances`).
+//! `Hand` is for the hooks of a driver, also without an operator: before each listen it reads what was typed (`Typed`, by
+//! `Keys`, which never wait), answers requests for the page (`RunPage`), and waits until the next command may go out.
+//! `Progress` shows in a terminal how far a run is.
 //!
-//! Files, in reading order: `keys`, `typed`, `channel`, `seen`, `shown`, `page`, `start`, `hand`, `progress`.
+//! Files, in reading order: `keys`, `typed`, `channel`, `seen`, `shown`, `page`, `start`, `stopwatch`, `polling`, `hand`,
+//! `progress`.
 #![tactic(auto)]
 
 mod channel;
 mod hand;
 mod keys;
 mod page;
+mod polling;
 mod progress;
 mod seen;
 mod shown;
 mod start;
+mod stopwatch;
 mod typed;
 
 pub use channel::is_channel_name;
 pub use hand::Hand;
 pub use keys::Keys;
-pub use progress::{Glances, Progress, ShownWire};
+pub use progress::Progress;
 pub use seen::{Ending, EventBefore, EventSeen, Record, RunNames, RunSeen};
 pub use shown::{ROWS_BEFORE, RunPage};
 pub use start::{StartFault, start_of};
+pub use stopwatch::{Stopwatch, nanoseconds};
 pub use typed::{Said, Typed};

@@ -1,18 +1,13 @@
-//! The progress line, and what draws it during a run.
-ghost use Rattle.std.specs.Prelude.{◌≡◌};
-
+//! The progress line.
 use arrayvec::ArrayString;
-use std::cell::Cell;
 use std::fmt::{self, Write};
 use std::io;
 use std::rt::Clock;
 use std::time::{Duration, Instant};
-use vdcp_auto::{Controller, Phase, Source, Standing};
-use vdcp_drive::Watch;
+use vdcp_auto::{Controller, Heard, Phase, Source, Standing};
 use vdcp_list::Rest;
 use vdcp_log::write_at_once;
 use vdcp_value::ClipId;
-use vdcp_wire::{Came, PIECE, Wire, WireFault};
 use vdcp_words::Command;
 
 /// If nothing changed, the line is drawn again no sooner than after this time, in milliseconds.
@@ -30,21 +25,20 @@ const ERASE: &'static str = "\r\x1b[K";
 
 /// A line of a terminal that shows how far a run is: the item on air, as far as answers show, and for how long; the event
 /// that is next, the command whose answer is awaited, for how long nothing was answered, if that is long, how many events
-/// are reported (with the numbers of the whole list), and the time so far. It is drawn again if something changed, and ten times a second at most if nothing did.
-///
-/// A `ShownWire` draws it before each listen, and `Glances` says what is seen of the controller; before it has said
-/// anything the port is asked whether it is empty. They share the line, so its parts are in cells.
+/// are reported (with the numbers of the whole list), and the time so far. It is drawn again if something changed, and ten
+/// times a second at most if nothing did.
 #[derive(Drop)]
 pub struct Progress<'a, R: Clock, V: io::Write> {
     clock: &'a R,
     patience: Duration,
     // None once it has failed, or the clock has: nothing more is drawn.
-    terminal: Cell<Option<V>>,
-    work: Cell<Work>,
-    wait: Cell<Wait>,
+    terminal: Option<V>,
+    work: Work,
+    // When the first command went out that wasn't answered.
+    asked: Option<Instant>,
     // How many events are reported, and since when; None if they were when the run began.
-    reported: Cell<Option<(usize, Option<Instant>)>>,
-    drawing: Cell<Drawing>,
+    reported: Option<(usize, Option<Instant>)>,
+    drawing: Drawing,
 }
 
 /// What is done.
@@ -64,17 +58,6 @@ enum Work {
         /// How many events the whole list has.
         events: usize,
     },
-}
-
-/// What has come since the first command that wasn't answered.
-#[derive(Clone, Copy)]
-enum Wait {
-    /// There is none.
-    Nothing,
-    /// It went out then, and nothing has come.
-    Silent(Instant),
-    /// It went out then, and bytes have come that no silence has ended.
-    Bytes(Instant),
 }
 
 /// What is shown, but for the time.
@@ -106,101 +89,101 @@ impl<'a, R: Clock, V: io::Write + Drop> Progress<'a, R, V> {
         Progress {
             clock,
             patience: Duration::from_millis(PATIENCE + 2 * u64::from(silence)),
-            terminal: Cell::new(Some(terminal)),
-            work: Cell::new(Work::Questions),
-            wait: Cell::new(Wait::Nothing),
-            reported: Cell::new(None),
-            drawing: Cell::new(Drawing::Blank),
+            terminal: Some(terminal),
+            work: Work::Questions,
+            asked: None,
+            reported: None,
+            drawing: Drawing::Blank,
         }
     }
 
-    /// Erases the line.
-    pub fn clear(&self) {
-        let Some(mut terminal) = self.terminal.replace(None) else {
+    /// A command goes out.
+    pub fn note_sent(&mut self) {
+        if self.asked.is_none() {
+            self.asked = Instant::now(self.clock).ok();
+        }
+    }
+
+    /// An exchange has ended: this was heard, or nothing in time.
+    pub fn note_end(&mut self, heard: Option<Heard>) {
+        if heard.is_some() {
+            self.asked = None;
+        }
+    }
+
+    /// Draws the line, if it is to be drawn now. Until a controller is seen that awaits an answer, the port is asked
+    /// whether it is empty.
+    pub fn see<S: Source>(&mut self, controller: &Controller<Rest<S>>) {
+        if let Some(command) = controller.awaited() {
+            let reported = controller.source().from() + controller.settled();
+            self.note_reported(reported);
+            self.work = Work::of(controller, command, reported);
+        }
+        if self.show().is_err() {
+            self.terminal = None;
+        }
+    }
+
+    /// Erases the line. Nothing more is drawn.
+    pub fn clear(&mut self) {
+        let Some(mut terminal) = self.terminal.take() else {
             return;
         };
-        if let Drawing::Line { .. } = self.drawing.get() {
+        if let Drawing::Line { .. } = self.drawing {
             let _ = write_at_once(&mut terminal, ERASE.as_bytes());
             let _ = terminal.flush();
         }
     }
 
-    // A command has gone out.
-    fn note_sent(&self) {
-        match (self.wait.get(), Instant::now(self.clock)) {
-            (Wait::Silent(_), _) | (_, Err(_)) => {}
-            (Wait::Nothing | Wait::Bytes(_), Ok(now)) => self.wait.set(Wait::Silent(now)),
-        }
-    }
-
-    fn note_came(&self, came: Came) {
-        match (self.wait.get(), came) {
-            (Wait::Silent(since), Came::Bytes(n)) if n > 0 => self.wait.set(Wait::Bytes(since)),
-            (Wait::Bytes(_), Came::Silence) => self.wait.set(Wait::Nothing),
-            _ => {}
-        }
-    }
-
     // Draws what is seen now, if it is to be drawn.
-    fn show(&self) {
-        let Some(mut terminal) = self.terminal.replace(None) else {
-            return;
+    fn show(&mut self) -> io::Result<()> {
+        let Some(terminal) = &mut self.terminal else {
+            return Ok(());
         };
-        if self.show_on(&mut terminal).is_ok() {
-            let _ = self.terminal.replace(Some(terminal));
-        }
-    }
-
-    fn show_on(&self, terminal: &mut V) -> io::Result<()> {
         let now = Instant::now(self.clock)?;
         let glance = Glance {
-            work: self.work.get(),
-            reported: self.reported_for(now),
-            unanswered: self.unanswered(now),
+            work: self.work,
+            reported: reported_for(self.reported, now),
+            unanswered: unanswered_for(self.asked, now, self.patience),
         };
-        let Some(begun) = begun_before(self.drawing.get(), &glance, now) else {
+        let Some(begun) = begun_before(self.drawing, &glance, now) else {
             return Ok(());
         };
         draw(&glance, now.duration_since(begun).as_secs(), terminal)?;
-        self.drawing.set(Drawing::Line {
+        self.drawing = Drawing::Line {
             glance,
             begun,
             drawn: now,
-        });
+        };
         Ok(())
     }
 
     // Notes how many events are reported, and when that number last changed.
-    fn note_reported(&self, reported: usize) {
-        match self.reported.get() {
-            None => self.reported.set(Some((reported, None))),
+    fn note_reported(&mut self, reported: usize) {
+        match self.reported {
+            None => self.reported = Some((reported, None)),
             Some((last, _)) if last == reported => {}
             Some(_) => {
                 let now = Instant::now(self.clock).ok();
-                self.reported.set(Some((reported, now)));
+                self.reported = Some((reported, now));
             }
         }
     }
+}
 
-    // For how many seconds the last event has been reported, if that is known.
-    fn reported_for(&self, now: Instant) -> Option<u64> {
-        let (_, since) = self.reported.get()?;
-        Some(now.duration_since(since?).as_secs())
-    }
+// For how many seconds the last event has been reported, if that is known.
+fn reported_for(reported: Option<(usize, Option<Instant>)>, now: Instant) -> Option<u64> {
+    let (_, since) = reported?;
+    Some(now.duration_since(since?).as_secs())
+}
 
-    // For how many seconds nothing was answered, if that is long.
-    fn unanswered(&self, now: Instant) -> Option<u64> {
-        match self.wait.get() {
-            Wait::Nothing => None,
-            Wait::Silent(since) | Wait::Bytes(since) => {
-                let waited = now.duration_since(since);
-                if waited < self.patience {
-                    return None;
-                }
-                Some(waited.as_secs())
-            }
-        }
+// For how many seconds nothing was answered, if that is longer than this.
+fn unanswered_for(asked: Option<Instant>, now: Instant, patience: Duration) -> Option<u64> {
+    let waited = now.duration_since(asked?);
+    if waited < patience {
+        return None;
     }
+    Some(waited.as_secs())
 }
 
 // Writes the line at once, so that it doesn't flicker. What the terminal doesn't take then is never drawn.
@@ -227,76 +210,6 @@ fn begun_before(drawing: Drawing, glance: &Glance, now: Instant) -> Option<Insta
                 return None;
             }
             Some(begun)
-        }
-    }
-}
-
-/// A wire over another one, before each of whose listens the line is drawn.
-#[derive(Drop)]
-pub struct ShownWire<'a, R: Clock, V: io::Write, W: Wire> {
-    /// The wire below.
-    pub wire: W,
-    progress: &'a Progress<'a, R, V>,
-}
-
-impl<'a, R: Clock, V: io::Write, W: Wire> ShownWire<'a, R, V, W> {
-    /// A wire over this one.
-    pub fn new(wire: W, progress: &'a Progress<'a, R, V>) -> Self
-        ensures { result.wire ≡ wire }
-    {
-        ShownWire { wire, progress }
-    }
-}
-
-impl<R: Clock, V: io::Write + Drop, W: Wire> Wire for ShownWire<'_, R, V, W> {
-    ghost does = { λ act old new. W.does act old.wire new.wire };
-
-    ghost told = { λ w. W.told w.wire };
-
-    ghost failures = { λ w. W.failures w.wire };
-
-    fn send(&mut self, bytes: &[u8]) -> Result<(), WireFault> {
-        self.wire.send(bytes)?;
-        self.progress.note_sent();
-        Ok(())
-    }
-
-    fn listen(&mut self, buffer: &mut [u8; PIECE]) -> Result<Came, WireFault> {
-        self.progress.show();
-        let came = self.wire.listen(buffer)?;
-        self.progress.note_came(came);
-        Ok(came)
-    }
-
-    fn drop_waiting(&mut self) -> Result<(), WireFault> {
-        self.wire.drop_waiting()
-    }
-
-    ghost fails_once = { λ w. W.fails_once w.wire };
-
-    ghost tells = { λ act old new. W.tells act old.wire new.wire };
-}
-
-/// Says what is seen of a controller.
-#[derive(Drop)]
-pub struct Glances<'a, R: Clock, V: io::Write> {
-    progress: &'a Progress<'a, R, V>,
-}
-
-impl<'a, R: Clock, V: io::Write> Glances<'a, R, V> {
-    /// Of a controller that isn't seen yet.
-    pub fn new(progress: &'a Progress<'a, R, V>) -> Self {
-        Glances { progress }
-    }
-}
-
-impl<S: Source, R: Clock, V: io::Write + Drop> Watch<Rest<S>> for Glances<'_, R, V> {
-    fn look(&mut self, controller: &Controller<Rest<S>>) {
-        if let Some(command) = controller.awaited() {
-            let reported = controller.source().from() + controller.settled();
-            self.progress.note_reported(reported);
-            let work = Work::of(controller, command, reported);
-            self.progress.work.set(work);
         }
     }
 }

@@ -1,19 +1,27 @@
-use Rattle.std.proofs.Common.{refl, ◌∙◌}
+use Rattle.std.proofs.Common.{refl}
+use Rattle.std.specs.Prelude.{None}
+use Rattle.vdcp_operator.proofs.Pacing.{paces_nothing, paces_on}
 use Rattle.vdcp_operator.proofs.hand.Hand.ask_until.Goals as goal
 use Rattle.vdcp_operator.specs.Hands.{unasked, once_more}
 
 pub asks-init : goal.asks-init
-asks-init g c = record { held = refl; asked = unasked }
+asks-init g c = record { held = refl; start = refl; paces = paces_nothing _; asked = unasked }
 
 pub asks-preserved : goal.asks-preserved
 asks-preserved g c = record {
-  held = c.left-left.ensures.held ∙ c.next.ensures.held ∙ c.asks.invariant.held;
-  asked = rw c.left-left.ensures.page (rw c.left-left.ensures.typed (once_more c.asks.invariant.asked c.in-None.ensures.next));
+  held = cc c.wait_piece.ensures.rest;
+  start = cc c.wait_piece.ensures.rest;
+  paces = paces_on None _ _ _ c.asks.invariant.paces (rw c.next.ensures.polling at c.wait_piece.ensures.paces);
+  asked = rw c.wait_piece.ensures.rest (once_more c.asks.invariant.asked c.in-None.ensures.next);
 }
 
 pub returns-in-Some-clause-asks : goal.returns-in-Some-clause-asks
 returns-in-Some-clause-asks g c = once_more c.asks.invariant.asked c.in-Some.ensures.next
 
-pub returns-then-is_zero-clause-asks : goal.returns-then-is_zero-clause-asks
-returns-then-is_zero-clause-asks g c =
-    rw c.left-left.ensures.page (rw c.left-left.ensures.typed (once_more c.asks.invariant.asked c.in-None.ensures.next))
+pub returns-then-wait_piece-clause-asks : goal.returns-then-wait_piece-clause-asks
+returns-then-wait_piece-clause-asks g c =
+    rw c.wait_piece.ensures.rest (once_more c.asks.invariant.asked c.in-None.ensures.next)
+
+pub returns-then-wait_piece-clause-paces : goal.returns-then-wait_piece-clause-paces
+returns-then-wait_piece-clause-paces g c =
+    paces_on None _ _ _ c.asks.invariant.paces (rw c.next.ensures.polling at c.wait_piece.ensures.paces)

@@ -1,0 +1,37 @@
+-- How soon the state is asked again.
+use Rattle.std.specs.Prelude.{ℕ, ◌≡◌, ◌<◌, ◌≤◌, ◌+◌, ◌-◌, ◌^◌, min, Option, None, Some}
+use Rattle.vdcp_drive.specs.declared.hooks.Call.{Call}
+use Rattle.vdcp_log.specs.declared.hearing.Hearing.{Hearing}
+use Rattle.vdcp_log.specs.declared.hearing.Hearing.TheVariants as hears
+use Rattle.vdcp_operator.specs.declared.polling.Polling.{Polling}
+use Rattle.vdcp_words.specs.declared.command.Command.{Command}
+use Rattle.vdcp_words.specs.declared.command.Command.TheVariants as command
+
+-- the milliseconds from one STATUS to the next at least
+abbrev pub poll_of : Hearing → ℕ
+poll_of hears.AtSilences = 0
+poll_of (hears.AtOnce poll) = poll
+
+-- a STATUS goes out once it is due, by the run's own stopwatch, which a sleep sets forward
+abbrev pub IsDue : Option Command → (due now : ℕ) → Type 0
+IsDue (Some (command.Status groups)) due now = due ≤ now
+IsDue _ due now = Unit {0}
+
+-- and the next one is due that long after it
+abbrev pub due_after : Option Command → (least due now : ℕ) → ℕ
+due_after (Some (command.Status groups)) least due now = min (now + least) (2 ^ 64 - 1)
+due_after _ least due now = due
+
+-- this command goes out, or none: a STATUS once it is due. The stopwatch never goes back; and where no time has to pass it
+-- isn't read, and nothing is waited
+pub record Paces {R : Type 0} (command : Option Command) (old new : Polling R) : Type 0 where
+  pub waits : 0 < old.least → IsDue command old.due new.stopwatch.now
+  pub due : 0 < old.least → new.due ≡ due_after command old.least old.due new.stopwatch.now
+  pub least : new.least ≡ old.least
+  pub later : old.stopwatch.now ≤ new.stopwatch.now
+  pub unpaced : old.least ≡ 0 → old.due ≡ 0 → new ≡ old
+
+-- a call ends the wait, and what goes out then isn't waited for
+abbrev pub unless_called : Option Call → Option Command → Option Command
+unless_called None command = command
+unless_called (Some call) command = None

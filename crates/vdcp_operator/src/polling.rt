@@ -1,0 +1,68 @@
+//! How soon the state is asked again.
+ghost use Rattle.std.specs.Prelude.{◌≡◌, ◌≤◌, ◌*◌, ◌↔◌, IsTrue, None, Some, ℕ};
+ghost use Rattle.vdcp_words.specs.declared.command.Command.{Command};
+
+use crate::stopwatch::{Stopwatch, nanoseconds};
+use std::rt::Clock;
+use vdcp_log::Hearing;
+
+/// The pace at which the state is asked: one STATUS goes out no sooner than some time after the other.
+#[derive(Drop)]
+pub struct Polling<'a, R: Clock> {
+    stopwatch: Stopwatch<'a, R>,
+    // From one STATUS to the next at least, and when the next one may go out, in nanoseconds.
+    least: u64,
+    due: u64,
+}
+
+impl<'a, R: Clock> Polling<'a, R> {
+    ghost use Rattle.vdcp_operator.specs.Polls.{Paces, poll_of};
+
+    /// The pace of a run. One that hears at silences doesn't wait.
+    pub fn new(clock: &'a R, hearing: Hearing) -> Self
+        ensures least { result.least ≡ poll_of hearing * 1000000 }
+        ensures due { result.due ≡ 0 }
+    {
+        let poll = match hearing {
+            Hearing::AtSilences => 0,
+            Hearing::AtOnce(poll) => poll,
+        };
+        Polling {
+            stopwatch: Stopwatch::new(clock),
+            least: nanoseconds(poll),
+            due: 0,
+        }
+    }
+
+    /// No STATUS has to wait.
+    pub fn never_waits(&self) -> bool
+        ensures { IsTrue result ↔ self.now.least ≡ 0 }
+    {
+        self.least == 0
+    }
+
+    /// Waits until a STATUS may go out, for this many nanoseconds at most, and answers whether one may.
+    pub fn wait_piece(&mut self, most: u64) -> bool
+        ensures over { IsTrue result → self.old.due ≤ self.new.stopwatch.now }
+        ensures paces { Paces None self.old self.new }
+    {
+        if self.due == 0 {
+            return true;
+        }
+        let left = self.due.saturating_sub(self.stopwatch.read());
+        if left > 0 {
+            self.stopwatch.sleep(left.min(most));
+        }
+        left == 0
+    }
+
+    /// Waits until a STATUS may go out, which goes out then.
+    pub fn wait(&mut self)
+        ensures { (groups : ℕ) → Paces (Some (Command.Status groups)) self.old self.new }
+    {
+        if self.least > 0 {
+            self.stopwatch.sleep_until(self.due);
+            self.due = self.stopwatch.read().saturating_add(self.least);
+        }
+    }
+}
