@@ -198,18 +198,10 @@ fn run_settings_of<'a>(matches: &'a ArgMatches<'_>) -> RunSettings<'a>
         silence: run_silence_of(matches),
         hearing: hearing_of(matches),
         listens: listens_of(matches),
-        operated: is_operated(matches),
         from: from_of(matches),
         asrun: matches.get_str("asrun"),
         journal: journal_of(matches),
     }
-}
-
-// Whether an operator has a hand in a run.
-fn is_operated(matches: &ArgMatches) -> bool {
-    matches.get_flag("operator")
-        || matches.get_str("panel").is_some()
-        || matches.get_str("at").is_some()
 }
 
 // After how many unanswered exchanges in a row the controller gives up, by the specification. On a line that keeps order

@@ -11,8 +11,8 @@ use Rattle.vdcp_auto.specs.Turn.{given_in, outcome_of}
 use Rattle.vdcp_auto.specs.declared.exchange.Exchange.{Exchange}
 use Rattle.vdcp_auto.specs.declared.outcome.Outcome.{Outcome}
 use Rattle.vdcp_drive.specs.Auto.{IsReachedFrom}
-use Rattle.vdcp_drive.specs.declared.keep.KeptFault.{KeptFault}
-use Rattle.vdcp_drive.specs.declared.keep.KeptFault.TheVariants as fault
+use Rattle.vdcp_drive.specs.declared.hooks.KeptFault.{KeptFault}
+use Rattle.vdcp_drive.specs.declared.hooks.KeptFault.TheVariants as fault
 use Rattle.vdcp_drive.specs.declared.line.Ran.{Ran}
 use Rattle.vdcp_drive.specs.declared.line.Ran.TheVariants as ran
 use Rattle.vdcp_list.specs.Rests.{FromEvent, items_left}
@@ -72,13 +72,6 @@ ended_unneeded : (end : LineEnd) (answer : Result Ran KeptFault) (outcome : Opti
 ended_unneeded end answer outcome is h ended =
     subst (λ (e : LineEnd). (e ≡ line_end.Unneeded) ⊎ (e ≡ line_end.Failed)) (sym is)
     (ended_needs_none answer outcome h ended)
-
--- a controller that gives a command hasn't ended
-pub gives_none : (plan : Plan) (stop : Bool) (stage : Stage) → IsSome (given_in plan stop stage)
-    → ¬ IsSome (outcome_of stage)
-gives_none plan stop (Ready p) gives = λ some. cc
-gives_none plan stop (Awaiting p) gives = λ some. cc
-gives_none plan stop (Ended outcome) gives = λ some. cc
 
 -- a controller that gives the first command hasn't ended
 pub opens_unended : (plan : Plan) (stop : Bool) (stage : Stage) → IsSome (outcome_of stage)

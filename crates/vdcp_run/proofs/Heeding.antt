@@ -2,7 +2,7 @@
 use Rattle.std.proofs.Common.{◌≡◌, ℕ, List, [], ◌∷◌, ap, inl, inr, sym, ◌∙◌}
 use Rattle.std.specs.Prelude.{Bool, false, Option, Result}
 use Rattle.vdcp_drive.specs.Steps.{Chain}
-use Rattle.vdcp_drive.specs.declared.operator.Call.{Call}
+use Rattle.vdcp_drive.specs.declared.hooks.Call.{Call}
 use Rattle.vdcp_drive.specs.declared.vacancy.Vacancy.{Vacancy}
 use Rattle.vdcp_run.specs.Session.{Heeds, IsAsked, MayStop, Start}
 use Rattle.vdcp_run.specs.declared.settings.RunSettings.{RunSettings}

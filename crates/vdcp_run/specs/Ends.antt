@@ -2,8 +2,8 @@
 use Rattle.std.specs.Prelude.{ℕ, ◌+◌, ◌-◌, ◌^◌, min, Option, None, Some, option_map, Result, Ok, Err}
 use Rattle.vdcp_auto.specs.declared.outcome.Outcome.{Outcome}
 use Rattle.vdcp_auto.specs.declared.outcome.Outcome.TheVariants.{Done, Stopped, Lost, Denied, Missing, Refused, Foreign, Strange}
-use Rattle.vdcp_drive.specs.declared.keep.KeptFault.{KeptFault}
-use Rattle.vdcp_drive.specs.declared.keep.KeptFault.TheVariants as fault
+use Rattle.vdcp_drive.specs.declared.hooks.KeptFault.{KeptFault}
+use Rattle.vdcp_drive.specs.declared.hooks.KeptFault.TheVariants as fault
 use Rattle.vdcp_drive.specs.declared.line.Ran.{Ran}
 use Rattle.vdcp_drive.specs.declared.line.Ran.TheVariants as ran
 use Rattle.vdcp_drive.specs.declared.vacancy.Vacancy.{Vacancy}

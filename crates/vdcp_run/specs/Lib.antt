@@ -1,7 +1,6 @@
 -- The definitions, file by file.
 pub mod Ends
 pub mod Lapse
-pub mod Polls
 pub mod Stalls
 pub mod Waiting
 pub mod Session

@@ -7,111 +7,127 @@ ghost use Rattle.vdcp_run.specs.Ends.{IsOpening, unbegun_line};
 ghost use Rattle.vdcp_list.specs.Rests.{items_left};
 ghost use Rattle.vdcp_run.specs.Session.{IsAsked, MayBegin, MayStop, start_of};
 
+use crate::console::Console;
 use crate::run_end::LineEnd;
 use crate::settings::RunSettings;
 use std::io;
-use std::rt::Clock;
-use vdcp_auto::{Controller, Source};
+use std::rt::{Clock, Files};
+use vdcp_auto::{Controller, Heard, Source};
 use vdcp_drive::{Call, Vacancy, ask_port};
 use vdcp_list::Rest;
-use vdcp_operator::Hand;
 use vdcp_wire::{Came, PIECE, Wire, WireFault};
 use vdcp_words::Command;
 
 /// What the questions to a port came to, and what they left.
 #[derive(Drop)]
-pub struct Asked<'h, R: Clock, I: io::Read, O: io::Write, W> {
+pub struct Asked<W, C> {
     pub answer: Result<Vacancy, WireFault>,
     pub wire: W,
-    pub hand: Hand<'h, R, I, O>,
+    pub console: C,
     /// How many listens may still be made.
     pub left: u32,
     /// The operator stopped at the end of an exchange, and nothing was asked after it.
     pub is_stopped: bool,
 }
 
-/// Asks the port over this wire whether it is empty, if it is to be asked, unless the operator stops; what he called is held.
-pub fn ask_first<'h, R: Clock, S: Source, W: Wire + Drop, I: io::Read + Drop, O: io::Write + Drop>(
-    controller: &Controller<Rest<S>>,
-    wire: W,
-    settings: RunSettings<'_>,
-    hand: Hand<'h, R, I, O>,
-) -> Asked<'h, R, I, O, W>
-    requires unit { settings.unit ≤ 15 }
-    requires some { 1 ≤ settings.limit }
-    requires works { W.failures wire ≡ 0 }
-    ensures works { OnOk result.answer (W.failures result.wire ≡ 0) }
-    ensures asked { result.is_stopped ≡ false → IsAsked W.does settings.entry (start_of S.items controller.now) wire
-        result.wire result.left result.answer }
-    ensures stopped { result.is_stopped ≡ true → (settings.entry.operated ≡ true)
-        × IsAsked (MayStop W.does) settings.entry (start_of S.items controller.now) wire result.wire result.left result.answer }
-    ensures opened { ¬ IsOpening (turns.given (plan_of (items_left S.items) controller.now) controller.now.state) →
-        result.is_stopped ≡ false }
-{
-    let mut left = settings.listens;
-    if !settings.operated {
-        let mut wire = wire;
-        let answer = vacancy_for(controller, settings, &mut left, &mut wire);
-        return Asked {
-            answer,
+impl<
+    'r,
+    'l,
+    R: Files + Clock + AllocGlobal,
+    I: io::Read + Drop,
+    O: io::Write + Drop,
+    V: io::Write + Drop,
+> Console<'r, 'l, R, I, O, V> {
+    /// Asks the port over this wire whether it is empty, if it is to be asked, unless the operator stops; what he called is
+    /// held.
+    pub fn ask_first<S: Source, W: Wire + Drop>(
+        self,
+        controller: &Controller<Rest<S>>,
+        wire: W,
+        settings: RunSettings<'_>,
+    ) -> Asked<W, Self>
+        requires unit { settings.unit ≤ 15 }
+        requires some { 1 ≤ settings.limit }
+        requires works { W.failures wire ≡ 0 }
+        ensures works { OnOk result.answer (W.failures result.wire ≡ 0) }
+        ensures asked { result.is_stopped ≡ false → IsAsked W.does settings.entry (start_of S.items controller.now) wire
+            result.wire result.left result.answer }
+        ensures stopped { result.is_stopped ≡ true → IsAsked (MayStop W.does) settings.entry
+            (start_of S.items controller.now) wire result.wire result.left result.answer }
+        ensures opened { ¬ IsOpening (turns.given (plan_of (items_left S.items) controller.now) controller.now.state) →
+            result.is_stopped ≡ false }
+    {
+        let mut left = settings.listens;
+        let mut heeding = Heeding {
             wire,
-            hand,
-            left,
+            console: self,
+            controller,
+            heard: None,
             is_stopped: false,
         };
-    }
-    let mut heeding = Heeding {
-        wire,
-        hand,
-        controller,
-        is_stopped: false,
-    };
-    let answer = vacancy_for(controller, settings, &mut left, &mut heeding);
-    let Heeding {
-        wire,
-        hand,
-        is_stopped,
-        ..
-    } = heeding;
-    Asked {
-        answer,
-        wire,
-        hand,
-        left,
-        is_stopped,
+        let answer = vacancy_for(controller, settings, &mut left, &mut heeding);
+        let Heeding {
+            wire,
+            console,
+            is_stopped,
+            ..
+        } = heeding;
+        Asked {
+            answer,
+            wire,
+            console,
+            left,
+            is_stopped,
+        }
     }
 }
 
-/// A wire at the end of each of whose bursts the operator is asked: once he stops, it looks closed.
+/// A wire before each of whose listens the progress is shown, and at the end of each of whose bursts the operator is asked:
+/// once he stops, it looks closed.
 #[derive(Drop)]
-struct Heeding<'c, 'h, S: Source, R: Clock, I: io::Read, O: io::Write, W: Wire> {
+struct Heeding<'c, 'r, 'l, S: Source, R: Clock, I: io::Read, O: io::Write, V: io::Write, W: Wire> {
     wire: W,
-    hand: Hand<'h, R, I, O>,
+    console: Console<'r, 'l, R, I, O, V>,
     // That of the run, which the operator is shown.
     controller: &'c Controller<Rest<S>>,
+    // Something, once bytes of a burst have come.
+    heard: Option<Heard>,
     is_stopped: bool,
 }
 
-impl<S: Source, R: Clock, I: io::Read + Drop, O: io::Write, W: Wire> Wire
-    for Heeding<'_, '_, S, R, I, O, W> {
+impl<
+    S: Source,
+    R: Files + Clock + AllocGlobal,
+    I: io::Read + Drop,
+    O: io::Write + Drop,
+    V: io::Write + Drop,
+    W: Wire,
+> Wire for Heeding<'_, '_, '_, S, R, I, O, V, W> {
     ghost use Rattle.std.specs.Prelude.{None, refl};
     ghost use Rattle.vdcp_run.specs.Session.{Heeds};
 
-    ghost does = { λ act old new. Heeds W.does new.hand.held old.is_stopped new.is_stopped act old.wire new.wire };
+    ghost does = { λ act old new. Heeds W.does new.console.hand.held old.is_stopped new.is_stopped act old.wire new.wire };
 
     ghost told = { λ _. None };
 
     ghost failures = { λ w. W.failures w.wire };
 
     fn send(&mut self, bytes: &[u8]) -> Result<(), WireFault> {
-        self.wire.send(bytes)
+        self.wire.send(bytes)?;
+        self.console.note_sent();
+        Ok(())
     }
 
     fn listen(&mut self, buffer: &mut [u8; PIECE]) -> Result<Came, WireFault> {
+        self.console.see(self.controller);
         match self.wire.listen(buffer)? {
-            Came::Bytes(n) => Ok(Came::Bytes(n)),
+            Came::Bytes(n) => {
+                self.heard = Some(Heard::Other);
+                Ok(Came::Bytes(n))
+            }
             Came::Silence => {
-                if let Some(Call::Stop) = self.hand.heed(self.controller) {
+                self.console.note_end(self.heard.take());
+                if let Some(Call::Stop) = self.console.hand.heed(self.controller) {
                     self.is_stopped = true;
                     return Ok(Came::Closed);
                 }

@@ -5,10 +5,10 @@ ghost use Rattle.vdcp_wire.specs.Wires.{arrival_of, FitsBuffer};
 ghost use Rattle.vdcp_run.specs.Lapse.{has_lapsed, since_after, since_with, silences_of, IsNoted, Lapses, LapsesAt};
 
 use crate::settings::RunSettings;
-use crate::stopwatch::{Stopwatch, nanoseconds};
 use std::cell::Cell;
 use std::rt::Clock;
 use vdcp_log::Hearing;
+use vdcp_operator::{Stopwatch, nanoseconds};
 use vdcp_wire::{Came, PIECE, Wire, WireFault};
 
 /// What has come since a command went out, and since the last silence of the wire below.

@@ -3,8 +3,8 @@
 //! `do_run` connects to an address and plays a list through the port of the server there. Each fault has a line on
 //! standard error, and the exit status is given.
 //!
-//! Files, in reading order: `settings`, `run`, `begin`, `connecting`, `session`, `asking`, `lack`, `run_end`, `advice`, `asrun`, `saved`,
-//! `place`, `in_list`, `before`, `polling`, `lapsing`, `waiting`, `stalling`, `stopwatch`.
+//! Files, in reading order: `settings`, `run`, `begin`, `connecting`, `session`, `playing`, `console`, `stalling`, `waiting`, `asking`,
+//! `lapsing`, `lack`, `run_end`, `advice`, `asrun`, `saved`, `place`, `in_list`, `before`.
 #![tactic(auto)]
 
 mod advice;
@@ -13,18 +13,18 @@ mod asrun;
 mod before;
 mod begin;
 mod connecting;
+mod console;
 mod in_list;
 mod lack;
 mod lapsing;
 mod place;
-mod polling;
+mod playing;
 mod run;
 mod run_end;
 mod saved;
 mod session;
 mod settings;
 mod stalling;
-mod stopwatch;
 mod waiting;
 
 pub use advice::{Advice, Next, Reason};

@@ -13,7 +13,7 @@ use crate::advice::{Advice, Seen};
 use crate::begin::begin;
 use crate::place::{Apart, tell_place};
 use crate::run_end::RunEnd;
-use crate::session::play_at;
+use crate::session::Session;
 use crate::settings::{RunJournal, RunSettings, Showing};
 use std::fs::{self, File};
 use std::io;
@@ -36,8 +36,8 @@ use vdcp_wire::address_of;
 /// A controller begins with the list's first event, or with the one that is named, or after what a journal shows; the
 /// numbers that are told are always those of the whole list.
 ///
-/// If `settings` say so an operator has a hand in the run: its calls are given, and kept before, its page shows the
-/// run, and the first event goes to air at its time.
+/// By `hand` an operator has a part in the run: its calls are given, and kept before, its page shows the run, and the
+/// first event goes to air at its time, each if it is there.
 ///
 /// What the headline says of a controller and its log holds of the reported events: they are those that the
 /// exchanges over the line show to be settled.
@@ -61,6 +61,7 @@ use vdcp_wire::address_of;
 /// is written.
 pub fn do_run<
     's,
+    'r,
     R: Net + Files<File = File> + Clock + AllocGlobal,
     L: io::Read + Drop,
     V: io::Write + Drop,
@@ -69,12 +70,12 @@ pub fn do_run<
     W: io::Write,
     E: io::Write,
 >(
-    rt: &R,
+    rt: &'r R,
     address: &str,
     list: NamedFile<'_, L>,
     settings: RunSettings<'s>,
     showing: Showing<V>,
-    hand: Hand<'_, R, I, O>,
+    hand: Hand<'r, R, I, O>,
     advice: &mut Option<Advice<'s>>,
     out: &mut W,
     err: &mut E,
@@ -109,7 +110,13 @@ pub fn do_run<
     ensures statuses { result ≤ 3 }
 {
     let mut seen = Seen::new();
-    match run_list(rt, address, list, settings, showing, hand, &mut seen) {
+    let session = Session {
+        rt,
+        settings,
+        showing,
+        hand,
+    };
+    match session.run_list(address, list, &mut seen) {
         Ok(end) => {
             *advice = Advice::of_end(&end, settings.journal, seen);
             end.tell(out, err).unwrap_or(3)
@@ -121,51 +128,51 @@ pub fn do_run<
     }
 }
 
-// Reads the list, connects, plays the list, and writes what is reported of it. `seen` gets what was seen of the run.
-fn run_list<
+impl<
     'a,
+    'r,
     R: Net + Files<File = File> + Clock + AllocGlobal,
-    L: io::Read + Drop,
-    V: io::Write + Drop,
     I: io::Read + Drop,
     O: io::Write + Drop,
->(
-    rt: &R,
-    address: &str,
-    list: NamedFile<'a, L>,
-    settings: RunSettings<'a>,
-    mut showing: Showing<V>,
-    hand: Hand<'_, R, I, O>,
-    seen: &mut Seen,
-) -> Result<RunEnd<'a>, Failure<'a>>
-    requires unit { settings.unit ≤ 15 }
-    requires some { 1 ≤ settings.limit }
-    requires few { settings.limit ≤ 1000 }
-    ensures address { OnOk result (IsAddress address.now) }
-    ensures whole { OnOk result (IsWholeList settings.entry.rate
-        (file list.entry.name (L.remaining list.entry.reader))) }
-    ensures played { IfOk result (IsPlayed settings.entry (file list.entry.name (L.remaining list.entry.reader))) }
-    ensures unplayed { IfErr result (IsUnplayed settings.entry address.now
-        (file list.entry.name (L.remaining list.entry.reader))) }
-{
-    let Ok(address) = address_of(address) else {
-        return Err(Failure::Address);
-    };
-    let name = list.name;
-    let (events, _) = read_events(rt, list, settings)?;
-    let begun = match begin(rt, &events, settings) {
-        Ok((begun, _)) => begun,
-        Err(failure) => return Err(told_of_list(name, failure)),
-    };
-    tell_place(rt, settings, &mut showing.telling);
-    let end = play_at(rt, address, begun, settings, showing, hand, seen);
-    if let Ok(end) = &end {
-        seen.missing = missing_clip(&events, end.told_outcome());
+    V: io::Write + Drop,
+> Session<'a, 'r, R, I, O, V> {
+    // Reads the list, connects, plays the list, and writes what is reported of it. `seen` gets what was seen of the run.
+    fn run_list<L: io::Read + Drop>(
+        mut self,
+        address: &str,
+        list: NamedFile<'a, L>,
+        seen: &mut Seen,
+    ) -> Result<RunEnd<'a>, Failure<'a>>
+        requires unit { self.settings.unit ≤ 15 }
+        requires some { 1 ≤ self.settings.limit }
+        requires few { self.settings.limit ≤ 1000 }
+        ensures address { OnOk result (IsAddress address.now) }
+        ensures whole { OnOk result (IsWholeList self.entry.settings.rate
+            (file list.entry.name (L.remaining list.entry.reader))) }
+        ensures played { IfOk result (IsPlayed self.entry.settings
+            (file list.entry.name (L.remaining list.entry.reader))) }
+        ensures unplayed { IfErr result (IsUnplayed self.entry.settings address.now
+            (file list.entry.name (L.remaining list.entry.reader))) }
+    {
+        let Ok(address) = address_of(address) else {
+            return Err(Failure::Address);
+        };
+        let (rt, name, settings) = (self.rt, list.name, self.settings);
+        let (events, _) = read_events(rt, list, settings)?;
+        let begun = match begin(rt, &events, settings) {
+            Ok((begun, _)) => begun,
+            Err(failure) => return Err(told_of_list(name, failure)),
+        };
+        tell_place(rt, settings, &mut self.showing.telling);
+        let end = self.play_at(address, begun, seen);
+        if let Ok(end) = &end {
+            seen.missing = missing_clip(&events, end.told_outcome());
+        }
+        if let Some(name) = unbegun_journal(&end, settings.journal) {
+            let _ = fs::remove_file(rt, name);
+        }
+        end
     }
-    if let Some(name) = unbegun_journal(&end, settings.journal) {
-        let _ = fs::remove_file(rt, name);
-    }
-    end
 }
 
 // The clip that the server doesn't have, if a run of the list ended by that.

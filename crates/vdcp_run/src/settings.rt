@@ -28,8 +28,6 @@ pub struct RunSettings<'a> {
     pub hearing: Hearing,
     /// The most listens that are made.
     pub listens: u32,
-    /// An operator has a hand in it: calls are typed, a page takes them, or a start is waited for.
-    pub operated: bool,
     /// The event of the list that a new controller begins with, if one is named; else it is the first one, 0.
     pub from: Option<usize>,
     /// The file that is made for the as-run list, if one is wanted.

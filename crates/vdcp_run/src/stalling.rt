@@ -4,14 +4,10 @@ ghost use Rattle.vdcp_auto.specs.State.{Awaiting};
 ghost use Rattle.vdcp_auto.specs.declared.phase.Phase.{Phase};
 ghost use Rattle.vdcp_run.specs.Stalls.{awaited_phase, first_stall, stall_after};
 
-use crate::settings::RunSettings;
-use crate::stopwatch::Stopwatch;
-use std::io;
 use std::rt::Clock;
 use vdcp_auto::{Controller, Phase, Source, Standing};
-use vdcp_drive::Watch;
-use vdcp_list::Rest;
-use vdcp_log::{Hearing, Log};
+use vdcp_log::Hearing;
+use vdcp_operator::Stopwatch;
 
 /// For how long the first cue may go on, in nanoseconds, until that is told.
 const PATIENCE: u64 = 5_000_000_000;
@@ -27,39 +23,25 @@ enum Stall {
     Told,
 }
 
-/// Lends on what it is lent, and tells a log, once, if the state is asked for five seconds long while the first event is
-/// cued. (One that hears at silences lets them pass, by which a server may count.)
+/// Sees, once, that the state is asked for five seconds long while the first event is cued. (A run that hears at silences
+/// lets them pass, by which a server may count.)
 #[derive(Drop)]
-pub struct Stalling<'a, R: Clock, L: io::Write, V> {
-    watcher: V,
-    stopwatch: Stopwatch<'a, R>,
-    log: &'a Log<L>,
-    // What ends the line that stands where the log is told.
-    erases: &'static str,
+pub struct Stalling<'r, R: Clock> {
+    stopwatch: Stopwatch<'r, R>,
     stall: Stall,
     // What the last command was for.
     last: Option<Phase>,
 }
 
-impl<'a, R: Clock, L: io::Write, V> Stalling<'a, R, L, V> {
-    /// Over this watcher of a run that begins.
-    pub fn new(
-        watcher: V,
-        clock: &'a R,
-        log: &'a Log<L>,
-        erases: &'static str,
-        settings: RunSettings<'_>,
-    ) -> Self
-        ensures watcher { result.watcher ≡ watcher }
-        ensures stall { result.stall ≡ first_stall settings.entry.hearing }
+impl<'r, R: Clock> Stalling<'r, R> {
+    /// Of a run that begins.
+    pub fn new(clock: &'r R, hearing: Hearing) -> Self
+        ensures stall { result.stall ≡ first_stall hearing }
         ensures last { result.last ≡ None }
     {
         Stalling {
-            watcher,
             stopwatch: Stopwatch::new(clock),
-            log,
-            erases,
-            stall: match settings.hearing {
+            stall: match hearing {
                 Hearing::AtSilences => Stall::Told,
                 Hearing::AtOnce(_) => Stall::Nothing,
             },
@@ -73,26 +55,17 @@ impl<'a, R: Clock, L: io::Write, V> Stalling<'a, R, L, V> {
     {
         self.last
     }
-}
 
-impl<S: Source, R: Clock, L: io::Write + Drop, V: Watch<Rest<S>>> Watch<Rest<S>>
-    for Stalling<'_, R, L, V> {
-    fn look(&mut self, controller: &Controller<Rest<S>>)
+    /// Looks at the controller. It answers whether a stall is to be told now.
+    pub fn look<S: Source>(&mut self, controller: &Controller<S>) -> bool
         ensures told { (cues : Bool) → (cues ≡ true ↔ controller.now.state.stage ≡ Awaiting (Phase.Wait 0)) →
             self.new.stall ≡ stall_after cues self.old.stall self.new.stopwatch.now }
         ensures last { self.new.last ≡ awaited_phase controller.now.state.stage }
     {
-        self.watcher.look(controller);
         self.last = awaited_phase(controller);
         let stall = self.stall;
         self.stall = stall_after(is_cued_first(controller), stall, self.stopwatch.read());
-        if let (Stall::Since(_), Stall::Told) = (stall, self.stall) {
-            let event = controller.source().from();
-            let erases = self.erases;
-            self.log.tell_fault(&format_args!(
-                "{erases}vdcp: event {event} is still being cued: if frames pass at the server's silences, serve with --real-time, or run with a longer --poll"
-            ));
-        }
+        matches!((stall, self.stall), (Stall::Since(_), Stall::Told))
     }
 }
 

@@ -1,20 +1,18 @@
-use Rattle.vdcp_run.proofs.Driven.{asks_so}
+use Rattle.vdcp_run.proofs.Driven.{runs_from}
 use Rattle.vdcp_run.proofs.waiting.ask_by.Goals as goal
 
-pub returns-in-Ok-clause-asks : goal.returns-in-Ok-clause-asks
-returns-in-Ok-clause-asks g c = (
+pub returns-in-Ok-clause-runs : goal.returns-in-Ok-clause-runs
+returns-in-Ok-clause-runs g c = (
   c.run_with.new.self.wire,
   c.into_wire.ensures,
-  asks_so g.S.Source.items g.W.Wire.does (λ k. record { operated = k.operated; held = k.hand.held }) _ g.E.Ear.fold g.W.Wire.failures c.from-listens.result c.args.settings.listens
-      c.from-listens.ensures c.args.driver c.run_with.new.self _ _ _ _ c.run_with.result c.run_with.ensures.leaves
-      c.requires.works,
+  runs_from g.S.Source.items _ g.E.Ear.fold g.W.Wire.failures c.from.result c.args.listens c.from.ensures c.args.driver
+      c.run_with.new.self _ _ c.run_with.result c.run_with.ensures.leaves c.requires.works,
 )
 
-pub returns-clause-asks : goal.returns-clause-asks
-returns-clause-asks g c = (
+pub returns-in-Err-Device-clause-runs : goal.returns-in-Err-Device-clause-runs
+returns-in-Err-Device-clause-runs g c = (
   c.run_with.new.self.wire,
   tt,
-  asks_so g.S.Source.items g.W.Wire.does (λ k. record { operated = k.operated; held = k.hand.held }) _ g.E.Ear.fold g.W.Wire.failures c.from-listens.result c.args.settings.listens
-      c.from-listens.ensures c.args.driver c.run_with.new.self _ _ _ _ c.run_with.result c.run_with.ensures.leaves
-      c.requires.works,
+  runs_from g.S.Source.items _ g.E.Ear.fold g.W.Wire.failures c.from.result c.args.listens c.from.ensures c.args.driver
+      c.run_with.new.self _ _ c.run_with.result c.run_with.ensures.leaves c.requires.works,
 )

@@ -1,0 +1,69 @@
+//! What takes part in a run beside its wire.
+use crate::console::Console;
+use std::io;
+use std::rt::{Clock, Files};
+use vdcp_auto::{Controller, Heard, Source};
+use vdcp_drive::{Call, Hooks, KeepFault};
+use vdcp_journal_file::{Disk, Recorder};
+use vdcp_list::Rest;
+use vdcp_words::Command;
+
+/// What takes part in a run beside its wire: the recorder of its journal, if it has one, and the console.
+#[derive(Drop)]
+pub struct Playing<'a, 'r, 'l, R: Clock, F: Disk, I: io::Read, O: io::Write, V: io::Write> {
+    pub recorder: Option<Recorder<'a, 'r, R, F>>,
+    pub console: Console<'r, 'l, R, I, O, V>,
+}
+
+impl<
+    S: Source,
+    R: Files + Clock + AllocGlobal,
+    F: Disk + Drop,
+    I: io::Read + Drop,
+    O: io::Write + Drop,
+    V: io::Write + Drop,
+> Hooks<Rest<S>> for Playing<'_, '_, '_, R, F, I, O, V> {
+    ghost use Rattle.std.specs.Prelude.{Option};
+    ghost use Rattle.vdcp_drive.specs.Hooked.{MayKeep};
+    ghost use Rattle.vdcp_journal_file.specs.Recorded.{Notes};
+    ghost use Rattle.vdcp_journal_file.specs.Recording.{Recording};
+    ghost use Rattle.vdcp_run.specs.Session.{MayLose};
+
+    ghost Journal = { Option (Recording F) };
+
+    ghost journal = { λ p. p.recorder };
+
+    ghost adds = { MayKeep (Notes F.safe) };
+
+    ghost loses = { MayLose F.safe };
+
+    fn due(&mut self, controller: &Controller<Rest<S>>) -> Option<Call> {
+        self.console.hand.call(controller)
+    }
+
+    fn keep_call(&mut self, call: Call) -> Result<(), KeepFault> {
+        match &mut self.recorder {
+            Some(recorder) => Hooks::<Rest<S>>::keep_call(recorder, call),
+            None => Ok(()),
+        }
+    }
+
+    fn keep_sent(&mut self, unit: u8, command: &Command, bytes: &[u8]) -> Result<(), KeepFault> {
+        self.console.note_sent();
+        match &mut self.recorder {
+            Some(recorder) => Hooks::<Rest<S>>::keep_sent(recorder, unit, command, bytes),
+            None => Ok(()),
+        }
+    }
+
+    fn note_end(&mut self, heard: Option<Heard>) {
+        self.console.note_end(heard);
+        if let Some(recorder) = &mut self.recorder {
+            Hooks::<Rest<S>>::note_end(recorder, heard);
+        }
+    }
+
+    fn see(&mut self, controller: &Controller<Rest<S>>) {
+        self.console.see(controller);
+    }
+}
