@@ -373,8 +373,10 @@ function redraw() {
 
 function commandText() {
   const { late, limit, confirming } = session.setup;
-  const words = ['vdcp sim PLAYLIST CATALOGUE SCRIPT', late && '--late', confirming && '--confirm', limit !== 3 && `--limit ${limit}`].filter(Boolean).join(' ');
-  return session.world.left ? `No line of the premises does this, so vdcp sim refuses the words that begin with “break-”.` : `${words} says the same.`;
+  if (session.world.left) return 'No line of the premises does this, so vdcp sim refuses the words that begin with “break-”.';
+  if (late) return 'This page alone plays scripts of a line that may be late; those of one burst each way vdcp sim plays, too.';
+  const words = ['vdcp sim PLAYLIST CATALOGUE SCRIPT', confirming && '--confirm', limit !== 3 && `--limit ${limit}`].filter(Boolean).join(' ');
+  return `${words} says the same.`;
 }
 
 function pause() {

@@ -1,4 +1,4 @@
-/* The scripts of vdcp sim: reading and writing them, playlists and catalogues. docs/FORMATS.md has the forms. */
+/* Scripts, of either line: reading and writing them, playlists and catalogues. docs/FORMATS.md has the forms. */
 import { idBytes, timeBytes } from '../vdcp.mjs';
 
 const MOST_EVENTS = 100000;

@@ -1,6 +1,6 @@
 #!/usr/bin/env python3
-"""line.py library | scripts PROGRAM FOLDER | random PROGRAM FOLDER COUNT | refused PROGRAM FOLDER | excluded | dice COUNT |
-hand PROGRAM FOLDER | read [FOLDER] | record: opens docs/line.html in headless Chromium from the disk, and fails if it doesn't do what the
+"""line.py library | scripts PROGRAM FOLDER | late | random PROGRAM FOLDER COUNT | refused PROGRAM FOLDER | excluded | dice COUNT |
+hand | read [FOLDER] | record: opens docs/line.html in headless Chromium from the disk, and fails if it doesn't do what the
 manual says of `vdcp sim`, or what it says of itself. With FOLDER `read` leaves pictures there. `record` prints what js/line/recorded.json
 has to be."""
 import concurrent.futures
@@ -117,14 +117,51 @@ def without_counts(said):
     return "".join(line + "\n" for line in said.splitlines() if not line.startswith("exchanges"))
 
 
+# Scripts of a line that may be late, over CLIP0001 and CLIP0002: whether in confirm mode, and how many air, are reported, and end an exchange,
+# and the outcome. (A proved program printed these.)
+LATE_RUNS = [
+    (False, "good 3,junk-down ff,server-anew,good 6", 0, 0, 5, "refused 0"),
+    (False, "junk-up 050a,junk-up 02023081014d,good 8,alter-up 02021001ef05,good 5", 0, 0, 9, "lost"),
+    (False, "tick,timeout,tick,automation-anew", 0, 0, 2, "open"),
+    (False, "tick,down,timeout,tick,down,up,up,good 14", 2, 2, 15, "done"),
+    (False, "tick,down,up,server-anew,tick,down,up-copy", 0, 0, 2, "denied"),
+    (False, "good 8,server-anew,good 3", 1, 1, 9, "refused 1"),
+    (False, "junk-down ff,tick,lose-down 2,good 13", 1, 1, 14, "open"),
+    (False, "junk-up 050a,tick,down,lose-up 2,good 4,tick,timeout", 0, 0, 6, "open"),
+    (False, "good 5,tick,alter-down ff,down-copy,up,down,lose-up,timeout,good 9", 2, 2, 15, "open"),
+    (False, "stop,automation-anew,frame,take,tick,down,lose-up,server-anew,timeout,good 14", 2, 2, 15, "done"),
+    (True, "junk-down ff,junk-up 050a,good 4,junk-up 04,up,server-anew,good 7", 0, 0, 9, "lost"),
+    (True, "junk-up 04,good 4,alter-up 02033087004a,up", 0, 0, 3, "open"),
+    (True, "good 8,junk-up 02023081014d,good 3", 1, 1, 11, "open"),
+    (True, "tick,automation-anew,tick", 0, 0, 1, "open"),
+    (True, "tick,down,up,tick,down,lose-up,stray-ack,stray-nak 01,good 18", 2, 2, 17, "done"),
+]
+# And what examples/late.txt comes to.
+LATE_SAYS = "aired 0 CLIP0001\naired 1 CLIP0002 00:00:02:00 00:00:03:00\naired 2 A,B\nreported 3\nexchanges 22\noutcome done\n"
+
+
+def late_sim(page, script, files=(LIST, CATALOGUE), confirming=False):
+    """What the page's own engine says of a script of a line that may be late, in the words of vdcp sim."""
+    setup = {"list": files[0], "catalogue": files[1], "confirming": confirming, "trace": False}
+    return page.execute_script("return line.sim(arguments[0], arguments[1])", script, setup)
+
+
+def late(page):
+    opens(page)
+    for confirming, script, aired, reported, exchanges, outcome in LATE_RUNS:
+        wanted = "".join(f"aired {k} CLIP000{k + 1}\n" for k in range(aired)) + f"reported {reported}\nexchanges {exchanges}\noutcome {outcome}\n"
+        got = late_sim(page, script.replace(",", "\n"), ("CLIP0001\nCLIP0002\n", CATALOGUE), confirming)
+        must(got == wanted, f"{script}: the page says {got!r}, and not {wanted!r}")
+
+
 def scripts(page, program, folder):
     opens(page)
     for name in ("one_event.txt", "lossy.txt", "late.txt"):
         Select(page.find_element(By.ID, "examples")).select_by_visible_text(name)
         (watches_to_the_end if name == "one_event.txt" else steps_to_the_end)(page)
-        words = ["--late"] if name == "late.txt" else []
-        wanted = sim(program, folder, (TOP / "examples" / name).read_text(), *words)
-        must(shown(page) == without_counts(wanted), f"{name}: the page shows {shown(page)!r}, vdcp sim prints {wanted!r}")
+        is_late = name == "late.txt"
+        wanted = LATE_SAYS if is_late else sim(program, folder, (TOP / "examples" / name).read_text())
+        must(shown(page) == without_counts(wanted), f"{name}: the page shows {shown(page)!r}, and not {wanted!r}")
         # (stepping back to the beginning and on again leads to the same)
         for _ in range(5):
             click(page, "back")
@@ -132,7 +169,8 @@ def scripts(page, program, folder):
         steps_to_the_end(page)
         must(shown(page) == without_counts(wanted), f"{name}: after five steps back and on it shows {shown(page)!r}")
         done = text(page, "done")
-        must(sim(program, folder, done, *words) == wanted, f"{name}: the script of what was done says something else: {done!r}")
+        said = late_sim(page, done) if is_late else sim(program, folder, done)
+        must(said == wanted, f"{name}: the script of what was done says something else: {done!r}")
 
 
 # What a random script has: mostly what goes on, and what befalls the line.
@@ -171,7 +209,7 @@ def random_run(seed):
     dice = random.Random(seed)
     late, confirming, limit = seed % 2 == 1, dice.random() < 0.4, dice.choice([1, 2, 3, 3, 5])
     files = dice.choice(LISTS)
-    words = [*(["--late"] if late else []), *(["--confirm"] if confirming else []), "--limit", str(limit)]
+    words = [*(["--confirm"] if confirming else []), "--limit", str(limit)]
     setup = {"list": files[0], "catalogue": files[1], "late": late, "confirming": confirming, "limit": limit}
     return random_script(dice, late), words, files, setup
 
@@ -185,10 +223,11 @@ def random_scripts(page, program, folder, count):
     opens(page)
     runs = [random_run(seed) for seed in range(int(count))]
     with concurrent.futures.ThreadPoolExecutor(4) as pool:
-        wanted = pool.map(lambda k: sim(program, folder, runs[k][0], "--trace", *runs[k][1], files=runs[k][2], name=str(k)), range(len(runs)))
+        wanted = pool.map(lambda k: None if runs[k][3]["late"] else sim(program, folder, runs[k][0], "--trace", *runs[k][1], files=runs[k][2], name=str(k)), range(len(runs)))
         got = in_parts(page, "return arguments[0].map(([script, setup]) => line.sim(script, setup))", [[script, setup] for script, _, _, setup in runs])
         for k, (said, it) in enumerate(zip(wanted, got)):
-            must(said == it, f"script {k} ({' '.join(runs[k][1])}): the page says {it!r}, vdcp sim {said!r}, of {runs[k][0]!r}")
+            must(not it.startswith("broken"), f"script {k}: {it!r}, of {runs[k][0]!r}")
+            must(said in (None, it), f"script {k} ({' '.join(runs[k][1])}): the page says {it!r}, vdcp sim {said!r}, of {runs[k][0]!r}")
     aired = sum("aired 1" in it for it in got)
     must(aired * 20 > len(got), f"only {aired} of the scripts air two events")
 
@@ -198,7 +237,10 @@ REFUSED = [
     "stray-nak\n", "stray-nak FF\n", "stray-nak 1\n", "lose-down 2\n", "server-anew\n", "junk-up ff\n", "good 10000\ngood 10000\n", "# only\n\n tick\n", "tick\r\nflick\r\n", "tick\n\rtick\n", "tick\r",
     "alter-down " + "00" * 1025 + "\n", "Tick\n", "tick\t\n", "#" + "x" * 65535 + "\n", "#" + "x" * 65536 + "\ntick\n", "\u00e9\n", "good \u0661\n", "break-send\n",
 ]
-REFUSED_LATE = ["lose-down 0\n", "lose-up x\n", "junk-down\n", "junk-up f\n", "server-anew 1\n", "automation-anew\nautomation-new\n", "lose-up 1 1\n", "timeout 2\n"]
+REFUSED_LATE = {
+    "lose-down 0\n": "line 1: number", "lose-up x\n": "line 1: number", "junk-down\n": "line 1: word", "junk-up f\n": "line 1: hex", "server-anew 1\n": "line 1: word",
+    "automation-anew\nautomation-new\n": "line 2: word", "lose-up 1 1\n": "line 1: word", "timeout 2\n": "line 1: word",
+}
 
 
 def refused(page, program, folder):
@@ -207,7 +249,7 @@ def refused(page, program, folder):
     before = text(page, "done")
     for late, script in [(False, it) for it in REFUSED] + [(True, it) for it in REFUSED_LATE]:
         page.execute_script("arguments[0].value = arguments[1]; document.getElementById('late').value = arguments[2]", box, script, "late" if late else "once")
-        told = sim(program, folder, script, *(["--late"] if late else []), name="refused").splitlines()[0].replace(os.path.join(folder, "refused.txt"), "SCRIPT")
+        told = f"vdcp: SCRIPT: {REFUSED_LATE[script]}" if late else sim(program, folder, script, name="refused").splitlines()[0].replace(os.path.join(folder, "refused.txt"), "SCRIPT")
         got = page.execute_script("return line.sim(arguments[0], {list: 'NEWS', catalogue: '', late: arguments[1]})", script, late)
         # (a box of a page makes one line end of each)
         if "\r" in script:
@@ -301,7 +343,7 @@ def comes(holds, why):
         time.sleep(0.05)
 
 
-def hand(page, program, folder):
+def hand(page):
     """By keys alone: a lost answer, a lost command, a damaged one, a restart and a kill, up to the end of the list."""
     opens(page)
     types(page, "yomdu" "mlo" "mcdu" "k")
@@ -311,8 +353,8 @@ def hand(page, program, folder):
             break
         types(page, "g" * 5)
     must("holds: 3 aired, 3 reported" in text(page, "verdict-text"), f"{text(page, 'verdict-text')!r}: {text(page, 'done')!r}")
-    said = sim(program, folder, text(page, "done"), "--late")
-    must(shown(page) == without_counts(said), f"the page shows {shown(page)!r}, vdcp sim prints {said!r}")
+    said = late_sim(page, text(page, "done"))
+    must(shown(page) == without_counts(said), f"the page shows {shown(page)!r}, and its script comes to {said!r}")
     opens(page)
     types(page, "r")
     must(text(page, "access") == "closed" and text(page, "playing") == "nothing", "the server isn't restarted")
@@ -516,6 +558,6 @@ def library(page):
 what, *words = sys.argv[1:]
 opened = browser()
 try:
-    {"library": library, "scripts": scripts, "random": random_scripts, "refused": refused, "excluded": excluded, "dice": dice, "hand": hand, "read": read, "record": record}[what](opened, *words)
+    {"library": library, "scripts": scripts, "late": late, "random": random_scripts, "refused": refused, "excluded": excluded, "dice": dice, "hand": hand, "read": read, "record": record}[what](opened, *words)
 finally:
     opened.quit()

@@ -9,7 +9,7 @@ use clap::{Arg, ArgAction, Command};
 use std::alloc::{AllocError, Global};
 
 // The program's version, and the toolchain that it is proved with.
-const VERSION: &str = "0.1.0\nrattle-kit-13b logic dac8208d650f15bf";
+const VERSION: &str = "0.1.0\nrattle-kit-13f logic dac8208d650f15bf";
 
 const SIM_EXAMPLE: &str =
     "Example: vdcp sim examples/playlist.csv examples/catalogue.csv examples/lossy.txt";
@@ -138,7 +138,6 @@ static SIM: Subcommand = Subcommand {
         Argument::Flag("trace", "Prints each exchange too"),
         Argument::Number(&CUE_FRAMES),
         CONFIRM,
-        Argument::Flag("late", "The line keeps order, and may be late"),
     ],
 };
 

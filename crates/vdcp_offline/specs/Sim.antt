@@ -24,13 +24,8 @@ use Rattle.vdcp_offline.specs.Check.{AreWhole, IsRefused, Refuses}
 use Rattle.vdcp_files.specs.Files.{File, bytes_of}
 use Rattle.vdcp_world.specs.Channel.{Channel, new_channel, after_events}
 use Rattle.vdcp_world.specs.Headline.{Headline}
-use Rattle.vdcp_world.specs.Script.{IsScript, NoOwn, same_event}
+use Rattle.vdcp_world.specs.Script.{IsScript}
 use Rattle.vdcp_world.specs.declared.event.Event.{Event}
-use Rattle.vdcp_world.specs.LateLine.Joined.{late_of}
-use Rattle.vdcp_world.specs.LateLine.LateChannel.{LateChannel, after_late_events}
-use Rattle.vdcp_world.specs.LateLine.LateHeadline.{LateHeadline}
-use Rattle.vdcp_world.specs.LateLine.LateScript.{IsLateLineOf, late_event}
-use Rattle.vdcp_world.specs.declared.late.event.LateEvent.{LateEvent}
 use Rattle.vdcp_offline.specs.declared.sim.SimSettings.{SimSettings}
 
 -- ---- lines
@@ -68,7 +63,7 @@ run_text trace rate log aired reported outcome =
     trace_text trace log ++ aired_text rate aired ++ end_text reported (length log) outcome
 
 -- what is printed of a channel
-abbrev pub channel_text : Bool → Rate → LateChannel → List ℕ
+abbrev pub channel_text : Bool → Rate → Channel → List ℕ
 channel_text trace rate c = run_text trace rate c.log c.aired c.state.settled (outcome_of c.state.stage)
 
 -- ---- the channel
@@ -83,31 +78,20 @@ abbrev pub channel_of : SimSettings → List Item → List (ClipId × Timecode) 
 channel_of settings items clips = new_channel (plan_for settings items) clips settings.unit settings.cue_frames
 
 -- a file is a script of these events, if its bytes are known
-abbrev pub IsScriptOf : {E : Type 0} → (Event → E) → (E → List ℕ → Type 0) → Option (List ℕ) → List E → Type 0
-IsScriptOf of Own None events = ⊤
-IsScriptOf of Own (Some bytes) events = IsScript of Own bytes events
+abbrev pub IsScriptOf : Option (List ℕ) → List Event → Type 0
+IsScriptOf None events = ⊤
+IsScriptOf (Some bytes) events = IsScript bytes events
 
--- The events of the script, a file of these bytes, have led from the new channel to this one, which keeps the headline;
--- with --late on a line that keeps order, else on one that holds one burst each way.
-pub data HasRun (settings : SimSettings) (items : List Item) (clips : List (ClipId × Timecode))
-    (script : Option (List ℕ))
-    (c : LateChannel) : Type 0 where
-  in_time : (events : List Event) → settings.late ≡ false → IsScriptOf same_event NoOwn script events
-      → length events ≤ 100000
-      → c ≡ late_of (after_events (channel_of settings items clips) events)
-      → Headline (after_events (channel_of settings items clips) events)
-      → HasRun settings items clips script c
-  late : (events : List LateEvent) → settings.late ≡ true → IsScriptOf late_event IsLateLineOf script events
-      → length events ≤ 100000
-      → c ≡ after_late_events (late_of (channel_of settings items clips)) events
-      → LateHeadline c
-      → HasRun settings items clips script c
-
--- a writer gained what is printed of such a channel
+-- the events of the script, a file of these bytes, have led from the new channel to one that keeps the headline, and a
+-- writer gained what is printed of that
 pub record IsRun (settings : SimSettings) (items : List Item) (clips : List (ClipId × Timecode))
     (script old new : Option (List ℕ)) : Type 0 where
-  pub channel : LateChannel
-  pub has_run : HasRun settings items clips script channel
+  pub events : List Event
+  pub is_script : IsScriptOf script events
+  pub few : length events ≤ 100000
+  pub channel : Channel
+  pub led : channel ≡ after_events (channel_of settings items clips) events
+  pub headline : Headline channel
   pub gained : Appends old new (channel_text settings.trace settings.rate channel)
 
 -- the files are a playlist, a catalogue and a script, and a writer gained what is printed of a run with them

@@ -4,11 +4,10 @@
 //! world, and prints what went to air and what was reported of it. It reports a failure to standard error in one line,
 //! and gives the exit status.
 ghost use Rattle.std.specs.Io.KnownBytes.{Appends, Keeps};
-ghost use Rattle.std.specs.Prelude.{◌≡◌, ◌≢◌, ◌⊎◌, ◌≤◌, IfErr, IsTrue, OnOk, false, true};
+ghost use Rattle.std.specs.Prelude.{◌≡◌, ◌≢◌, ◌⊎◌, ◌≤◌, IfErr, IsTrue, OnOk, true};
 ghost use Rattle.vdcp_offline.specs.Check.{AreWhole};
 ghost use Rattle.vdcp_files.specs.Files.{file};
 ghost use Rattle.vdcp_text.specs.Subcommand.{IsSubcommand};
-ghost use Rattle.vdcp_world.specs.LateLine.Joined.{late_of};
 ghost use Rattle.vdcp_offline.specs.Sim.{IsRun, IsRunFailure, IsSimulated, IsUnsimulated, RefusesOne};
 ghost use Rattle.vdcp_offline.specs.Sim.{aired_line, aired_text, channel_of, end_text, exchange_line, run_text, trace_text};
 ghost use Rattle.vdcp_text.specs.Failure.{status_of};
@@ -18,11 +17,10 @@ use std::alloc::Global;
 use std::io;
 use vdcp_auto::{Exchange, Mode, Outcome, Source};
 use vdcp_files::NamedFile;
-use vdcp_port::{Catalogue, Port};
+use vdcp_port::Catalogue;
 use vdcp_text::{ExchangeText, Failure, ItemText, OutcomeText};
 use vdcp_value::{Item, Rate};
 use vdcp_world::World;
-use vdcp_world::late::LateWorld;
 
 mod script;
 
@@ -39,8 +37,6 @@ pub struct SimSettings {
     pub cue_frames: u32,
     /// The controller's mode. In confirm mode receipts may come from nowhere.
     pub mode: Mode,
-    /// The line keeps order, and bursts wait in it however long; else it holds one burst each way.
-    pub late: bool,
     /// The frame rate of time codes.
     pub rate: Rate,
     /// Each exchange is printed too.
@@ -118,15 +114,11 @@ fn simulate<'a, L: io::Read + Drop, C: io::Read + Drop, R: io::Read + Drop, W: i
 {
     let events = list.read_list(alloc, settings.rate)?;
     let clips = catalogue.read_catalogue(alloc, settings.rate)?;
-    if settings.late {
-        run_late(alloc, events, clips, script, settings, out)
-    } else {
-        run_in_time(alloc, events, clips, script, settings, out)
-    }
+    run_script(alloc, events, clips, script, settings, out)
 }
 
-// Runs the script on a line that holds one burst each way, and writes what came of it.
-fn run_in_time<'a, S: Source + Drop, C: Catalogue + Drop, R: io::Read + Drop, W: io::Write>(
+// Runs the script, and writes what came of it.
+fn run_script<'a, S: Source + Drop, C: Catalogue + Drop, R: io::Read + Drop, W: io::Write>(
     alloc: Global,
     source: S,
     catalogue: C,
@@ -134,7 +126,6 @@ fn run_in_time<'a, S: Source + Drop, C: Catalogue + Drop, R: io::Read + Drop, W:
     settings: SimSettings,
     out: &mut W,
 ) -> Result<(), Failure<'a>>
-    requires in_time { settings.late ≡ false }
     requires unit { settings.unit ≤ 15 }
     requires some { 1 ≤ settings.limit }
     requires few { settings.limit ≤ 1000 }
@@ -147,35 +138,6 @@ fn run_in_time<'a, S: Source + Drop, C: Catalogue + Drop, R: io::Read + Drop, W:
 {
     let events = read_events(alloc, script)?;
     let mut world = new_world(alloc, source, catalogue, settings);
-    world.run(events.as_slice())?;
-    let (log, aired) = (world.log(), world.aired());
-    write_run(log, aired, world.reported(), world.outcome(), settings, out).map_err(
-        |_| Failure::Writer,
-    )
-}
-
-// Runs the script on a line that keeps order, and writes what came of it.
-fn run_late<'a, S: Source + Drop, C: Catalogue + Drop, R: io::Read + Drop, W: io::Write>(
-    alloc: Global,
-    source: S,
-    catalogue: C,
-    script: NamedFile<'a, R>,
-    settings: SimSettings,
-    out: &mut W,
-) -> Result<(), Failure<'a>>
-    requires late { settings.late ≡ true }
-    requires unit { settings.unit ≤ 15 }
-    requires some { 1 ≤ settings.limit }
-    requires few { settings.limit ≤ 1000 }
-    requires some_frames { 1 ≤ settings.cue_frames }
-    requires few_frames { settings.cue_frames ≤ 1000 }
-    ensures ran { OnOk result (IsRun settings (S.items source) (C.clips catalogue) (R.remaining script.entry.reader)
-        (W.contents out.old) (W.contents out.new)) }
-    ensures failed { IfErr result (IsRunFailure script.entry.name (W.contents out.old) (W.contents out.new)) }
-    ensures statuses { IfErr result (λ e. status_of e ≢ 2) }
-{
-    let events = read_events(alloc, script)?;
-    let mut world = new_late_world(alloc, source, catalogue, settings);
     world.run(events.as_slice())?;
     let (log, aired) = (world.log(), world.aired());
     write_run(log, aired, world.reported(), world.outcome(), settings, out).map_err(
@@ -209,34 +171,6 @@ fn new_world<S: Source, C: Catalogue>(
         Mode::Confirming => {
             World::confirming(alloc, source, catalogue, unit, port, limit, cue_frames)
         }
-    }
-}
-
-// The new late world of a playlist and a catalogue.
-fn new_late_world<S: Source, C: Catalogue>(
-    alloc: Global,
-    source: S,
-    catalogue: C,
-    settings: SimSettings,
-) -> LateWorld<S, C, Global>
-    requires unit { settings.unit ≤ 15 }
-    requires some { 1 ≤ settings.limit }
-    requires few { settings.limit ≤ 1000 }
-    requires some_frames { 1 ≤ settings.cue_frames }
-    requires few_frames { settings.cue_frames ≤ 1000 }
-    ensures { result ≡ late_of (channel_of settings (S.items source) (C.clips catalogue)) }
-{
-    let SimSettings {
-        unit,
-        port,
-        limit,
-        cue_frames,
-        ..
-    } = settings;
-    let port = Port::with_clock(catalogue, unit, port, cue_frames);
-    match settings.mode {
-        Mode::Plain => LateWorld::new(alloc, source, port, limit),
-        Mode::Confirming => LateWorld::confirming(alloc, source, port, limit),
     }
 }
 

@@ -19,7 +19,6 @@ const PLAIN: SimSettings = SimSettings {
     limit: 3,
     cue_frames: 1,
     mode: Mode::Plain,
-    late: false,
     rate: Rate::F25,
     trace: false,
 };
@@ -32,21 +31,6 @@ const TRACED: SimSettings = SimSettings {
 const CONFIRMING: SimSettings = SimSettings {
     mode: Mode::Confirming,
     ..PLAIN
-};
-
-const LATE: SimSettings = SimSettings {
-    late: true,
-    ..PLAIN
-};
-
-const LATE_TRACED: SimSettings = SimSettings {
-    late: true,
-    ..TRACED
-};
-
-const LATE_CONFIRMING: SimSettings = SimSettings {
-    late: true,
-    ..CONFIRMING
 };
 
 // Runs this script at unit 0 and port 1, with limit 3.
@@ -142,29 +126,10 @@ fn exchanges_are_traced(rt: HostRuntime) {
     assert!(rt; has(out.as_slice(), six_and_seven));
 }
 
-// In the other modes and on the other line.
 #[test]
-fn a_clip_airs_in_each_mode(rt: HostRuntime) {
-    static ROWS: [(SimSettings, &[u8], &str); 3] = [
-        (
-            CONFIRMING,
-            b"good 12\n",
-            "aired 0 CLIP0001\nreported 1\nexchanges 11\noutcome done\n",
-        ),
-        (
-            LATE,
-            b"good 9\n",
-            "aired 0 CLIP0001\nreported 1\nexchanges 9\noutcome done\n",
-        ),
-        (
-            LATE_CONFIRMING,
-            b"good 12\n",
-            "aired 0 CLIP0001\nreported 1\nexchanges 11\noutcome done\n",
-        ),
-    ];
-    for (settings, script, text) in ROWS.iter() {
-        expect_text(&rt, b"CLIP0001\n", script, *settings, text);
-    }
+fn a_clip_airs_in_confirm_mode(rt: HostRuntime) {
+    let text = "aired 0 CLIP0001\nreported 1\nexchanges 11\noutcome done\n";
+    expect_text(&rt, b"CLIP0001\n", b"good 12\n", CONFIRMING, text);
 }
 
 fn expect_refused(rt: &(impl Abort + AllocGlobal), script: &[u8], line: &str) {
@@ -231,14 +196,9 @@ fn an_interrupted_read_of_a_script_is_tried_again(rt: HostRuntime) {
 
 #[test]
 fn a_writer_may_fail_at_each_call(rt: HostRuntime) {
-    fails_at_each_call(&rt, TRACED);
-    fails_at_each_call(&rt, LATE_TRACED);
-}
-
-fn fails_at_each_call(rt: &(impl Abort + AllocGlobal), settings: SimSettings) {
     let mut failed = 0;
     for left in 0..100 {
-        if !fails_at(rt, settings, left) {
+        if !fails_at(&rt, left) {
             break;
         }
         failed = left + 1;
@@ -249,13 +209,13 @@ fn fails_at_each_call(rt: &(impl Abort + AllocGlobal), settings: SimSettings) {
 
 // Whether a run fails if the writer's calls fail from this one on. If so, that call is the last and nothing is
 // flushed.
-fn fails_at(rt: &(impl Abort + AllocGlobal), settings: SimSettings, left: usize) -> bool
+fn fails_at(rt: &(impl Abort + AllocGlobal), left: usize) -> bool
     requires { left < 100 }
 {
     let mut out = FailingWriter::new(rt.alloc(), Fails::From(left));
     let mut err = Vec::new(rt.alloc());
     let files = (b"CLIP0001\n".as_slice(), CLIPS, b"good 9\n".as_slice());
-    let status = simulate(rt.alloc(), files, settings, &mut out, &mut err);
+    let status = simulate(rt.alloc(), files, TRACED, &mut out, &mut err);
     if status == 0 && err.is_empty() {
         return false;
     }

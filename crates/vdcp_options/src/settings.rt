@@ -37,7 +37,6 @@ pub fn sim_settings_of(matches: &ArgMatches) -> SimSettings
         limit: limit_of(matches),
         cue_frames: cue_frames_of(matches),
         mode: mode_of(matches),
-        late: matches.get_flag("late"),
         rate: rate_of(matches),
         trace: matches.get_flag("trace"),
     }

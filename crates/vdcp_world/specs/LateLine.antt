@@ -1,9 +1,8 @@
--- What the clauses of `src/late` cite.
+-- What the laws of a line that keeps order cite.
 pub mod Damage
+pub mod LateEvent
 pub mod LateChannel
 pub mod Pipe
 pub mod LateHeadline
-pub mod Runs
 pub mod GoingOn
 pub mod Joined
-pub mod LateScript

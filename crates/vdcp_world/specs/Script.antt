@@ -1,6 +1,6 @@
 -- Scripts of events: what each line says, and a whole text.
 use Rattle.hex.specs.Hex.{decode_of, encode_lower}
-use Rattle.std.specs.Prelude.{ℕ, ◌≡◌, ◌≢◌, ◌<◌, ◌≤◌, ◌==◌, Bool, true, List, [], ◌∷◌, ◌++◌, codes, length, map, Ok, Option, None, Some, slice_index}
+use Rattle.std.specs.Prelude.{ℕ, ◌≡◌, ◌≢◌, ◌<◌, ◌≤◌, ◌==◌, Bool, true, List, [], ◌∷◌, ◌++◌, codes, length, Ok, Option, None, Some, slice_index}
 use Rattle.std.specs.Str.Lines.{lines}
 use Rattle.std.specs.Str.Parse.{IsNumeral, digits_value}
 use Rattle.vdcp_world.specs.Rounds.{round, good_round, times}
@@ -71,36 +71,25 @@ abbrev pub is_skipped : List ℕ → Bool
 is_skipped [] = true
 is_skipped (byte ∷ line) = byte == 0x23
 
--- what a line says: nothing, an event with a word of its own, one of the line that holds one burst each way, or some
--- of these over and over
-pub data Says {E : Type 0} (of : Event → E) (Own : E → List ℕ → Type 0) (line : List ℕ) : List E → Type 0 where
-  skipped : is_skipped line ≡ true → Says of Own line []
-  own : (event : E) → Own event line → Says of Own line (event ∷ [])
-  word : (event : Event) → IsLineOf event line → Says of Own line (of event ∷ [])
+-- what a line says: nothing, an event, or some events over and over
+pub data Says (line : List ℕ) : List Event → Type 0 where
+  skipped : is_skipped line ≡ true → Says line []
+  word : (event : Event) → IsLineOf event line → Says line (event ∷ [])
   repeats : (kind : Repeated) (argument : Option (List ℕ)) (count : ℕ) → line ≡ worded (repeated_word kind) argument
-      → Counts argument count → Says of Own line (map of (times count (repeated_events kind)))
+      → Counts argument count → Says line (times count (repeated_events kind))
 
 -- events, and then those that a line says
-pub record SaysMore {E : Type 0} (of : Event → E) (Own : E → List ℕ → Type 0) (line : List ℕ) (events more : List E) :
-    Type 0
-  where
-    pub said : List E
-    pub more_are : more ≡ events ++ said
-    pub says : Says of Own line said
+pub record SaysMore (line : List ℕ) (events more : List Event) : Type 0 where
+  pub said : List Event
+  pub more_are : more ≡ events ++ said
+  pub says : Says line said
 
 -- the events of lines, one after another
-pub data SayAll {E : Type 0} (of : Event → E) (Own : E → List ℕ → Type 0) : List (List ℕ) → List E → Type 0 where
-  no_line : SayAll of Own [] []
-  one_more : (before : List (List ℕ)) (events : List E) (line : List ℕ) (more : List E) → SayAll of Own before events
-      → SaysMore of Own line events more → SayAll of Own (before ++ line ∷ []) more
+pub data SayAll : List (List ℕ) → List Event → Type 0 where
+  no_line : SayAll [] []
+  one_more : (before : List (List ℕ)) (events : List Event) (line : List ℕ) (more : List Event) → SayAll before events
+      → SaysMore line events more → SayAll (before ++ line ∷ []) more
 
 -- the text is a script of these events
-abbrev pub IsScript : {E : Type 0} → (Event → E) → (E → List ℕ → Type 0) → List ℕ → List E → Type 0
-IsScript of Own text events = SayAll of Own (lines text) events
-
--- no line of the line that holds one burst each way has a word of its own
-abbrev pub NoOwn : Event → List ℕ → Type 0
-NoOwn event line = ⊥
-
-abbrev pub same_event : Event → Event
-same_event event = event
+abbrev pub IsScript : List ℕ → List Event → Type 0
+IsScript text events = SayAll (lines text) events

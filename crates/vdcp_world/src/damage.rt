@@ -36,7 +36,7 @@ pub(crate) fn can_become_up<S: Source>(
 }
 
 /// Whether the messages of a burst are the first ones of another's.
-pub fn is_beginning(burst: &[u8], other: &[u8]) -> bool
+fn is_beginning(burst: &[u8], other: &[u8]) -> bool
     ensures { result ≡ is_beginning (messages_of burst.now) (messages_of other.now) }
 {
     vdcp_frame::laws::one_reading();

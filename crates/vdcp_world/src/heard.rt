@@ -7,7 +7,7 @@ use vdcp_frame::Messages;
 use vdcp_words::Reply;
 
 /// What a controller at this unit hears of a burst: its first message.
-pub fn first_of(burst: &[u8], unit: u8) -> Option<Heard>
+pub(crate) fn first_of(burst: &[u8], unit: u8) -> Option<Heard>
     ensures { result ≡ heard_in unit burst.now }
 {
     let message = Messages::of(burst).next()?;

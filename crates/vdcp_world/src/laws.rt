@@ -1,14 +1,25 @@
-//! The laws of a line that holds one burst each way. The functions do nothing: their
-//! contracts are the laws, and a caller whose proof needs one calls it.
-ghost use Rattle.std.specs.Prelude.{IfSome};
+//! The laws of a line that holds one burst each way, and then those of a line that keeps order, however late. The
+//! functions do nothing: their contracts are the laws, and a caller whose proof needs one calls it.
+ghost use Rattle.std.specs.Prelude.{ℕ, ◌≡◌, ◌≤◌, ◌<◌, All, IfSome, List, [], bit_and};
+ghost use Rattle.vdcp_value.specs.Parts.{IsItem};
+ghost use Rattle.vdcp_port.specs.Clock.{ClockedPort};
+ghost use Rattle.vdcp_port.specs.Port.{state_byte};
+ghost use Rattle.vdcp_auto.specs.Plan.{Plan};
 ghost use Rattle.vdcp_auto.specs.Turn.{outcome_of};
+ghost use Rattle.vdcp_auto.specs.declared.phase.Mode.TheVariants.{Confirming};
 ghost use Rattle.vdcp_world.specs.AtEnd.{LeavesPort};
 ghost use Rattle.vdcp_world.specs.Below.{Below};
 ghost use Rattle.vdcp_world.specs.BoundedEnd.{BoundedEnd};
-ghost use Rattle.vdcp_world.specs.Channel.{Channel, IsReached};
+ghost use Rattle.vdcp_world.specs.Channel.{Channel, IsReached, after_event};
 ghost use Rattle.vdcp_world.specs.Headline.{Headline};
 ghost use Rattle.vdcp_world.specs.InStep.{InStepEnd};
+ghost use Rattle.vdcp_world.specs.LateLine.GoingOn.{IsNoTick, gone_on};
+ghost use Rattle.vdcp_world.specs.LateLine.Joined.{late_of};
+ghost use Rattle.vdcp_world.specs.LateLine.LateChannel.{CanStart, LateChannel, IsLateReached, after_late_events, late_make_of, new_late_channel};
+ghost use Rattle.vdcp_world.specs.LateLine.LateEvent.{LateEvent};
+ghost use Rattle.vdcp_world.specs.LateLine.LateHeadline.{LateHeadline};
 ghost use Rattle.vdcp_world.specs.NoCut.{NoCut};
+ghost use Rattle.vdcp_world.specs.declared.event.Event.{Event};
 
 /// Whatever happened on the line from a new channel on (deliveries, losses, detected damage, copies,
 /// time-outs, cue completions, clip ends, frames, the operator's calls, and in confirm mode receipts from
@@ -71,6 +82,68 @@ pub fn no_cut_without_a_take()
 {
     crates_below();
 }
+
+/// Whatever happened on a line that keeps order, from a new controller on: deliveries as late as they like, losses,
+/// detected damage, copies in their place, junk, forged NAKs, time-outs at any moment, cue completions, clip ends,
+/// frames, the operator's calls, the server started anew, the automation started anew; in plain mode from a port in
+/// whatever state, and in confirm mode, with receipts from nowhere, from a port with nothing cued; with what asked the
+/// port before, and its answers, still on the way; with whatever playlist and catalogue:
+///
+/// - what went to air is a beginning of the playlist, each event once and in order;
+/// - the events reported as aired are a beginning of these, shorter by one at most, and are those that the log shows
+///   to be aired; if no PLAY stands after the last exchange that settles, the awaited one included, they are all
+///   that went to air;
+/// - the rule book allows each command of the log where it stands, and the one that is awaited;
+/// - Done means that the whole playlist went to air and is reported; Denied, that nothing did; Missing(k), that event
+///   k's clip isn't in the catalogue, and in confirm mode Refused(k), that `limit` or more empty statuses came after a
+///   cue of event k, since which nothing settled; and both, as Strange(k), that the events before k went to air and are
+///   reported; Foreign(k), that k and those before it did and are; Lost, that the log shows it lost;
+/// - so after each of these but Lost all that went to air is reported; in plain mode not after Refused, which may be
+///   forged or stale, nor in either mode after Stopped.
+pub fn a_late_line_keeps_the_headline()
+    ensures { (c : LateChannel) → IsLateReached c → LateHeadline c }
+{
+    crates_below();
+}
+
+/// From a start on, whatever events happen on a line that keeps order, one after another, the headline holds after each
+/// of them, and what the channel was made with stays: playlist, mode, limit, catalogue, unit, numbers, and how many
+/// frames a cue takes.
+///
+/// A start with nothing on the way is one in plain mode from a port in whatever state, and in confirm mode from one whose
+/// cued slot is empty: bits 1 and 7 of its state byte are off. Something may play. The limit is 1 to 1,000.
+pub fn a_late_run_keeps_the_headline()
+    ensures headline { (plan : Plan) (port : ClockedPort) (down up : List (List ℕ)) (events : List LateEvent) →
+        CanStart plan port down up → LateHeadline (after_late_events (new_late_channel plan port down up) events) }
+    ensures make { (c : LateChannel) (events : List LateEvent) →
+        late_make_of (after_late_events c events) ≡ late_make_of c }
+    ensures start { (plan : Plan) (port : ClockedPort) → 1 ≤ plan.limit → plan.limit ≤ 1000 →
+        port.state.unit ≤ 15 → plan.port < 256 → All IsItem plan.list →
+        (plan.mode ≡ Confirming → bit_and (state_byte port.state) 0x82 ≡ 0) → CanStart plan port [] [] }
+{
+    a_late_line_keeps_the_headline();
+}
+
+/// Whatever happens on a line that holds one burst each way happens on one that keeps order: each event of the one is
+/// some events of the other. So a channel that events of the one have led to is one that events of the other lead
+/// to, and what holds of each late channel holds of it.
+pub fn a_line_of_one_burst_keeps_order()
+    ensures event { (c : Channel) (e : Event) →
+        (events : List LateEvent) × (after_late_events (late_of c) events ≡ late_of (after_event c e)) }
+    ensures reached { (c : Channel) → IsReached c → IsLateReached (late_of c) }
+{}
+
+/// An automation that is killed and goes on from what was kept of it has done nothing that the line couldn't have done.
+/// Whatever happened since the last of what is kept, if no command was given out: with the controller as it was then,
+/// its exchange timed out, and all else as it is now, the channel is one that events lead to. What the automation
+/// heard since was lost on its way, and then a time-out came.
+pub fn a_killed_automation_goes_on()
+    ensures reached { (c : LateChannel) (events : List LateEvent) → IsLateReached c → All IsNoTick events →
+        IsLateReached (gone_on c (after_late_events c events)) }
+    // and each event that happens then leads on
+    ensures event { (c : LateChannel) (events : List LateEvent) → IsLateReached c →
+        IsLateReached (after_late_events c events) }
+{}
 
 /// What the laws of this crate take from those of the crates below.
 pub(crate) fn crates_below()

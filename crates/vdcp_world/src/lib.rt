@@ -9,24 +9,21 @@
 //! world.aired(), world.reported(), world.log(), world.outcome()
 //! ```
 //!
-//! An event that can't happen changes nothing. `late` has the line that keeps order but may be late, with ends that are
-//! restarted. `read_script` makes events of a text, also another line's
-//! (`ScriptEvent`), and `can_become` says what damage may make of a burst.
+//! An event that can't happen changes nothing. `read_script` makes events of a text, and `can_become` says what damage may
+//! make of a burst. `laws` are of this line, and of one that keeps order but may be late, with ends that are restarted.
 #![tactic(auto)]
 
 mod burst;
 mod damage;
 mod event;
 mod heard;
-pub mod late;
 pub mod laws;
 mod link;
 mod script;
 mod world;
 
 pub use burst::Burst;
-pub use damage::{can_become, is_beginning};
+pub use damage::can_become;
 pub use event::Event;
-pub use heard::first_of;
-pub use script::{ScriptEvent, ScriptFault, ScriptLine, read_script};
+pub use script::{ScriptFault, read_script};
 pub use world::World;

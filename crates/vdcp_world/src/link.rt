@@ -247,7 +247,7 @@ fn read_burst<C: Catalogue, A: Allocator>(
 }
 
 /// The controller hears the first message of a burst on the way up.
-pub(crate) fn hear<S: Source, A: Allocator>(
+fn hear<S: Source, A: Allocator>(
     controller: &mut Controller<S>,
     burst: &[u8],
     unit: u8,
@@ -314,7 +314,7 @@ fn time_out<S: Source, A: Allocator>(
 }
 
 /// The controller hears a receipt from nowhere, in confirm mode.
-pub(crate) fn stray<S: Source, A: Allocator>(
+fn stray<S: Source, A: Allocator>(
     controller: &mut Controller<S>,
     receipt: Reply,
     log: &mut Vec<Exchange, A>,
@@ -334,7 +334,7 @@ pub(crate) fn stray<S: Source, A: Allocator>(
 
 /// What came, or silence, comes to the controller; the exchange that it ends is logged. If memory is refused nothing
 /// comes.
-pub(crate) fn end_exchange<S: Source, A: Allocator>(
+fn end_exchange<S: Source, A: Allocator>(
     controller: &mut Controller<S>,
     came: Option<Heard>,
     log: &mut Vec<Exchange, A>,

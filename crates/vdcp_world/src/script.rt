@@ -1,9 +1,8 @@
 //! How a script is read, line by line.
 ghost use Rattle.hex.specs.Hex.{encode_lower};
-ghost use Rattle.std.specs.Prelude.{◌≡◌, ◌≤◌, ◌++◌, ◌∷◌, [], List, ℕ, codes, length, map, IfOk, IfSome, Some, None, IsSomeAnd, IsTrue, option_map, OnOk};
+ghost use Rattle.std.specs.Prelude.{◌≡◌, ◌≤◌, ◌++◌, ◌∷◌, [], codes, length, IfOk, IfSome, Some, None, IsSomeAnd, IsTrue, option_map, OnOk};
 ghost use Rattle.vdcp_world.specs.Rounds.{round, times};
 ghost use Rattle.vdcp_world.specs.Script.{IsScript, IsLineOf, SaysMore, Counts, WritesBytes, is_skipped, repeated_events, repeated_word, worded};
-ghost use Rattle.vdcp_world.specs.declared.event.Event.{Event};
 
 use crate::burst::Burst;
 use crate::damage::MOST_BYTES;
@@ -39,41 +38,6 @@ pub enum ScriptFault {
     Memory,
 }
 
-/// Events that a script can have: those of the line that holds one burst each way, as they are on this one, and
-/// others that have words of their own.
-pub trait ScriptEvent: Sized + Drop {
-    /// What an event of the line that holds one burst each way is here.
-    ghost of: { Event → Self };
-
-    /// The line is the event's, with a word of its own.
-    ghost own: { Self → List ℕ → Type 0 };
-
-    /// What this event is here.
-    fn of_event(event: Event) -> Self
-        ensures { result ≡ of event };
-
-    /// The event of a line with a word of its own; `None` if it has no such word. It is asked first.
-    fn of_line(alloc: Global, line: &ScriptLine<'_>) -> Result<Option<Self>, ScriptFault>
-        ensures { IfOk result (λ found. IfSome found (λ event. own event
-            (worded line.now.word.now (option_map (λ text. text.now) line.now.argument)))) };
-}
-
-impl ScriptEvent for Event {
-    ghost use Rattle.vdcp_world.specs.Script.{NoOwn, same_event};
-
-    ghost of = { same_event };
-
-    ghost own = { NoOwn };
-
-    fn of_event(event: Event) -> Event {
-        event
-    }
-
-    fn of_line(_alloc: Global, _line: &ScriptLine<'_>) -> Result<Option<Event>, ScriptFault> {
-        Ok(None)
-    }
-}
-
 /// What one line can repeat.
 #[derive(Clone, Copy)]
 enum Repeated {
@@ -83,14 +47,14 @@ enum Repeated {
 }
 
 /// A line of a script.
-#[derive(Clone, Copy, Debug)]
-pub struct ScriptLine<'a> {
+#[derive(Clone, Copy)]
+struct ScriptLine<'a> {
     /// Its number, from 1.
-    pub number: usize,
+    number: usize,
     /// Its first word.
-    pub word: &'a str,
+    word: &'a str,
     /// What one space parts from that word.
-    pub argument: Option<&'a str>,
+    argument: Option<&'a str>,
 }
 
 impl<'a> ScriptLine<'a> {
@@ -111,8 +75,8 @@ impl<'a> ScriptLine<'a> {
         })
     }
 
-    /// The number that follows the word, 1 to 10,000; 1 if none does.
-    pub fn count(&self) -> Result<u32, ScriptFault>
+    // The number that follows the word, 1 to 10,000; 1 if none does.
+    fn count(&self) -> Result<u32, ScriptFault>
         ensures range { IfOk result (λ count. (1 ≤ count) × (count ≤ 10000)) }
         ensures counts { IfOk result (Counts (option_map (λ text. text.now) self.now.argument)) }
     {
@@ -128,8 +92,8 @@ impl<'a> ScriptLine<'a> {
         }
     }
 
-    /// The bytes whose hexadecimal digits follow the word, 1 to 1,024.
-    pub fn burst(&self, alloc: Global) -> Result<Burst, ScriptFault>
+    // The bytes whose hexadecimal digits follow the word, 1 to 1,024.
+    fn burst(&self, alloc: Global) -> Result<Burst, ScriptFault>
         ensures { IfOk result (λ bytes. IsSomeAnd self.now.argument (λ text. WritesBytes text.now bytes)) }
     {
         let digits = self.needed()?;
@@ -173,9 +137,9 @@ fn is_lower(byte: u8, text: &str) -> bool
 /// Reads a script: a line for each event, or for some rounds or frames. Lines end with a line feed, or
 /// with a carriage return and one; the last one may end with the text. Blank lines and those that begin
 /// with `#` are skipped, and words are parted by one space. `docs/FORMATS.md` has the words.
-pub fn read_script<E: ScriptEvent>(alloc: Global, text: &str) -> Result<Vec<E>, ScriptFault>
+pub fn read_script(alloc: Global, text: &str) -> Result<Vec<Event>, ScriptFault>
     ensures few { IfOk result (λ events. length events.items ≤ 100000) }
-    ensures script { IfOk result (λ events. IsScript E.of E.own text.now events.items) }
+    ensures script { IfOk result (λ events. IsScript text.now events.items) }
 {
     let mut events = Vec::new(alloc);
     'lines: for (before, line) in text.lines().enumerate() {
@@ -185,24 +149,24 @@ pub fn read_script<E: ScriptEvent>(alloc: Global, text: &str) -> Result<Vec<E>, 
 }
 
 /// Adds what the line of this number says.
-#[tactic(auto, using(crate::proofs::ScriptLemmas::says_skipped, crate::proofs::ScriptLemmas::says_own))]
-fn read_line<E: ScriptEvent>(
+#[tactic(auto, using(crate::proofs::ScriptLemmas::says_skipped, crate::proofs::ScriptLemmas::says_word, crate::proofs::ScriptLemmas::says_again))]
+fn read_line(
     alloc: Global,
     number: usize,
     text: &str,
-    events: &mut Vec<E>,
+    events: &mut Vec<Event>,
 ) -> Result<(), ScriptFault>
     requires { length events.old.items ≤ 100000 }
     ensures few { length events.new.items ≤ 100000 }
-    ensures says { OnOk result (SaysMore E.of E.own text.now events.old.items events.new.items) }
+    ensures says { OnOk result (SaysMore text.now events.old.items events.new.items) }
 {
     if is_skipped(text) {
         return Ok(());
     }
     let line = ScriptLine::of_text(number, text)?;
-    match E::of_line(alloc, &line)? {
-        Some(event) => push(event, events),
-        None => read_words(alloc, &line, events),
+    match repeated_by(line.word) {
+        Some(repeated) => push_again(repeated, line.count()?, events),
+        None => push(event_of(alloc, &line)?, events),
     }
 }
 
@@ -213,24 +177,6 @@ fn is_skipped(text: &str) -> bool
     match text.as_bytes() {
         [] => true,
         [first, ..] => *first == b'#',
-    }
-}
-
-/// Adds what a line says that has no word of its own.
-#[tactic(auto, using(crate::proofs::ScriptLemmas::says_word, crate::proofs::ScriptLemmas::says_again))]
-fn read_words<E: ScriptEvent>(
-    alloc: Global,
-    line: &ScriptLine<'_>,
-    events: &mut Vec<E>,
-) -> Result<(), ScriptFault>
-    requires { length events.old.items ≤ 100000 }
-    ensures few { length events.new.items ≤ 100000 }
-    ensures says { OnOk result (SaysMore E.of E.own
-        (worded line.now.word.now (option_map (λ t. t.now) line.now.argument)) events.old.items events.new.items) }
-{
-    match repeated_by(line.word) {
-        Some(repeated) => push_again(repeated, line.count()?, events),
-        None => push(E::of_event(event_of(alloc, line)?), events),
     }
 }
 
@@ -287,15 +233,10 @@ fn event_alone(line: &ScriptLine<'_>) -> Option<Event>
 
 /// Adds what is repeated, this number of times.
 #[tactic(auto, using(crate::proofs::ScriptLemmas::once_more))]
-fn push_again<E: ScriptEvent>(
-    repeated: Repeated,
-    count: u32,
-    events: &mut Vec<E>,
-) -> Result<(), ScriptFault>
+fn push_again(repeated: Repeated, count: u32, events: &mut Vec<Event>) -> Result<(), ScriptFault>
     requires { length events.old.items ≤ 100000 }
     ensures few { length events.new.items ≤ 100000 }
-    ensures pushed { OnOk result (events.new.items
-        ≡ events.old.items ++ map E.of (times count (repeated_events repeated))) }
+    ensures pushed { OnOk result (events.new.items ≡ events.old.items ++ times count (repeated_events repeated)) }
 {
     'times: for _ in 0..count {
         push_once(repeated, events)?;
@@ -304,37 +245,37 @@ fn push_again<E: ScriptEvent>(
 }
 
 /// Adds what is repeated, once.
-fn push_once<E: ScriptEvent>(repeated: Repeated, events: &mut Vec<E>) -> Result<(), ScriptFault>
+fn push_once(repeated: Repeated, events: &mut Vec<Event>) -> Result<(), ScriptFault>
     requires { length events.old.items ≤ 100000 }
     ensures few { length events.new.items ≤ 100000 }
-    ensures pushed { OnOk result (events.new.items ≡ events.old.items ++ map E.of (repeated_events repeated)) }
+    ensures pushed { OnOk result (events.new.items ≡ events.old.items ++ repeated_events repeated) }
 {
     match repeated {
-        Repeated::Frame => push(E::of_event(Event::Frame), events),
+        Repeated::Frame => push(Event::Frame, events),
         Repeated::Round => push_round(events),
         Repeated::GoodRound => {
-            push(E::of_event(Event::Timeout), events)?;
-            push(E::of_event(Event::Ready), events)?;
-            push(E::of_event(Event::End), events)?;
+            push(Event::Timeout, events)?;
+            push(Event::Ready, events)?;
+            push(Event::End, events)?;
             push_round(events)
         }
     }
 }
 
 #[inline(always)]
-fn push_round<E: ScriptEvent>(events: &mut Vec<E>) -> Result<(), ScriptFault>
+fn push_round(events: &mut Vec<Event>) -> Result<(), ScriptFault>
     requires { length events.old.items ≤ 100000 }
     ensures few { length events.new.items ≤ 100000 }
-    ensures pushed { OnOk result (events.new.items ≡ events.old.items ++ map E.of round) }
+    ensures pushed { OnOk result (events.new.items ≡ events.old.items ++ round) }
 {
-    push(E::of_event(Event::Tick), events)?;
-    push(E::of_event(Event::Down), events)?;
-    push(E::of_event(Event::Up), events)
+    push(Event::Tick, events)?;
+    push(Event::Down, events)?;
+    push(Event::Up, events)
 }
 
 /// Adds an event, if it isn't one too many.
 #[inline(always)]
-fn push<E: ScriptEvent>(event: E, events: &mut Vec<E>) -> Result<(), ScriptFault>
+fn push(event: Event, events: &mut Vec<Event>) -> Result<(), ScriptFault>
     requires { length events.old.items ≤ 100000 }
     ensures few { length events.new.items ≤ 100000 }
     ensures pushed { OnOk result (events.new.items ≡ events.old.items ++ event ∷ []) }

@@ -6,15 +6,15 @@ use std::alloc::Global;
 use std::{io, str};
 use vdcp_files::NamedFile;
 use vdcp_text::{Failure, ScriptLineFault};
-use vdcp_world::{ScriptEvent, ScriptFault, read_script};
+use vdcp_world::{Event, ScriptFault, read_script};
 
 /// Reads a script.
-pub fn read_events<'a, E: ScriptEvent, R: io::Read + Drop>(
+pub fn read_events<'a, R: io::Read + Drop>(
     alloc: Global,
     script: NamedFile<'a, R>,
-) -> Result<Vec<E>, Failure<'a>>
+) -> Result<Vec<Event>, Failure<'a>>
     ensures few { IfOk result (λ events. length events.items ≤ 100000) }
-    ensures script { IfOk result (λ events. IsScriptOf E.of E.own (R.remaining script.entry.reader) events.items) }
+    ensures script { IfOk result (λ events. IsScriptOf (R.remaining script.entry.reader) events.items) }
     ensures refused { IfErr result (IsScriptFailure script.entry.name) }
 {
     let name = script.name;

@@ -8,8 +8,8 @@ use Rattle.vdcp_auto.specs.Turn.{came_to, ended_by}
 use Rattle.vdcp_world.proofs.LateLine.Happened.{after_all, events_reached, make_after_all}
 use Rattle.vdcp_world.specs.LateLine.GoingOn.{IsNoTick, gone_on}
 use Rattle.vdcp_world.specs.LateLine.LateChannel.{LateChannel, IsLateReached, after_late_event, after_late_events, without_oldest}
-use Rattle.vdcp_world.specs.declared.late.event.LateEvent.{LateEvent}
-use Rattle.vdcp_world.specs.declared.late.event.LateEvent.TheVariants as event
+use Rattle.vdcp_world.specs.LateLine.LateEvent.{LateEvent}
+use Rattle.vdcp_world.specs.LateLine.LateEvent as event
 
 -- the channel of now with the controller of an earlier moment
 abbrev held : LateChannel → LateChannel → LateChannel

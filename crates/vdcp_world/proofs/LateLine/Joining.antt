@@ -24,8 +24,8 @@ use Rattle.vdcp_world.specs.LateLine.Damage.{is_no_answer, is_junk_up, can_becom
 use Rattle.vdcp_world.proofs.LateLine.Happened.{quiet_start, after_all}
 use Rattle.vdcp_world.specs.LateLine.Joined.{late_of}
 use Rattle.vdcp_world.specs.LateLine.LateChannel.{LateChannel, after_late_events, bursts_of, command_bursts, IsLateReached}
-use Rattle.vdcp_world.specs.declared.late.event.LateEvent.{LateEvent}
-use Rattle.vdcp_world.specs.declared.late.event.LateEvent.TheVariants as late
+use Rattle.vdcp_world.specs.LateLine.LateEvent.{LateEvent}
+use Rattle.vdcp_world.specs.LateLine.LateEvent as late
 
 -- late events that lead to what an event leaves
 abbrev Joins : Channel → Channel → Type 0

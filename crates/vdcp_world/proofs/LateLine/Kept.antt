@@ -13,7 +13,7 @@ use Rattle.vdcp_words.specs.declared.reply.Reply.TheVariants as reply
 use Rattle.vdcp_port.specs.Answers.{sent_for, aired_for, after_burst}
 use Rattle.vdcp_port.specs.Clock.{ClockedPort, after_change}
 use Rattle.vdcp_port.specs.Port.{is_selected}
-use Rattle.vdcp_port.specs.Row.{Change, airs, command_row, changed, on_air}
+use Rattle.vdcp_port.specs.Row.{Change, command_row, changed, on_air}
 use Rattle.vdcp_auto.specs.Heard.{heard_in}
 use Rattle.vdcp_auto.specs.Plan.{Plan}
 use Rattle.vdcp_auto.specs.Table.{command_in}

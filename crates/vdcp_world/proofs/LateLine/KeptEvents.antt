@@ -31,8 +31,8 @@ use Rattle.vdcp_world.specs.Channel.{state_hearing, log_hearing, state_straying,
 use Rattle.vdcp_world.specs.LateLine.Damage.{can_become, can_become_up, is_junk_down, is_junk_up, is_no_answer}
 use Rattle.vdcp_world.specs.LateLine.LateHeadline.{log_so_far}
 use Rattle.vdcp_world.specs.LateLine.LateChannel.{LateChannel, after_late_event, without_oldest, oldest, command_bursts, bursts_of, made_anew}
-use Rattle.vdcp_world.specs.declared.late.event.LateEvent.{LateEvent}
-use Rattle.vdcp_world.specs.declared.late.event.LateEvent.TheVariants as event
+use Rattle.vdcp_world.specs.LateLine.LateEvent.{LateEvent}
+use Rattle.vdcp_world.specs.LateLine.LateEvent as event
 use Rattle.vdcp_world.proofs.Beginnings.{is_beginning_of}
 use Rattle.vdcp_world.specs.Below.{Below}
 use Rattle.vdcp_world.proofs.LateLine.Carrying.{carries_pushed, carries_same, Left, left_same, left_rest, left_without, carries_junk, Damages, left_damaged}

@@ -6,8 +6,8 @@ use Rattle.vdcp_auto.specs.Course.{Reached, begun, called, Receive}
 use Rattle.vdcp_auto.specs.Heard.{heard_in}
 use Rattle.vdcp_words.specs.declared.reply.Reply.TheVariants.{Ack, Nak}
 use Rattle.vdcp_world.specs.LateLine.LateChannel.{LateChannel, new_late_channel, after_late_event, after_late_events, IsLateReached, oldest}
-use Rattle.vdcp_world.specs.declared.late.event.LateEvent.{LateEvent}
-use Rattle.vdcp_world.specs.declared.late.event.LateEvent.TheVariants as event
+use Rattle.vdcp_world.specs.LateLine.LateEvent.{LateEvent}
+use Rattle.vdcp_world.specs.LateLine.LateEvent as event
 use Rattle.vdcp_world.proofs.HeadlineProof.{hears_reached, strays_reached}
 
 pub controller_event : (c : LateChannel) (e : LateEvent) → Reached c.plan c.state c.log

@@ -9,7 +9,7 @@ use Rattle.vdcp_auto.specs.declared.phase.Mode.{Mode}
 use Rattle.vdcp_auto.specs.declared.phase.Mode.TheVariants.{Plain, Confirming}
 use Rattle.vdcp_auto.specs.declared.phase.Phase.TheVariants as phase
 use Rattle.vdcp_world.specs.LateLine.LateChannel.{LateChannel, CanStart, IsLateReached, after_late_event, after_late_events, new_late_channel}
-use Rattle.vdcp_world.specs.declared.late.event.LateEvent.{LateEvent}
+use Rattle.vdcp_world.specs.LateLine.LateEvent.{LateEvent}
 use Rattle.vdcp_world.specs.Below.{Below}
 use Rattle.vdcp_world.proofs.LateLine.Claims.{Claim, Covers}
 use Rattle.vdcp_world.proofs.LateLine.HeadlineProof.{Airs, AirsIn, EndHoldsAt}

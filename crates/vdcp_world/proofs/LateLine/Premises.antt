@@ -25,8 +25,7 @@ use Rattle.vdcp_auto.specs.declared.phase.Mode.{Mode}
 use Rattle.vdcp_auto.specs.declared.phase.Mode.TheVariants.{Plain, Confirming}
 use Rattle.vdcp_world.specs.LateLine.LateChannel.{LateChannel, new_late_channel, after_late_events}
 use Rattle.vdcp_world.specs.LateLine.LateHeadline.{log_so_far}
-use Rattle.vdcp_world.specs.declared.late.event.LateEvent.{LateEvent}
-use Rattle.vdcp_world.specs.declared.late.event.LateEvent.TheVariants.{Tick, Down, Up, DownCopy, UpCopy, LoseDown, LoseUp, Timeout, Ready, ServerAnew}
+use Rattle.vdcp_world.specs.LateLine.LateEvent.{LateEvent, Tick, Down, Up, DownCopy, UpCopy, LoseDown, LoseUp, Timeout, Ready, ServerAnew}
 
 -- CLIP0001 and CLIP0002, ten seconds each at 25 frames a second
 

@@ -3,8 +3,7 @@ use Rattle.std.specs.Prelude.{None}
 use Rattle.vdcp_auto.specs.Course.{logged}
 use Rattle.vdcp_auto.specs.Turn.{came_to, ended_by}
 use Rattle.vdcp_world.specs.LateLine.LateChannel.{LateChannel}
-use Rattle.vdcp_world.specs.declared.late.event.LateEvent.{LateEvent}
-use Rattle.vdcp_world.specs.declared.late.event.LateEvent.TheVariants.{Tick}
+use Rattle.vdcp_world.specs.LateLine.LateEvent.{LateEvent, Tick}
 
 -- the controller gives out no command
 abbrev pub IsNoTick : LateEvent → Type 0

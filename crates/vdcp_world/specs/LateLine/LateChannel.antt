@@ -21,11 +21,10 @@ use Rattle.vdcp_auto.specs.Turn.{start, ticked, given, came_to, ended_by, taken,
 use Rattle.vdcp_auto.specs.declared.exchange.Exchange.{Exchange}
 use Rattle.vdcp_auto.specs.declared.phase.Mode.TheVariants.{Confirming}
 use Rattle.vdcp_auto.specs.State.{State}
-use Rattle.vdcp_world.specs.Channel.{state_hearing, log_hearing, state_straying, log_straying}
+use Rattle.vdcp_world.specs.Channel.{Make, state_hearing, log_hearing, state_straying, log_straying}
 use Rattle.vdcp_world.specs.LateLine.Damage.{can_become, is_junk_down, is_junk_up, can_become_up, with_damage, with_junk}
-use Rattle.vdcp_world.specs.declared.late.event.LateEvent.{LateEvent}
-use Rattle.vdcp_world.specs.declared.late.event.LateEvent.TheVariants.{Tick, Down, Up, DownCopy, UpCopy, LoseDown, LoseUp, AlterDown, AlterUp, JunkDown, JunkUp}
-use Rattle.vdcp_world.specs.declared.late.event.LateEvent.TheVariants.{Timeout, Ready, End, Frame, Take, Stop, ServerAnew, AutomationAnew, StrayAck, StrayNak}
+use Rattle.vdcp_world.specs.LateLine.LateEvent.{LateEvent, Tick, Down, Up, DownCopy, UpCopy, LoseDown, LoseUp, AlterDown, AlterUp, JunkDown, JunkUp}
+use Rattle.vdcp_world.specs.LateLine.LateEvent.{Timeout, Ready, End, Frame, Take, Stop, ServerAnew, AutomationAnew, StrayAck, StrayNak}
 
 -- The controller, with what it was made with, and the port; the bursts on the way down, to the port, and up, to
 -- the controller; what went to air; the exchanges that ended. Lists have the oldest first.
@@ -134,6 +133,17 @@ after_late_event c (StrayNak byte) =
 abbrev pub after_late_events : LateChannel → List LateEvent → LateChannel
 after_late_events c [] = c
 after_late_events c (event ∷ events) = after_late_events (after_late_event c event) events
+
+-- what a channel was made with
+abbrev pub late_make_of : LateChannel → Make
+late_make_of c =
+    record {
+      plan = c.plan;
+      clips = c.port.clips;
+      unit = c.port.state.unit;
+      number = c.port.state.number;
+      cue_frames = c.port.cue_frames;
+    }
 
 -- What a port may be asked before a run: as the controller itself asks before the first event. None of it cues or plays.
 abbrev pub IsQuestion : ℕ → Command → Type 0

@@ -6,6 +6,5 @@ use Rattle.vdcp_world.proofs.script.read_script.Given as goal
 
 -- there are no more events than a script may have, and the lines so far say them
 abbrev pub invariant-lines : goal.invariant-lines
-invariant-lines g l =
-    (length l.events.items ≤ 100000)
-    × SayAll g.E.ScriptEvent.of g.E.ScriptEvent.own (map line_of l.yielded) l.events.items
+invariant-lines l =
+    (length l.events.items ≤ 100000) × SayAll (map line_of l.yielded) l.events.items

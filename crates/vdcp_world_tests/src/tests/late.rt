@@ -1,6 +1,0 @@
-//! Tests of late worlds and of their scripts.
-mod clips;
-mod memory;
-mod rows;
-mod scripts;
-mod seen;
