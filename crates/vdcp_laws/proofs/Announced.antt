@@ -25,8 +25,8 @@ use Rattle.vdcp_laws.specs.Announced.{Announces, came_again, heard_last, played_
 use Rattle.vdcp_laws.specs.Kills.{IsRun, begun, happened, heard_notes, end_notes, notes_of, played, silence_notes, stray_notes}
 use Rattle.vdcp_world.specs.LateLine.GoingOn.{IsNoTick, gone_on}
 use Rattle.vdcp_world.specs.LateLine.LateChannel.{LateChannel, after_late_event, after_late_events, command_bursts, oldest}
-use Rattle.vdcp_world.specs.declared.late.event.LateEvent.{LateEvent}
-use Rattle.vdcp_world.specs.declared.late.event.LateEvent.TheVariants as event
+use Rattle.vdcp_world.specs.LateLine.LateEvent.{LateEvent}
+use Rattle.vdcp_world.specs.LateLine.LateEvent as event
 use Rattle.vdcp_port.specs.Answers.{after_burst}
 use Rattle.vdcp_port.specs.Clock.{ClockedPort, after_ended, after_frame, after_ready}
 use Rattle.vdcp_words.specs.declared.command.Command.{Command}

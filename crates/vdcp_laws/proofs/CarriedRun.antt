@@ -1,5 +1,5 @@
 -- The headline of a driver whose wire's acts are carried.
-use Rattle.std.proofs.Common.{ℕ, ◌⊎◌, inl, inr, ◌≡◌, List, [], ◌++◌, sym, ap, subst, ◌∙◌, append-nil}
+use Rattle.std.proofs.Common.{ℕ, ◌⊎◌, inl, inr, ◌≡◌, Bool, List, ◌++◌, sym, ap, ap₂, subst, ◌∙◌, append_assoc}
 use Rattle.std.specs.Prelude.{Result}
 use Rattle.vdcp_value.specs.declared.part.Item.{Item}
 use Rattle.vdcp_words.specs.declared.command.Command.{Command}
@@ -12,90 +12,90 @@ use Rattle.vdcp_wire.specs.Wires.{Arrival}
 use Rattle.vdcp_drive.specs.Auto.{Auto, after, log_of}
 use Rattle.vdcp_drive.specs.Auto as auto
 use Rattle.vdcp_drive.specs.Hearing.{at_once}
-use Rattle.vdcp_drive.specs.Leaves.{Ending, by_itself, in_keep, in_drop, in_send, in_listen}
+use Rattle.vdcp_drive.specs.Leaves.{Ending, by_itself, in_keep, in_drop, in_send, in_listen, IsRun, steps_in}
 use Rattle.vdcp_drive.specs.Reading.{Held}
 use Rattle.vdcp_drive.specs.Served.{items_served}
-use Rattle.vdcp_drive.specs.Steps.{Step, steps_of}
+use Rattle.vdcp_drive.specs.Steps.{Step}
 use Rattle.vdcp_drive.specs.Traces.{acts_in, came_in}
-use Rattle.vdcp_drive.specs.declared.keep.KeptFault.{KeptFault}
+use Rattle.vdcp_drive.specs.declared.hooks.KeptFault.{KeptFault}
 use Rattle.vdcp_drive.specs.declared.line.Ran.{Ran}
-use Rattle.vdcp_laws.specs.Automation.{Prompt, prompted_from}
+use Rattle.vdcp_laws.specs.Automation.{Prompt, led}
 use Rattle.vdcp_laws.specs.Carried.{AreCarried, driver_of}
 use Rattle.vdcp_laws.specs.EndsHeadline.{EndsHeadline}
-use Rattle.vdcp_laws.specs.OneConnection.{HasCome, IsFresh, ends_of}
-use Rattle.vdcp_laws.specs.TwoEnds.{AreJoined, CanJoin, Ends}
-use Rattle.vdcp_laws.proofs.Carrying.{SendsServed, came_whole, has_come}
+use Rattle.vdcp_laws.specs.OneConnection.{ends_at, ends_by}
+use Rattle.vdcp_laws.specs.TwoEnds.{AreJoined, CanJoin, Ends, log_now, new_ends}
+use Rattle.vdcp_laws.proofs.Carrying.{SendsServed, run_led}
 use Rattle.vdcp_laws.proofs.Headline.{Laws, before_tick, of_ends}
-use Rattle.vdcp_laws.proofs.OneRun.{are_joined}
-use Rattle.vdcp_laws.proofs.Same.{prompted_log, prompted_so}
+use Rattle.vdcp_laws.proofs.OneRun.{goes, led_on}
+use Rattle.vdcp_laws.proofs.Same.{led_log, led_so}
 
 left_at : (plan : Plan) (unit count : ℕ) (came : List Arrival) (a a' : Auto Held) (answer : Result Ran KeptFault)
     (more : List Step) → Ending at_once plan unit count came a answer more a' → (a' ≡ a) ⊎ (a' ≡ auto.gives a)
 left_at plan unit count came a a' answer more (by_itself r is to m left) = inl left
-left_at plan unit count came a a' answer more (in_keep c is g m left) = inl left
+left_at plan unit count came a a' answer more (in_keep r is g m left) = inl left
 left_at plan unit count came a a' answer more (in_drop c is dropping g m left) = inl left
 left_at plan unit count came a a' answer more (in_send c front rest is g parts m left) = inr left
 left_at plan unit count came a a' answer more (in_listen is m left) = inr left
 
--- with the next command given
-with_next : (law : Laws) (plan : Plan) (port : ClockedPort) (asked : List Command) (e : Ends) (count : ℕ)
-    (came : List Arrival) (answer : Result Ran KeptFault) (more : List Step) (a' : Auto Held) (servers : List Act)
-    → CanJoin plan port asked → AreJoined plan port asked e → IsFresh plan e
-    → Ending at_once plan port.state.unit count came (after at_once plan port.state.unit (driver_of e.automation) came)
-    answer more a'
-    → SendsServed e servers
-    → AreCarried port.state.unit e (acts_in (steps_of at_once plan port.state.unit (driver_of e.automation) came ++ more))
-    servers
-    → EndsHeadline plan port.clips (ticked (after at_once plan port.state.unit (driver_of e.automation) came).state)
-    (e.log_before ++ log_of at_once plan port.state.unit (driver_of e.automation) came)
-    (e.aired_before ++ items_served e.port (e.downs ++ came_in servers))
-with_next law plan port asked e count came answer more a' servers can j f end serves c =
-    let unit : ℕ = port.state.unit in
-    let d : Auto Held = driver_of e.automation in
-    let list : List Act = acts_in (steps_of at_once plan unit d came ++ more) in
-    let h : HasCome plan unit e came (came_in servers) =
-    subst (λ (l : List Arrival). HasCome plan unit e l (came_in servers)) (came_whole plan unit count came came d answer more a' end)
-    (has_come plan unit count e came answer more a' servers list servers [] [] f end serves (sym (append-nil list))
-    (sym (append-nil servers)) c) in
-    let p : Prompt = prompted_from plan unit e.automation came in
-    let aired : List Item = e.aired_before ++ items_served e.port (e.downs ++ came_in servers) in
-    subst (λ (x : Auto Held). EndsHeadline plan port.clips (ticked x.state)
-    (e.log_before ++ log_of at_once plan unit d came) aired) (prompted_so plan unit e.automation came)
-    (subst (λ (l : List Exchange). EndsHeadline plan port.clips (ticked p.state) (e.log_before ++ l) aired)
-    (prompted_log plan unit e.automation came
-    ∙ ap (λ (l : List Exchange). l ++ log_of at_once plan unit d came) f.no_log)
-    (of_ends law plan port asked (ends_of plan unit e came (came_in servers)) can
-    (are_joined plan port asked e came (came_in servers) f j h)))
+-- where a run's ends are
+pub joined : (can : Bool) (plan : Plan) (port : ClockedPort) (asked : List Command) (e : Ends) (count : ℕ)
+    (answer : Result Ran KeptFault) (a' : Auto Held) (servers : List Act)
+    → AreJoined plan port asked e
+    → (run : IsRun can at_once plan port.state.unit count (driver_of e.automation) a' answer)
+    → SendsServed e servers → AreCarried plan port.state.unit e (acts_in (steps_in run)) servers
+    → AreJoined plan port asked (ends_at plan port.state.unit e run.events (e.downs ++ came_in servers))
+joined can plan port asked e count answer a' servers j run serves c =
+    led_on plan port.state.unit (new_ends port asked) e _ j
+    (run_led can plan port.state.unit count e answer a' servers run serves c)
 
-pub of_carried : (law : Laws) → (plan : Plan) (port : ClockedPort) (asked : List Command) (e : Ends) (count : ℕ)
-    (came : List Arrival) (answer : Result Ran KeptFault) (more : List Step) (a' : Auto Held) (servers : List Act)
-    → CanJoin plan port asked → AreJoined plan port asked e → IsFresh plan e
-    → Ending at_once plan port.state.unit count came (after at_once plan port.state.unit (driver_of e.automation) came)
-    answer more a'
-    → SendsServed e servers
-    → AreCarried port.state.unit e (acts_in (steps_of at_once plan port.state.unit (driver_of e.automation) came ++ more))
-    servers
-    → EndsHeadline plan port.clips a'.state
-    (e.log_before ++ log_of at_once plan port.state.unit (driver_of e.automation) came)
+-- with the next command given
+with_next : (law : Laws) (can : Bool) (plan : Plan) (port : ClockedPort) (asked : List Command) (e : Ends) (count : ℕ)
+    (answer : Result Ran KeptFault) (a' : Auto Held) (servers : List Act)
+    → CanJoin plan port asked → AreJoined plan port asked e
+    → (run : IsRun can at_once plan port.state.unit count (driver_of e.automation) a' answer)
+    → SendsServed e servers → AreCarried plan port.state.unit e (acts_in (steps_in run)) servers
+    → EndsHeadline plan port.clips (ticked (after at_once plan port.state.unit (driver_of e.automation) run.events).state)
+    (log_now e ++ log_of at_once plan port.state.unit (driver_of e.automation) run.events)
     (e.aired_before ++ items_served e.port (e.downs ++ came_in servers))
-of_carried law plan port asked e count came answer more a' servers can j f end serves c =
-    by (left_at plan port.state.unit count came
-    (after at_once plan port.state.unit (driver_of e.automation) came) a' answer more end) where
-      by : (a' ≡ after at_once plan port.state.unit (driver_of e.automation) came)
-          ⊎ (a' ≡ auto.gives (after at_once plan port.state.unit (driver_of e.automation) came))
-          → EndsHeadline plan port.clips a'.state
-          (e.log_before ++ log_of at_once plan port.state.unit (driver_of e.automation) came)
-          (e.aired_before ++ items_served e.port (e.downs ++ came_in servers))
-      by (inl left) =
-          let unit : ℕ = port.state.unit in
-          let log : List Exchange = e.log_before ++ log_of at_once plan unit (driver_of e.automation) came in
-          let aired : List Item = e.aired_before ++ items_served e.port (e.downs ++ came_in servers) in
+with_next law can plan port asked e count answer a' servers start j run serves c =
+    let unit : ℕ = port.state.unit in
+    let now : Ends = ends_by plan unit e run.events in
+    let p : Prompt = led plan unit e.automation run.events in
+    let more : List Exchange = log_of at_once plan unit (driver_of e.automation) run.events in
+    let g = goes plan unit e run.events in
+    let downs : List Arrival = e.downs ++ came_in servers in
+    let log_is : now.log_before ++ now.automation.log ≡ log_now e ++ more =
+    ap₂ (λ (l : List Exchange) (q : Prompt). l ++ q.log) g.log_before g.automation
+    ∙ ap (λ (l : List Exchange). e.log_before ++ l) (led_log plan unit e.automation run.events)
+    ∙ sym (append_assoc e.log_before e.automation.log more) in
+    let aired_is : now.aired_before ++ items_served now.port downs ≡ e.aired_before ++ items_served e.port downs =
+    ap₂ (λ (l : List Item) (q : ClockedPort). l ++ items_served q downs) g.aired_before g.port in
+    let state_is : driver_of now.automation ≡ after at_once plan unit (driver_of e.automation) run.events =
+    ap driver_of g.automation ∙ led_so plan unit e.automation run.events in
+    subst (λ (x : Auto Held). EndsHeadline plan port.clips (ticked x.state) (log_now e ++ more)
+    (e.aired_before ++ items_served e.port downs)) state_is
+    (subst (λ (l : List Exchange). EndsHeadline plan port.clips (ticked now.automation.state) l
+    (e.aired_before ++ items_served e.port downs)) log_is
+    (subst (EndsHeadline plan port.clips (ticked now.automation.state) (now.log_before ++ now.automation.log)) aired_is
+    (of_ends law plan port asked (ends_at plan unit e run.events downs) start
+    (joined can plan port asked e count answer a' servers j run serves c))))
+
+pub of_carried : (law : Laws) (can : Bool) (plan : Plan) (port : ClockedPort) (asked : List Command) (e : Ends) (count : ℕ)
+    (answer : Result Ran KeptFault) (a' : Auto Held) (servers : List Act)
+    → CanJoin plan port asked → AreJoined plan port asked e
+    → (run : IsRun can at_once plan port.state.unit count (driver_of e.automation) a' answer)
+    → SendsServed e servers → AreCarried plan port.state.unit e (acts_in (steps_in run)) servers
+    → EndsHeadline plan port.clips a'.state
+    (log_now e ++ log_of at_once plan port.state.unit (driver_of e.automation) run.events)
+    (e.aired_before ++ items_served e.port (e.downs ++ came_in servers))
+of_carried law can plan port asked e count answer a' servers start j run serves c =
+    by (left_at plan port.state.unit count _
+    (after at_once plan port.state.unit (driver_of e.automation) run.events) a' answer run.more run.ending)
+    (with_next law can plan port asked e count answer a' servers start j run serves c) where
+      by : {b : Auto Held} {log : List Exchange} {aired : List Item} → (a' ≡ b) ⊎ (a' ≡ auto.gives b)
+          → EndsHeadline plan port.clips (ticked b.state) log aired → EndsHeadline plan port.clips a'.state log aired
+      by {b} {log} {aired} (inl left) h =
           subst (λ (x : Auto Held). EndsHeadline plan port.clips x.state log aired) (sym left)
-          (before_tick plan port.clips (after at_once plan unit (driver_of e.automation) came).state log aired
-          (with_next law plan port asked e count came answer more a' servers can j f end serves c))
-      by (inr left) =
-          let unit : ℕ = port.state.unit in
-          let log : List Exchange = e.log_before ++ log_of at_once plan unit (driver_of e.automation) came in
-          let aired : List Item = e.aired_before ++ items_served e.port (e.downs ++ came_in servers) in
-          subst (λ (x : Auto Held). EndsHeadline plan port.clips x.state log aired) (sym left)
-          (with_next law plan port asked e count came answer more a' servers can j f end serves c)
+          (before_tick plan port.clips b.state log aired h)
+      by {b} {log} {aired} (inr left) h =
+          subst (λ (x : Auto Held). EndsHeadline plan port.clips x.state log aired) (sym left) h

@@ -19,13 +19,8 @@ use Rattle.vdcp_auto.specs.declared.phase.Mode.TheVariants.{Plain, Confirming}
 use Rattle.vdcp_auto.specs.declared.phase.Transition.{Transition}
 use Rattle.vdcp_auto.specs.declared.phase.Transition.TheVariants.{Goes, Settles, Retries, Ends}
 use Rattle.vdcp_drive.specs.Reading.{completed}
-use Rattle.vdcp_laws.specs.Automation.{Prompt, commands_in, gives, hears, hears_all, listens, prompted_from, receives}
+use Rattle.vdcp_laws.specs.Automation.{Prompt, commands_in, gives, hears, hears_all, listens, receives}
 use Rattle.vdcp_wire.specs.Wires.{Arrival, bytes, silence, close}
-
-pub prompted_push : (plan : Plan) (unit : ℕ) (p : Prompt) (came : List Arrival) (a : Arrival)
-    → prompted_from plan unit p (came ++ a ∷ []) ≡ listens plan unit a (gives (prompted_from plan unit p came))
-prompted_push plan unit p [] a = refl
-prompted_push plan unit p (b ∷ came) a = prompted_push plan unit (listens plan unit b (gives p)) came a
 
 abbrev pub command_of : Exchange → Command
 command_of e = e.command

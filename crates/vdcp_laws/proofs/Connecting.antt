@@ -25,7 +25,7 @@ use Rattle.vdcp_laws.specs.Kills as kills
 use Rattle.vdcp_laws.specs.Kills.{IsRun, happened, silence_notes}
 use Rattle.vdcp_drive.specs.Reading.{held_after_silence}
 use Rattle.vdcp_world.specs.LateLine.LateChannel.{AsksOnly, LateChannel, IsQuestion, after_late_event, command_bursts, made_anew, new_late_channel}
-use Rattle.vdcp_world.specs.declared.late.event.LateEvent.TheVariants as event
+use Rattle.vdcp_world.specs.LateLine.LateEvent as event
 use Rattle.vdcp_laws.specs.TwoEnds.{AreJoined, begun, went_on, gave, came_up, came_down, waited, hung_up, frame, shut, took, halted, resumed, restarted}
 use Rattle.vdcp_laws.specs.TwoEnds.{GoesOn, as_announced, as_noted}
 use Rattle.vdcp_laws.specs.TwoEnds.{CanJoin, Ends, IsLateChannel, aired_now, bytes_in, commands_sent, connected_anew, log_now, new_ends, port_now, with_command, with_take, heard_again}

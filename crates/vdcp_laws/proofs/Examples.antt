@@ -1,5 +1,5 @@
 -- Two ends with their bytes, computed: a run that the laws speak of; and for three premises what happens without them.
-use Rattle.std.proofs.Common.{◌≡◌, ◌<◌, ◌+◌, ℕ, zero, suc, true, false, List, [], ◌∷◌, ◌++◌, max, refl, ap, arith, lit<, lit≤, take}
+use Rattle.std.proofs.Common.{◌≡◌, ◌<◌, ◌+◌, ℕ, zero, suc, true, false, List, [], ◌∷◌, ◌++◌, max, refl, ap, arith, lit<, lit≤, take, map}
 use Rattle.std.proofs.lemmas.List.Elements.{All-cons, All-nil}
 use Rattle.std.specs.Simd.Lanes.{all_below}
 use Rattle.std.specs.Prelude.{None, Some}
@@ -30,10 +30,12 @@ use Rattle.vdcp_auto.specs.declared.phase.Phase.TheVariants as phase
 use Rattle.vdcp_wire.specs.Wires.{Arrival, bytes, silence}
 use Rattle.vdcp_drive.specs.Traces.{bytes_of}
 use Rattle.vdcp_laws.specs.Announced.{Announces, came_again}
-use Rattle.vdcp_laws.specs.Automation.{Prompt, commands_in, gives, new_prompt, prompted, prompted_from}
+use Rattle.vdcp_laws.specs.Automation.{Prompt, commands_in, gives, new_prompt, led, prompted}
 use Rattle.vdcp_drive.specs.Reading.{holds}
 use Rattle.vdcp_drive.specs.Served.{items_served, served}
-use Rattle.vdcp_laws.specs.OneConnection.{HasCome, begun, up, down, waited, frame}
+use Rattle.vdcp_drive.specs.Auto.{Event, arrives, calls}
+use Rattle.vdcp_drive.specs.declared.hooks.Call.TheVariants as call
+use Rattle.vdcp_laws.specs.OneConnection.{ends_at}
 use Rattle.vdcp_laws.specs.TwoEnds as ends
 use Rattle.vdcp_laws.specs.TwoEnds.{AreJoined, Ends, bytes_in, new_ends, port_now}
 use Rattle.vdcp_laws.specs.Undisturbed as undisturbed
@@ -204,33 +206,53 @@ all_whole =
     with_message opening open_bytes (open_bytes ++ select_bytes ++ select_bytes ++ exists_bytes ++ cue) opens
     (with_message opening open_bytes (select_bytes ++ select_bytes ++ exists_bytes ++ cue) opens four)
 
-abbrev ComesTo : Timecode → List Arrival → List Arrival → Type 0
-ComesTo length ups downs = HasCome plan 0 (new_ends (port length) []) ups downs
+abbrev ComesTo : Timecode → List Event → List Arrival → Type 0
+ComesTo length ups downs = ends.AreLed plan 0 (new_ends (port length) []) (ends_at plan 0 (new_ends (port length) []) ups downs)
 
-a_run : (length : Timecode) → ComesTo length late_in cut_downs
+-- what comes up is in order, and then the next command is given
+abbrev up_to : ℕ → List Event
+up_to n = map arrives (take n late_in)
+
+a_run : (length : Timecode) → ComesTo length (map arrives late_in) cut_downs
 a_run length =
-    let one : ComesTo length [] (bytes open_bytes ∷ []) = down begun open_bytes [] refl refl in
-    let two : ComesTo length (bytes (0x02 ∷ 0x03 ∷ []) ∷ []) (bytes open_bytes ∷ []) =
-    up one (0x02 ∷ 0x03 ∷ []) (0x30 ∷ 0x81 ∷ 0x01 ∷ 0x4E ∷ []) refl in
-    let late : ComesTo length (bytes (0x02 ∷ 0x03 ∷ []) ∷ silence ∷ []) (bytes open_bytes ∷ []) = waited two in
-    let three : ComesTo length (take 3 late_in) (bytes open_bytes ∷ []) = up late (0x30 ∷ 0x81 ∷ 0x01 ∷ 0x4E ∷ []) [] refl in
-    let four : ComesTo length (take 3 late_in) (take 2 cut_downs) =
-    down three (open_bytes ++ 0x02 ∷ []) (0x03 ∷ 0x20 ∷ 0x22 ∷ 0x01 ∷ 0xBD ∷ []) refl refl in
-    let five : ComesTo length (take 3 late_in) (take 3 cut_downs) =
-    down four (0x03 ∷ 0x20 ∷ 0x22 ∷ 0x01 ∷ 0xBD ∷ []) [] refl refl in
-    let six : ComesTo length (take 4 late_in) (take 3 cut_downs) = up five (granted_bytes ++ 0x04 ∷ []) [] refl in
-    let seven : ComesTo length (take 4 late_in) (take 4 cut_downs) = down six select_bytes [] refl refl in
-    let eight : ComesTo length (take 5 late_in) (take 4 cut_downs) = up seven (0x04 ∷ []) [] refl in
-    let nine : ComesTo length (take 5 late_in) (take 5 cut_downs) = down eight exists_bytes [] refl refl in
-    let ten : ComesTo length (take 6 late_in) (take 5 cut_downs) = up nine present_bytes [] refl in
-    let eleven : ComesTo length (take 6 late_in) (take 6 cut_downs) = down ten cue_front cue_rest refl refl in
-    let twelve : ComesTo length (take 6 late_in) (take 7 cut_downs) = down eleven cue_rest [] refl refl in
-    let cued : ComesTo length (take 7 late_in) (take 7 cut_downs) = up twelve (0x04 ∷ []) [] refl in
-    let done : ComesTo length (take 7 late_in) (take 8 cut_downs) = frame cued refl all_whole in
-    let asked : ComesTo length (take 7 late_in) (take 9 cut_downs) = down done status_bytes [] refl refl in
-    let shown : ComesTo length (take 8 late_in) (take 9 cut_downs) = up asked done_bytes [] refl in
-    let played : ComesTo length (take 8 late_in) cut_downs = down shown play_bytes [] refl refl in
-    up played (0x04 ∷ []) [] refl
+    let none : ComesTo length [] [] = ends.went_on ends.begun ends.gave in
+    let one : ComesTo length [] (bytes open_bytes ∷ []) = ends.went_on none (ends.came_down open_bytes [] refl refl) in
+    let two : ComesTo length (up_to 1) (bytes open_bytes ∷ []) =
+    ends.went_on (ends.went_on one (ends.came_up (0x02 ∷ 0x03 ∷ []) (0x30 ∷ 0x81 ∷ 0x01 ∷ 0x4E ∷ []) refl)) ends.gave in
+    let late : ComesTo length (up_to 2) (bytes open_bytes ∷ []) = ends.went_on (ends.went_on two ends.waited) ends.gave in
+    let three : ComesTo length (up_to 3) (bytes open_bytes ∷ []) =
+    ends.went_on (ends.went_on late (ends.came_up (0x30 ∷ 0x81 ∷ 0x01 ∷ 0x4E ∷ []) [] refl)) ends.gave in
+    let four : ComesTo length (up_to 3) (take 2 cut_downs) =
+    ends.went_on three (ends.came_down (open_bytes ++ 0x02 ∷ []) (0x03 ∷ 0x20 ∷ 0x22 ∷ 0x01 ∷ 0xBD ∷ []) refl refl) in
+    let five : ComesTo length (up_to 3) (take 3 cut_downs) =
+    ends.went_on four (ends.came_down (0x03 ∷ 0x20 ∷ 0x22 ∷ 0x01 ∷ 0xBD ∷ []) [] refl refl) in
+    let six : ComesTo length (up_to 4) (take 3 cut_downs) =
+    ends.went_on (ends.went_on five (ends.came_up (granted_bytes ++ 0x04 ∷ []) [] refl)) ends.gave in
+    let seven : ComesTo length (up_to 4) (take 4 cut_downs) = ends.went_on six (ends.came_down select_bytes [] refl refl) in
+    let eight : ComesTo length (up_to 5) (take 4 cut_downs) =
+    ends.went_on (ends.went_on seven (ends.came_up (0x04 ∷ []) [] refl)) ends.gave in
+    let nine : ComesTo length (up_to 5) (take 5 cut_downs) = ends.went_on eight (ends.came_down exists_bytes [] refl refl) in
+    let ten : ComesTo length (up_to 6) (take 5 cut_downs) =
+    ends.went_on (ends.went_on nine (ends.came_up present_bytes [] refl)) ends.gave in
+    let eleven : ComesTo length (up_to 6) (take 6 cut_downs) = ends.went_on ten (ends.came_down cue_front cue_rest refl refl) in
+    let twelve : ComesTo length (up_to 6) (take 7 cut_downs) = ends.went_on eleven (ends.came_down cue_rest [] refl refl) in
+    let cued : ComesTo length (up_to 7) (take 7 cut_downs) =
+    ends.went_on (ends.went_on twelve (ends.came_up (0x04 ∷ []) [] refl)) ends.gave in
+    let done : ComesTo length (up_to 7) (take 8 cut_downs) = ends.went_on cued (ends.frame refl all_whole) in
+    let asked : ComesTo length (up_to 7) (take 9 cut_downs) = ends.went_on done (ends.came_down status_bytes [] refl refl) in
+    let shown : ComesTo length (up_to 8) (take 9 cut_downs) =
+    ends.went_on (ends.went_on asked (ends.came_up done_bytes [] refl)) ends.gave in
+    let played : ComesTo length (up_to 8) cut_downs = ends.went_on shown (ends.came_down play_bytes [] refl refl) in
+    ends.went_on (ends.went_on played (ends.came_up (0x04 ∷ []) [] refl)) ends.gave
+
+-- the operator takes and stops before a command goes out: then STOP goes out first
+abbrev stop_bytes : List ℕ
+stop_bytes = 0x02 ∷ 0x02 ∷ 0x10 ∷ 0x00 ∷ 0xF0 ∷ []
+
+a_run_with_calls : (length : Timecode) → ComesTo length (calls call.Take ∷ calls call.Stop ∷ []) (bytes stop_bytes ∷ [])
+a_run_with_calls length =
+    ends.went_on (ends.went_on (ends.went_on (ends.went_on ends.begun (ends.took refl)) (ends.halted refl)) ends.gave)
+    (ends.came_down stop_bytes [] refl refl)
 
 it_airs : (length : Timecode) → items_served (port length) cut_downs ≡ whole clip ∷ []
 it_airs length = refl
@@ -240,7 +262,7 @@ and_is_reported = refl
 
 -- what an automation has sent once this came to it, the command that it gives next included
 abbrev sent_by : Prompt → List Arrival → List ℕ
-sent_by p ups = bytes_of 0 (commands_in plan (gives (prompted_from plan 0 p ups)))
+sent_by p ups = bytes_of 0 (commands_in plan (gives (led plan 0 p (map arrives ups))))
 
 -- A frame within a command.
 
@@ -338,8 +360,8 @@ abbrev playing_bytes : List ℕ
 playing_bytes = 0x02 ∷ 0x04 ∷ 0x30 ∷ 0x85 ∷ 0x01 ∷ 0x04 ∷ 0x46 ∷ []
 
 forgetting_sends :
-    bytes_of 0 (commands_in two_events (gives (prompted_from two_events 0 (record { held = holds []; state = waits; log = [] })
-    (bytes playing_bytes ∷ silence ∷ bytes done_bytes ∷ []))))
+    bytes_of 0 (commands_in two_events (gives (led two_events 0 (record { held = holds []; state = waits; log = [] })
+    (arrives (bytes playing_bytes) ∷ arrives silence ∷ arrives (bytes done_bytes) ∷ []))))
     ≡ status_bytes ++ (cue_front ++ cue_rest) ++ status_bytes ++ play_bytes
 forgetting_sends = refl
 

@@ -16,7 +16,7 @@ use Rattle.vdcp_world.specs.LateLine.LateHeadline.{LateHeadline, LateMeans, is_l
 use Rattle.vdcp_laws.specs.EndsHeadline.{EndsHeadline}
 use Rattle.vdcp_laws.specs.TwoEnds.{AreJoined, CanJoin, Ends, IsLateChannel, aired_now, log_now}
 
--- laws::two_ends_are_a_late_channel, and vdcp_world::late::laws::a_late_line_keeps_the_headline
+-- laws::two_ends_are_a_late_channel, and vdcp_world::laws::a_late_line_keeps_the_headline
 pub record Laws : Type 0 where
   pub ends : (plan : Plan) (port : ClockedPort) (asked : List Command) (e : Ends) → CanJoin plan port asked
       → AreJoined plan port asked e

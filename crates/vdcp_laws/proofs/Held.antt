@@ -15,8 +15,8 @@ use Rattle.vdcp_laws.specs.Kills.{asked_in_vain, IsRun, happened, end_notes, sil
 use Rattle.vdcp_world.specs.LateLine.Damage.{can_become, is_junk_down, replaced, with_damage, with_junk}
 use Rattle.vdcp_world.specs.LateLine.GoingOn.{IsNoTick, gone_on}
 use Rattle.vdcp_world.specs.LateLine.LateChannel.{LateChannel, after_late_event, after_late_events, bursts_of, oldest, without_oldest}
-use Rattle.vdcp_world.specs.declared.late.event.LateEvent.{LateEvent}
-use Rattle.vdcp_world.specs.declared.late.event.LateEvent.TheVariants as event
+use Rattle.vdcp_world.specs.LateLine.LateEvent.{LateEvent}
+use Rattle.vdcp_world.specs.LateLine.LateEvent as event
 use Rattle.vdcp_port.specs.Answers.{after_burst, aired_for, sent_for}
 use Rattle.vdcp_value.specs.declared.part.Item.{Item}
 use Rattle.vdcp_words.specs.declared.command.Command.{Command}

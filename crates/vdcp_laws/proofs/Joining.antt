@@ -28,8 +28,8 @@ use Rattle.vdcp_laws.specs.Automation.{Prompt, commands_in, gives, hears_all, li
 use Rattle.vdcp_drive.specs.Reading.{Held, holds, completed, held_after}
 use Rattle.vdcp_drive.specs.Served.{items_served}
 use Rattle.vdcp_world.specs.LateLine.LateChannel.{LateChannel, IsLateReached, after_late_event, after_late_events, command_bursts}
-use Rattle.vdcp_world.specs.declared.late.event.LateEvent.{LateEvent}
-use Rattle.vdcp_world.specs.declared.late.event.LateEvent.TheVariants as event
+use Rattle.vdcp_world.specs.LateLine.LateEvent.{LateEvent}
+use Rattle.vdcp_world.specs.LateLine.LateEvent as event
 use Rattle.vdcp_laws.specs.TwoEnds.{CanJoin, Ends, aired_now, bytes_in, commands_sent, log_now, port_now, sent_up, notes_ended, notes_heard, wishing, with_automation, with_command, with_down, with_up}
 use Rattle.vdcp_laws.specs.Below.{Answered, Arrived, Completed, Spelt, Written}
 use Rattle.vdcp_laws.proofs.Bytes.{clean_spelt, completes, end_past, front_small, messages_past, messages_spelt, messages_within_limit, spelt, spelt_both, whole_spelt, within_limit}
@@ -40,7 +40,7 @@ use Rattle.vdcp_laws.proofs.Announced.{UnitStays}
 use Rattle.vdcp_laws.proofs.Running.{hears_so, loses_down_so, no_notes, runs_down, silent_so, ticks_so}
 use Rattle.vdcp_laws.proofs.Serving.{bytes_close, bytes_more, bytes_silence, clips_frame, clips_stay, serves_bytes, serves_close, serves_frame}
 
--- the laws below, and vdcp_world::late::laws::a_killed_automation_goes_on
+-- the laws below, and vdcp_world::laws::a_killed_automation_goes_on
 pub record Laws : Type 0 where
   pub spelt : Spelt
   pub completed : Completed

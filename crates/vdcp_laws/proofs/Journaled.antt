@@ -18,8 +18,8 @@ use Rattle.vdcp_journal.specs.declared.row.Note.TheVariants as note
 use Rattle.vdcp_journal.specs.declared.row.Row.{Row}
 use Rattle.vdcp_laws.specs.Kills.{IsRun, IsOfRun, begun, happened, end_notes, heard_notes, notes_of, silence_notes, stray_notes}
 use Rattle.vdcp_world.specs.LateLine.LateChannel.{LateChannel, IsLateReached, after_late_event, after_late_events, oldest}
-use Rattle.vdcp_world.specs.declared.late.event.LateEvent.{LateEvent}
-use Rattle.vdcp_world.specs.declared.late.event.LateEvent.TheVariants as event
+use Rattle.vdcp_world.specs.LateLine.LateEvent.{LateEvent}
+use Rattle.vdcp_world.specs.LateLine.LateEvent as event
 use Rattle.vdcp_words.specs.declared.reply.Reply.{Reply}
 use Rattle.vdcp_words.specs.declared.reply.Reply.TheVariants.{Ack, Nak}
 use Rattle.vdcp_words.specs.declared.command.Command.{Command}

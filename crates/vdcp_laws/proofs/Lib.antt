@@ -15,6 +15,7 @@ mod Joining
 mod Killed
 mod Logging
 mod Noting
+mod Noted
 mod OneRun
 mod Queues
 mod Same

@@ -1,8 +1,6 @@
--- What a driver keeps of its exchanges is what the journal gets of them; and the calls that lead to its controller.
-use Rattle.std.proofs.Common.{ℕ, ◌≡◌, Bool, true, false, List, [], ◌∷◌, ◌++◌, map, refl, sym, ap, ap₂, subst, ◌∙◌, append_assoc, append-nil}
-use Rattle.std.proofs.lemmas.Grind.{flat_map-append}
-use Rattle.std.proofs.lemmas.List.{map-append}
-use Rattle.std.specs.Option.{option_map_or, option_to_list}
+-- The calls that lead to an automation's controller.
+use Rattle.std.proofs.Common.{ℕ, ◌≡◌, Bool, true, false, List, [], ◌∷◌, ◌++◌, refl, sym, ap, subst, append-nil}
+use Rattle.std.specs.Option.{option_map_or}
 use Rattle.std.specs.Prelude.{Option, None, Some, if◌then◌else◌}
 use Rattle.vdcp_frame.specs.Message.{Content}
 use Rattle.vdcp_words.specs.declared.command.Command.{Command}
@@ -13,22 +11,15 @@ use Rattle.vdcp_auto.specs.Heard.{heard_as}
 use Rattle.vdcp_auto.specs.Law.{IsLawful}
 use Rattle.vdcp_auto.specs.Plan.{Plan}
 use Rattle.vdcp_auto.specs.State.{State, Stage, Ready, Awaiting, Ended}
-use Rattle.vdcp_auto.specs.Turn.{awaited, came_to, ended_by, ended_in, exchange_of, given, is_end, is_ready, taken, tick_in, ticked}
+use Rattle.vdcp_auto.specs.Turn.{came_to, ended_by, exchange_of, is_end, is_ready, taken, tick_in, ticked}
 use Rattle.vdcp_auto.specs.declared.exchange.Exchange.{Exchange}
 use Rattle.vdcp_auto.specs.declared.exchange.Heard.{Heard}
 use Rattle.vdcp_auto.specs.declared.phase.Mode.{Mode}
-use Rattle.vdcp_journal.specs.declared.row.Note.{Note}
-use Rattle.vdcp_drive.specs.Keeping.{kept_by}
-use Rattle.vdcp_drive.specs.Steps.{end_of, given_notes}
-use Rattle.vdcp_drive.specs.Traces.{kept_of}
-use Rattle.vdcp_laws.specs.Automation.{end_notes}
-use Rattle.vdcp_drive.specs.declared.keep.Kept.{Kept}
-use Rattle.vdcp_drive.specs.declared.keep.Kept.TheVariants as kept
-use Rattle.vdcp_laws.specs.Automation.{Prompt, gives, hears, hears_all, kept_in, receives}
+use Rattle.vdcp_laws.specs.Automation.{Prompt, hears, hears_all}
 use Rattle.vdcp_drive.specs.Reading.{completed}
 use Rattle.vdcp_laws.specs.TwoEnds.{AreJoined, begun, went_on, gave, came_up, came_down, waited, hung_up, frame, shut, took, halted, resumed, restarted}
-use Rattle.vdcp_laws.specs.TwoEnds.{CanJoin, Ends, GoesOn, as_announced, as_noted, log_now, note_for, notes_ended, notes_heard}
-use Rattle.vdcp_laws.proofs.Commands.{awaits_none_in, exchange_is, hears_comes, ticks_state}
+use Rattle.vdcp_laws.specs.TwoEnds.{CanJoin, Ends, GoesOn, as_announced, as_noted, log_now}
+use Rattle.vdcp_laws.proofs.Commands.{hears_comes}
 use Rattle.vdcp_laws.proofs.Queues.{logged_behind}
 
 -- vdcp_auto::laws::reached_is_lawful
@@ -49,56 +40,6 @@ pub heard_is : (mode : Mode) (h : Option Heard) (c : Option Command) (e : Exchan
     → h ≡ e.heard
 heard_is mode h None e is = cc
 heard_is mode h (Some c) e is = heard_is_by (is_end mode c h) c h e is
-
--- What a driver keeps of its exchanges is what the journal gets of them.
-
-kept_one : (log : List Exchange) (e : Exchange)
-    → kept_of (log ++ e ∷ []) ≡ kept_of log ++ kept.Sent e.command ∷ end_of e.heard ∷ []
-kept_one log e = flat_map-append (λ (x : Exchange). kept.Sent x.command ∷ end_of x.heard ∷ []) log (e ∷ [])
-
-pub kept_ticks : (plan : Plan) (p : Prompt)
-    → kept_in plan (gives p) ≡ kept_in plan p ++ given_notes (given plan p.state)
-kept_ticks plan p =
-    let was : List Command = option_to_list (awaited plan p.state) in
-    let gives : List Command = option_to_list (given plan p.state) in
-    ap (λ (l : List Command). kept_of p.log ++ map kept.Sent l) (ticks_state plan p.state)
-    ∙ ap (λ (l : List Kept). kept_of p.log ++ l) (map-append kept.Sent was gives)
-    ∙ sym (append_assoc (kept_of p.log) (map kept.Sent was) (map kept.Sent gives))
-
-kept_by_end : (plan : Plan) (h : Option Heard) (p : Prompt) (by : Option Exchange) → ended_by plan h p.state ≡ by
-    → kept_by plan (logged p.log by) (option_map_or (λ e. ended_in plan p.state.stage e p.state) by p.state)
-    ≡ kept_in plan p ++ end_notes by
-kept_by_end plan h p None is = sym (append-nil (kept_in plan p))
-kept_by_end plan h p (Some e) is =
-    let awaits : awaited plan p.state ≡ Some e.command = exchange_is plan.mode h (awaited plan p.state) e is in
-    ap₂ (λ (l : List Kept) (c : Option Command). l ++ map kept.Sent (option_to_list c)) (kept_one p.log e)
-    (awaits_none_in plan p.state.stage e p.state awaits)
-    ∙ append-nil (kept_of p.log ++ kept.Sent e.command ∷ end_of e.heard ∷ [])
-    ∙ sym (append_assoc (kept_of p.log) (kept.Sent e.command ∷ []) (end_of e.heard ∷ []))
-    ∙ ap (λ (c : Option Command). (kept_of p.log ++ map kept.Sent (option_to_list c)) ++ end_of e.heard ∷ []) (sym awaits)
-
-pub kept_receives : (plan : Plan) (h : Option Heard) (p : Prompt)
-    → kept_in plan (receives plan h p) ≡ kept_in plan p ++ end_notes (ended_by plan h p.state)
-kept_receives plan h p = kept_by_end plan h p (ended_by plan h p.state) refl
-
-kept_hears : (plan : Plan) (unit : ℕ) (m : Content) (p : Prompt)
-    → kept_in plan (hears plan unit m p) ≡ kept_in plan p ++ end_notes (ended_by plan (Some (heard_as unit m)) p.state)
-kept_hears plan unit m p =
-    let comes = hears_comes plan unit m p in
-    ap₂ (λ (l : List Exchange) (s : State). kept_by plan l s) comes.log_is comes.state_is
-    ∙ kept_receives plan (Some (heard_as unit m)) p
-
-pub kept_hears_all : (plan : Plan) (unit : ℕ) (ms : List Content) (p : Prompt)
-    → map note_for (kept_in plan (hears_all plan unit ms p)) ≡ map note_for (kept_in plan p) ++ notes_heard plan unit ms p
-kept_hears_all plan unit [] p = sym (append-nil (map note_for (kept_in plan p)))
-kept_hears_all plan unit (m ∷ ms) p =
-    let h : Option Heard = Some (heard_as unit m) in
-    let q : Prompt = hears plan unit m p in
-    kept_hears_all plan unit ms q
-    ∙ ap (λ (l : List Kept). map note_for l ++ notes_heard plan unit ms q) (kept_hears plan unit m p)
-    ∙ ap (λ (l : List Note). l ++ notes_heard plan unit ms q)
-    (map-append note_for (kept_in plan p) (end_notes (ended_by plan h p.state)))
-    ∙ append_assoc (map note_for (kept_in plan p)) (notes_ended plan h p.state) (notes_heard plan unit ms q)
 
 -- All steps.
 

@@ -1,165 +1,185 @@
--- One connection, by what came to either end.
-use Rattle.std.proofs.Common.{ℕ, ◌≡◌, List, [], ◌∷◌, ◌++◌, map, refl, sym, ap, ap₂, subst, ◌∙◌, append_assoc, append-nil}
-use Rattle.std.proofs.lemmas.List.{map-append}
-use Rattle.std.specs.Option.{option_to_list}
-use Rattle.std.specs.Prelude.{Option, None}
-use Rattle.vdcp_frame.specs.Message.{Content}
-use Rattle.vdcp_words.specs.declared.command.Command.{Command}
-use Rattle.vdcp_port.specs.Clock.{ClockedPort}
+-- One run, by what happened in it: where both ends are led.
+use Rattle.std.proofs.Common.{ℕ, ◌≡◌, Bool, List, [], ◌∷◌, ◌++◌, refl, sym, ap, subst, ◌∙◌, append_assoc, append-nil}
 use Rattle.vdcp_auto.specs.Plan.{Plan}
-use Rattle.vdcp_auto.specs.Turn.{ended_by, given}
-use Rattle.vdcp_auto.specs.declared.exchange.Exchange.{Exchange}
-use Rattle.vdcp_journal.specs.declared.row.Note.{Note}
 use Rattle.vdcp_wire.specs.Wires.{Arrival, bytes, silence, close}
-use Rattle.vdcp_drive.specs.Steps.{given_notes}
-use Rattle.vdcp_drive.specs.Traces.{kept_of}
-use Rattle.vdcp_laws.specs.Automation.{end_notes}
-use Rattle.vdcp_laws.specs.Automation.{Prompt, gives, kept_in, listens, prompted_from, receives}
-use Rattle.vdcp_drive.specs.Reading.{completed}
-use Rattle.vdcp_drive.specs.declared.keep.Kept.{Kept}
-use Rattle.vdcp_drive.specs.declared.keep.Kept.TheVariants as kept
-use Rattle.vdcp_laws.specs.OneConnection.{HasCome, IsFresh, begun, up, down, waited, frame, hung_up, shut, ends_of}
+use Rattle.vdcp_drive.specs.Auto.{AreMade, Auto, Event, after, arrivals, arrives, calls}
+use Rattle.vdcp_drive.specs.Auto as auto
+use Rattle.vdcp_drive.specs.Hearing.{at_once}
+use Rattle.vdcp_drive.specs.Reading.{Held}
+use Rattle.vdcp_drive.specs.declared.hooks.Call.TheVariants as call
+use Rattle.vdcp_laws.specs.Automation.{Prompt, led}
+use Rattle.vdcp_laws.specs.Carried.{driver_of}
+use Rattle.vdcp_laws.specs.OneConnection.{ends_at, ends_by, hears_in, heeds_in}
 use Rattle.vdcp_laws.specs.TwoEnds as two
-use Rattle.vdcp_laws.specs.TwoEnds.{AreJoined, Ends, bytes_in, connected_anew, new_ends, note_for, notes_ended, notes_given, notes_heard, with_down}
-use Rattle.vdcp_laws.proofs.Commands.{prompted_push, timed_out}
-use Rattle.vdcp_laws.proofs.Noting.{kept_hears_all, kept_receives, kept_ticks}
-use Rattle.vdcp_laws.proofs.Serving.{bytes_close, bytes_more, bytes_silence}
+use Rattle.vdcp_laws.specs.TwoEnds.{AreLed, Ends, bytes_in, with_command}
+use Rattle.vdcp_laws.proofs.Same.{led_so}
 
--- A connection that begins.
+pub ends_both : (plan : Plan) (unit : ℕ) (e : Ends) (xs ys : List Event)
+    → ends_by plan unit e (xs ++ ys) ≡ ends_by plan unit (ends_by plan unit e xs) ys
+ends_both plan unit e [] ys = refl
+ends_both plan unit e (arrives a ∷ xs) ys = ends_both plan unit (hears_in plan unit a (with_command plan e)) xs ys
+ends_both plan unit e (calls c ∷ xs) ys = ends_both plan unit (heeds_in c e) xs ys
 
-pub anew_fresh : (plan : Plan) (port : ClockedPort) (e : Ends) → IsFresh plan (connected_anew plan port e)
-anew_fresh plan port e = record { no_log = refl; awaits_none = timed_out plan e.automation.state }
+-- what happens to the automation leaves the rest
+pub record Goes (e : Ends) (p : Prompt) (up : List ℕ) (e' : Ends) : Type 0 where
+  pub asked : e'.asked ≡ e.asked
+  pub automation : e'.automation ≡ p
+  pub ups : e'.ups ≡ e.ups ++ up
+  pub port : e'.port ≡ e.port
+  pub log_before : e'.log_before ≡ e.log_before
+  pub aired_before : e'.aired_before ≡ e.aired_before
 
-abbrev ends_with : Ends → List Arrival → Prompt → List ℕ → List Note → Ends
-ends_with e downs p ups notes =
-    record {
-      asked = e.asked;
-      automation = p;
-      ups = ups;
-      port = e.port;
-      downs = downs;
-      log_before = e.log_before;
-      aired_before = e.aired_before;
-      notes = e.notes ++ notes;
+pub goes : (plan : Plan) (unit : ℕ) (e : Ends) (events : List Event)
+    → Goes e (led plan unit e.automation events) (bytes_in (arrivals events)) (ends_by plan unit e events)
+goes plan unit e [] = record {
+  asked = refl;
+  automation = refl;
+  ups = sym (append-nil e.ups);
+  port = refl;
+  log_before = refl;
+  aired_before = refl;
+}
+goes plan unit e (arrives (bytes piece) ∷ later) =
+    let g = goes plan unit (hears_in plan unit (bytes piece) (with_command plan e)) later in record {
+      asked = g.asked;
+      automation = g.automation;
+      ups = g.ups ∙ append_assoc e.ups piece (bytes_in (arrivals later));
+      port = g.port;
+      log_before = g.log_before;
+      aired_before = g.aired_before;
+    }
+goes plan unit e (arrives silence ∷ later) =
+    let g = goes plan unit (hears_in plan unit silence (with_command plan e)) later in record {
+      asked = g.asked;
+      automation = g.automation;
+      ups = g.ups;
+      port = g.port;
+      log_before = g.log_before;
+      aired_before = g.aired_before;
+    }
+goes plan unit e (arrives close ∷ later) =
+    let g = goes plan unit (hears_in plan unit close (with_command plan e)) later in record {
+      asked = g.asked;
+      automation = g.automation;
+      ups = g.ups;
+      port = g.port;
+      log_before = g.log_before;
+      aired_before = g.aired_before;
+    }
+goes plan unit e (calls c ∷ later) =
+    let g = goes plan unit (heeds_in c e) later in record {
+      asked = g.asked;
+      automation = g.automation;
+      ups = g.ups;
+      port = g.port;
+      log_before = g.log_before;
+      aired_before = g.aired_before;
     }
 
--- nothing is kept since
-none_kept : (plan : Plan) (e : Ends) → IsFresh plan e → kept_in plan e.automation ≡ []
-none_kept plan e f =
-    ap₂ (λ (l : List Exchange) (c : Option Command). kept_of l ++ map kept.Sent (option_to_list c)) f.no_log f.awaits_none
+-- What happened until this had come, with the calls that follow.
+abbrev pub upto : List Event → List Arrival → List Event
+upto [] came = []
+upto (calls c ∷ later) came = calls c ∷ upto later came
+upto (arrives a ∷ later) [] = []
+upto (arrives a ∷ later) (b ∷ came) = arrives a ∷ upto later came
 
-gives_first : (plan : Plan) (e : Ends) → IsFresh plan e
-    → notes_given plan e.automation.state ≡ map note_for (kept_in plan (gives e.automation))
-gives_first plan e f =
-    ap (λ (l : List Kept). map note_for (l ++ given_notes (given plan e.automation.state))) (sym (none_kept plan e f))
-    ∙ ap (map note_for) (sym (kept_ticks plan e.automation))
+tail_so : (x y : Arrival) (xs ys : List Arrival) → x ∷ xs ≡ y ∷ ys → xs ≡ ys
+tail_so x y xs ys is = cc
 
-first : (plan : Plan) (port : ClockedPort) (asked : List Command) (unit : ℕ) (e : Ends) → IsFresh plan e
-    → AreJoined plan port asked e → AreJoined plan port asked (ends_of plan unit e [] [])
-first plan port asked unit e f j =
-    let g : Prompt = gives e.automation in
-    let kept_is : List Note = map note_for (kept_in plan g) in
-    subst (λ (l : List Arrival). AreJoined plan port asked (ends_with e l g (e.ups ++ []) kept_is))
-    (sym (append-nil e.downs))
-    (subst (λ (l : List ℕ). AreJoined plan port asked (ends_with e e.downs g l kept_is)) (sym (append-nil e.ups))
-    (subst (λ (l : List Note). AreJoined plan port asked (ends_with e e.downs g e.ups l)) (gives_first plan e f)
-    (two.went_on j two.gave)))
+head_so : (x y : Arrival) (xs ys : List Arrival) → x ∷ xs ≡ y ∷ ys → x ≡ y
+head_so x y xs ys is = cc
 
--- One more listen.
+pub upto_came : (events : List Event) (came rest : List Arrival) → arrivals events ≡ came ++ rest
+    → arrivals (upto events came) ≡ came
+upto_came [] [] rest is = refl
+upto_came [] (b ∷ came) rest is = cc
+upto_came (calls c ∷ later) came rest is = upto_came later came rest is
+upto_came (arrives a ∷ later) [] rest is = refl
+upto_came (arrives a ∷ later) (b ∷ came) rest is =
+    ap (λ (x : Arrival). x ∷ arrivals (upto later came)) (head_so a b (arrivals later) (came ++ rest) is)
+    ∙ ap (λ (l : List Arrival). b ∷ l) (upto_came later came rest (tail_so a b (arrivals later) (came ++ rest) is))
 
--- what the journal gets of it, and of the command that is given after it
-notes_so : (plan : Plan) (was before more : List Note) (q : Prompt) → map note_for (kept_in plan q) ≡ before ++ more
-    → ((was ++ before) ++ more) ++ notes_given plan q.state ≡ was ++ map note_for (kept_in plan (gives q))
-notes_so plan was before more q is =
-    ap (λ (l : List Note). l ++ notes_given plan q.state) (append_assoc was before more)
-    ∙ append_assoc was (before ++ more) (notes_given plan q.state)
-    ∙ ap (λ (l : List Note). was ++ (l ++ notes_given plan q.state)) (sym is)
-    ∙ ap (λ (l : List Note). was ++ l)
-    (sym (map-append note_for (kept_in plan q) (given_notes (given plan q.state)))
-    ∙ ap (map note_for) (sym (kept_ticks plan q)))
+pub upto_all : (events : List Event) → upto events (arrivals events) ≡ events
+upto_all [] = refl
+upto_all (calls c ∷ later) = ap (λ (l : List Event). calls c ∷ l) (upto_all later)
+upto_all (arrives a ∷ later) = ap (λ (l : List Event). arrives a ∷ l) (upto_all later)
 
-abbrev heard_ends : Ends → List Arrival → Prompt → List ℕ → List Note → Ends
-heard_ends e downs p ups notes =
-    record {
-      asked = e.asked;
-      automation = p;
-      ups = ups;
-      port = e.port;
-      downs = downs;
-      log_before = e.log_before;
-      aired_before = e.aired_before;
-      notes = notes;
+-- and then this comes
+pub record Next (events : List Event) (came : List Arrival) (a : Arrival) : Type 0 where
+  pub later : List Event
+  pub all : events ≡ upto events came ++ arrives a ∷ later
+  pub next : upto events (came ++ a ∷ []) ≡ upto events came ++ arrives a ∷ upto later []
+
+pub next_of : (events : List Event) (came : List Arrival) (a : Arrival) (rest : List Arrival)
+    → arrivals events ≡ came ++ a ∷ rest → Next events came a
+next_of [] [] a rest is = cc
+next_of [] (b ∷ came) a rest is = cc
+next_of (calls c ∷ later) came a rest is =
+    let n = next_of later came a rest is in record {
+      later = n.later;
+      all = ap (λ (l : List Event). calls c ∷ l) n.all;
+      next = ap (λ (l : List Event). calls c ∷ l) n.next;
+    }
+next_of (arrives x ∷ later) [] a rest is = record {
+  later = later;
+  all = ap (λ (y : Arrival). arrives y ∷ later) (head_so x a (arrivals later) rest is);
+  next = ap (λ (y : Arrival). arrives y ∷ upto later []) (head_so x a (arrivals later) rest is);
+}
+next_of (arrives x ∷ later) (b ∷ came) a rest is =
+    let n = next_of later came a rest (tail_so x b (arrivals later) (came ++ a ∷ rest) is) in record {
+      later = n.later;
+      all = ap (λ (l : List Event). arrives x ∷ l) n.all;
+      next = ap (λ (l : List Event). arrives x ∷ l) n.next;
     }
 
-heard : (plan : Plan) (port : ClockedPort) (asked : List Command) (unit : ℕ) (e : Ends) (ups downs : List Arrival)
-    (a : Arrival) (came : List ℕ) (more : List Note) → e.ups ++ bytes_in (ups ++ a ∷ []) ≡ came
-    → map note_for (kept_in plan (listens plan unit a (gives (prompted_from plan unit e.automation ups))))
-    ≡ map note_for (kept_in plan (gives (prompted_from plan unit e.automation ups))) ++ more
-    → AreJoined plan port asked
-    (heard_ends e (e.downs ++ downs) (gives (listens plan unit a (gives (prompted_from plan unit e.automation ups)))) came
-    (((e.notes ++ map note_for (kept_in plan (gives (prompted_from plan unit e.automation ups)))) ++ more)
-    ++ notes_given plan (listens plan unit a (gives (prompted_from plan unit e.automation ups))).state))
-    → AreJoined plan port asked (ends_of plan unit e (ups ++ a ∷ []) downs)
-heard plan port asked unit e ups downs a came more is notes j =
-    let g : Prompt = gives (prompted_from plan unit e.automation ups) in
-    let q : Prompt = listens plan unit a g in
-    let push : q ≡ prompted_from plan unit e.automation (ups ++ a ∷ []) =
-    sym (prompted_push plan unit e.automation ups a) in
-    let there : List Arrival = e.downs ++ downs in
-    subst (λ (p : Prompt). AreJoined plan port asked
-    (ends_with e there (gives p) (e.ups ++ bytes_in (ups ++ a ∷ [])) (map note_for (kept_in plan (gives p))))) push
-    (subst (λ (l : List ℕ). AreJoined plan port asked
-    (ends_with e there (gives q) l (map note_for (kept_in plan (gives q))))) (sym is)
-    (subst (λ (l : List Note). AreJoined plan port asked (heard_ends e there (gives q) came l))
-    (notes_so plan e.notes (map note_for (kept_in plan g)) more q notes) j))
+made_behind : (can : Bool) (plan : Plan) (unit : ℕ) (a : Auto Held) (xs ys : List Event)
+    → AreMade can at_once plan unit a (xs ++ ys) → AreMade can at_once plan unit (after at_once plan unit a xs) ys
+made_behind can plan unit a [] ys h = h
+made_behind can plan unit a (arrives x ∷ xs) ys h =
+    made_behind can plan unit (auto.listens at_once plan unit x (auto.gives a)) xs ys h
+made_behind can plan unit a (calls c ∷ xs) ys h = made_behind can plan unit (auto.heeds c a) xs ys h.2
 
--- something more came down
-lower : (plan : Plan) (port : ClockedPort) (asked : List Command) (unit : ℕ) (e : Ends) (ups downs : List Arrival)
-    (a : Arrival) → AreJoined plan port asked (with_down a (ends_of plan unit e ups downs))
-    → AreJoined plan port asked (ends_of plan unit e ups (downs ++ a ∷ []))
-lower plan port asked unit e ups downs a =
-    subst (λ (l : List Arrival). AreJoined plan port asked (record (ends_of plan unit e ups downs) { downs = l }))
-    (append_assoc e.downs downs (a ∷ []))
+-- the calls that follow are made
+pub calls_on : (can : Bool) (plan : Plan) (unit : ℕ) (first e : Ends) (downs : List Arrival) (later : List Event)
+    → AreLed plan unit first (record e { downs = downs }) → AreMade can at_once plan unit (driver_of e.automation) later
+    → AreLed plan unit first (record (ends_by plan unit e (upto later [])) { downs = downs })
+calls_on can plan unit first e downs [] j m = j
+calls_on can plan unit first e downs (arrives a ∷ later) j m = j
+calls_on can plan unit first e downs (calls call.Take ∷ later) j m =
+    calls_on can plan unit first (heeds_in call.Take e) downs later (two.went_on j (two.took m.1)) m.2
+calls_on can plan unit first e downs (calls call.Stop ∷ later) j m =
+    calls_on can plan unit first (heeds_in call.Stop e) downs later (two.went_on j (two.halted m.1)) m.2
 
--- a time-out or a close
-ended : (plan : Plan) (p : Prompt) (q : Prompt) → kept_in plan q ≡ kept_in plan (receives plan None p)
-    → map note_for (kept_in plan q) ≡ map note_for (kept_in plan p) ++ notes_ended plan None p.state
-ended plan p q is =
-    ap (map note_for) (is ∙ kept_receives plan None p)
-    ∙ map-append note_for (kept_in plan p) (end_notes (ended_by plan None p.state))
+-- a listen more, the calls that follow, and the next command
+pub listened : (can : Bool) (plan : Plan) (unit : ℕ) (e : Ends) (events : List Event) (came rest : List Arrival)
+    (a : Arrival) (downs : List Arrival) → arrivals events ≡ came ++ a ∷ rest
+    → AreMade can at_once plan unit (driver_of e.automation) events
+    → AreLed plan unit e
+    (record (hears_in plan unit a (with_command plan (ends_by plan unit e (upto events came)))) { downs = downs })
+    → AreLed plan unit e (ends_at plan unit e (upto events (came ++ a ∷ [])) downs)
+listened can plan unit e events came rest a downs is made j =
+    let n = next_of events came a rest is in
+    let xs : List Event = upto events came in
+    let now : Ends = hears_in plan unit a (with_command plan (ends_by plan unit e xs)) in
+    let there : ends_by plan unit e (xs ++ arrives a ∷ []) ≡ now = ends_both plan unit e xs (arrives a ∷ []) in
+    let behind : AreMade can at_once plan unit (after at_once plan unit (driver_of e.automation) (xs ++ arrives a ∷ []))
+    n.later =
+    made_behind can plan unit (driver_of e.automation) (xs ++ arrives a ∷ []) n.later
+    (subst (λ (l : List Event). AreMade can at_once plan unit (driver_of e.automation) l)
+    (n.all ∙ sym (append_assoc xs (arrives a ∷ []) n.later)) made) in
+    let so : after at_once plan unit (driver_of e.automation) (xs ++ arrives a ∷ []) ≡ driver_of now.automation =
+    sym (led_so plan unit e.automation (xs ++ arrives a ∷ []))
+    ∙ ap driver_of (sym (goes plan unit e (xs ++ arrives a ∷ [])).automation)
+    ∙ ap (λ (x : Ends). driver_of x.automation) there in
+    let last : AreLed plan unit e (record (ends_by plan unit now (upto n.later [])) { downs = downs }) =
+    calls_on can plan unit e now downs n.later j
+    (subst (λ (x : Auto Held). AreMade can at_once plan unit x n.later) so behind) in
+    subst (λ (l : List Event). AreLed plan unit e (ends_at plan unit e l downs)) (sym n.next)
+    (subst (λ (x : Ends). AreLed plan unit e (record (with_command plan x) { downs = downs }))
+    (sym (ends_both plan unit e xs (arrives a ∷ upto n.later [])))
+    (two.went_on last two.gave))
 
--- All that came.
-
-pub are_joined : (plan : Plan) (port : ClockedPort) (asked : List Command) (e : Ends) (ups downs : List Arrival)
-    → IsFresh plan e → AreJoined plan port asked e → HasCome plan port.state.unit e ups downs
-    → AreJoined plan port asked (ends_of plan port.state.unit e ups downs)
-are_joined plan port asked e _ _ f j begun = first plan port asked port.state.unit e f j
-are_joined plan port asked e _ _ f j (up {ups} {downs} h piece rest is) =
-    let unit : ℕ = port.state.unit in
-    let g : Prompt = gives (prompted_from plan unit e.automation ups) in
-    let ms : List Content = completed g.held piece in
-    heard plan port asked unit e ups downs (bytes piece) ((e.ups ++ bytes_in ups) ++ piece) (notes_heard plan unit ms g)
-    (ap (λ (l : List ℕ). e.ups ++ l) (bytes_more ups piece) ∙ sym (append_assoc e.ups (bytes_in ups) piece))
-    (kept_hears_all plan unit ms g)
-    (two.went_on (two.went_on (are_joined plan port asked e ups downs f j h) (two.came_up piece rest is)) two.gave)
-are_joined plan port asked e _ _ f j (down {ups} {downs} h piece rest is no_close) =
-    lower plan port asked port.state.unit e ups downs (bytes piece)
-    (two.went_on (are_joined plan port asked e ups downs f j h) (two.came_down piece rest is no_close))
-are_joined plan port asked e _ _ f j (waited {ups} {downs} h) =
-    let unit : ℕ = port.state.unit in
-    let g : Prompt = gives (prompted_from plan unit e.automation ups) in
-    heard plan port asked unit e ups downs silence (e.ups ++ bytes_in ups) (notes_ended plan None g.state)
-    (ap (λ (l : List ℕ). e.ups ++ l) (bytes_silence ups)) (ended plan g (listens plan unit silence g) refl)
-    (two.went_on (two.went_on (are_joined plan port asked e ups downs f j h) two.waited) two.gave)
-are_joined plan port asked e _ _ f j (frame {ups} {downs} h no_close all) =
-    lower plan port asked port.state.unit e ups downs silence
-    (two.went_on (are_joined plan port asked e ups downs f j h) (two.frame no_close all))
-are_joined plan port asked e _ _ f j (hung_up {ups} {downs} h) =
-    let unit : ℕ = port.state.unit in
-    let g : Prompt = gives (prompted_from plan unit e.automation ups) in
-    heard plan port asked unit e ups downs close (e.ups ++ bytes_in ups) (notes_ended plan None g.state)
-    (ap (λ (l : List ℕ). e.ups ++ l) (bytes_close ups)) (ended plan g (listens plan unit close g) refl)
-    (two.went_on (two.went_on (are_joined plan port asked e ups downs f j h) two.hung_up) two.gave)
-are_joined plan port asked e _ _ f j (shut {ups} {downs} h) =
-    lower plan port asked port.state.unit e ups downs close
-    (two.went_on (are_joined plan port asked e ups downs f j h) two.shut)
+pub led_on : (plan : Plan) (unit : ℕ) (first e e' : Ends) → AreLed plan unit first e → AreLed plan unit e e'
+    → AreLed plan unit first e'
+led_on plan unit first start _ h two.begun = h
+led_on plan unit first start _ h (two.went_on {e} k step) = two.went_on (led_on plan unit first start e h k) step

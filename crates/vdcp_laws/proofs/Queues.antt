@@ -30,8 +30,8 @@ use Rattle.vdcp_world.specs.LateLine.Damage.{is_junk_up, with_junk}
 use Rattle.vdcp_auto.specs.declared.phase.Mode.{Mode}
 use Rattle.vdcp_auto.specs.declared.phase.Mode.TheVariants.{Plain, Confirming}
 use Rattle.vdcp_world.specs.LateLine.LateChannel.{LateChannel, after_late_event, after_late_events, bursts_of, command_bursts, oldest, without_oldest}
-use Rattle.vdcp_world.specs.declared.late.event.LateEvent.{LateEvent}
-use Rattle.vdcp_world.specs.declared.late.event.LateEvent.TheVariants as event
+use Rattle.vdcp_world.specs.LateLine.LateEvent.{LateEvent}
+use Rattle.vdcp_world.specs.LateLine.LateEvent as event
 use Rattle.vdcp_laws.specs.Below.{Answered, Spelt}
 use Rattle.vdcp_laws.proofs.Bytes.{fits_front, fits_rest, front_of, spelt, spelt_both}
 use Rattle.vdcp_laws.proofs.Commands.{hears_comes}

@@ -1,5 +1,5 @@
 -- An automation, exchange by exchange, is the driver that hears at once.
-use Rattle.std.proofs.Common.{ℕ, ◌≡◌, List, [], ◌∷◌, ◌++◌, map, refl, sym, ap, ap₂, ◌∙◌, append_assoc, append-nil}
+use Rattle.std.proofs.Common.{ℕ, ◌≡◌, List, [], ◌∷◌, ◌++◌, map, refl, sym, ap, ◌∙◌, append_assoc, append-nil}
 use Rattle.std.specs.Option.{option_to_list}
 use Rattle.std.specs.Prelude.{Option, None, Some}
 use Rattle.vdcp_frame.specs.Message.{Content}
@@ -7,20 +7,17 @@ use Rattle.vdcp_auto.specs.Course.{logged}
 use Rattle.vdcp_auto.specs.Heard.{heard_as}
 use Rattle.vdcp_auto.specs.Plan.{Plan}
 use Rattle.vdcp_auto.specs.State.{State}
-use Rattle.vdcp_auto.specs.Turn.{came_to, ended_by, ticked}
+use Rattle.vdcp_auto.specs.Turn.{came_to, ended_by}
 use Rattle.vdcp_auto.specs.declared.exchange.Exchange.{Exchange}
 use Rattle.vdcp_auto.specs.declared.exchange.Heard.{Heard}
 use Rattle.vdcp_wire.specs.Wires.{Arrival, bytes, silence, close}
-use Rattle.vdcp_drive.specs.Auto.{Auto, after, log_of}
+use Rattle.vdcp_drive.specs.Auto.{Auto, Event, after, arrives, calls, log_of}
 use Rattle.vdcp_drive.specs.Auto as auto
 use Rattle.vdcp_drive.specs.Ears.{inputs}
 use Rattle.vdcp_drive.specs.Hearing.{at_once}
-use Rattle.vdcp_drive.specs.Keeping.{kept_by}
 use Rattle.vdcp_drive.specs.Reading.{Held, completed, held_after}
-use Rattle.vdcp_laws.specs.Automation.{Prompt, gives, hears, hears_all, listens, prompted_from}
+use Rattle.vdcp_laws.specs.Automation.{Prompt, gives, heeds, hears, hears_all, led, listens}
 use Rattle.vdcp_laws.specs.Carried.{driver_of}
-use Rattle.vdcp_laws.specs.OneConnection.{IsFresh, ends_of}
-use Rattle.vdcp_laws.specs.TwoEnds.{Ends, note_for}
 
 logged_so : (log : List Exchange) (o : Option Exchange) → logged log o ≡ log ++ option_to_list o
 logged_so log None = sym (append-nil log)
@@ -63,30 +60,21 @@ listens_log plan unit (bytes piece) p = heard_log plan unit (completed p.held pi
 listens_log plan unit silence p = timed_log plan p
 listens_log plan unit close p = timed_log plan p
 
-pub prompted_so : (plan : Plan) (unit : ℕ) (p : Prompt) (came : List Arrival)
-    → driver_of (prompted_from plan unit p came) ≡ after at_once plan unit (driver_of p) came
-prompted_so plan unit p [] = refl
-prompted_so plan unit p (a ∷ later) = prompted_so plan unit (listens plan unit a (gives p)) later
+pub led_so : (plan : Plan) (unit : ℕ) (p : Prompt) (events : List Event)
+    → driver_of (led plan unit p events) ≡ after at_once plan unit (driver_of p) events
+led_so plan unit p [] = refl
+led_so plan unit p (arrives a ∷ later) = led_so plan unit (listens plan unit a (gives p)) later
     ∙ ap (λ (x : Auto Held). after at_once plan unit x later) (listens_so plan unit a (gives p))
+led_so plan unit p (calls c ∷ later) = led_so plan unit (heeds c p) later
 
-pub prompted_log : (plan : Plan) (unit : ℕ) (p : Prompt) (came : List Arrival)
-    → (prompted_from plan unit p came).log ≡ p.log ++ log_of at_once plan unit (driver_of p) came
-prompted_log plan unit p [] = sym (append-nil p.log)
-prompted_log plan unit p (a ∷ later) =
+pub led_log : (plan : Plan) (unit : ℕ) (p : Prompt) (events : List Event)
+    → (led plan unit p events).log ≡ p.log ++ log_of at_once plan unit (driver_of p) events
+led_log plan unit p [] = sym (append-nil p.log)
+led_log plan unit p (arrives a ∷ later) =
     let q : Prompt = listens plan unit a (gives p) in
     let es : List Exchange = auto.ended plan (inputs at_once unit a p.held) (gives p).state in
-    prompted_log plan unit q later
+    led_log plan unit q later
     ∙ ap (λ (l : List Exchange). l ++ log_of at_once plan unit (driver_of q) later) (listens_log plan unit a (gives p))
     ∙ append_assoc p.log es (log_of at_once plan unit (driver_of q) later)
     ∙ ap (λ (x : Auto Held). p.log ++ (es ++ log_of at_once plan unit x later)) (listens_so plan unit a (gives p))
-
--- what the two ends note of it
-pub noted_so : (plan : Plan) (unit : ℕ) (e : Ends) (came downs : List Arrival) → IsFresh plan e
-    → (ends_of plan unit e came downs).notes ≡ e.notes ++ map note_for
-    (kept_by plan (log_of at_once plan unit (driver_of e.automation) came)
-    (ticked (after at_once plan unit (driver_of e.automation) came).state))
-noted_so plan unit e came downs f =
-    let log : List Exchange = log_of at_once plan unit (driver_of e.automation) came in
-    ap₂ (λ (l : List Exchange) (x : Auto Held). e.notes ++ map note_for (kept_by plan l (ticked x.state)))
-    (prompted_log plan unit e.automation came ∙ ap (λ (l : List Exchange). l ++ log) f.no_log)
-    (prompted_so plan unit e.automation came)
+led_log plan unit p (calls c ∷ later) = led_log plan unit (heeds c p) later

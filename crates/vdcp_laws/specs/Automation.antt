@@ -11,11 +11,11 @@ use Rattle.vdcp_auto.specs.Turn.{start, awaited, ticked, came_to, ended_by}
 use Rattle.vdcp_auto.specs.declared.exchange.Exchange.{Exchange}
 use Rattle.vdcp_auto.specs.declared.exchange.Heard.{Heard}
 use Rattle.vdcp_auto.specs.State.{State}
-use Rattle.vdcp_drive.specs.Auto.{Auto}
-use Rattle.vdcp_drive.specs.Keeping.{kept_by}
+use Rattle.vdcp_drive.specs.Auto.{Auto, Event, arrives, called, calls}
+use Rattle.vdcp_drive.specs.declared.hooks.Call.{Call}
 use Rattle.vdcp_drive.specs.Reading.{Held, holds, completed, held_after, held_after_silence}
 use Rattle.vdcp_drive.specs.Steps.{ended_notes}
-use Rattle.vdcp_drive.specs.declared.keep.Kept.{Kept}
+use Rattle.vdcp_drive.specs.declared.hooks.Kept.{Kept}
 use Rattle.vdcp_wire.specs.Wires.{Arrival, bytes, silence, close}
 
 -- what is held of a message, the controller, and the exchanges that ended
@@ -56,23 +56,24 @@ listens plan unit (bytes piece) p = holding (held_after p.held piece) (hears_all
 listens plan unit silence p = holding (held_after_silence p.held) (receives plan None p)
 listens plan unit close p = holding (held_after_silence p.held) (receives plan None p)
 
--- all that came: before each listen the next command is given
-abbrev pub prompted_from : Plan → ℕ → Prompt → List Arrival → Prompt
-prompted_from plan unit p [] = p
-prompted_from plan unit p (a ∷ later) = prompted_from plan unit (listens plan unit a (gives p)) later
+-- a call
+abbrev pub heeds : Call → Prompt → Prompt
+heeds c p = record { held = p.held; state = called c p.state; log = p.log }
+
+-- all that happened: before each listen the next command is given
+abbrev pub led : Plan → ℕ → Prompt → List Event → Prompt
+led plan unit p [] = p
+led plan unit p (arrives a ∷ later) = led plan unit (listens plan unit a (gives p)) later
+led plan unit p (calls c ∷ later) = led plan unit (heeds c p) later
 
 abbrev pub prompted : Plan → ℕ → List Arrival → Prompt
-prompted plan unit came = prompted_from plan unit new_prompt came
+prompted plan unit came = led plan unit new_prompt (map arrives came)
 
 -- the commands of the exchanges that have ended, and then the one that is awaited
 abbrev pub commands_in : Plan → Prompt → List Command
 commands_in plan p = map (λ e. e.command) p.log ++ option_to_list (awaited plan p.state)
 
--- what is kept of these
-abbrev pub kept_in : Plan → Prompt → List Kept
-kept_in plan p = kept_by plan p.log p.state
-
--- and of an exchange that ended, if one did
+-- what is kept of an exchange that ended, if one did
 abbrev pub end_notes : Option Exchange → List Kept
 end_notes ended = ended_notes (option_to_list ended)
 

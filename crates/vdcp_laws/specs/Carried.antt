@@ -1,14 +1,15 @@
 -- One connection between both ends, by what the wire of each does, one act after another.
 use Rattle.std.specs.Prelude.{ℕ, ◌≡◌, false, List, [], ◌∷◌, ◌++◌}
 use Rattle.vdcp_frame.specs.Reading.{AreMessages}
+use Rattle.vdcp_auto.specs.Plan.{Plan}
 use Rattle.vdcp_wire.specs.Acts.{Act, sends, brings, fails}
 use Rattle.vdcp_wire.specs.Wires.{bytes, silence, close, has_closed}
 use Rattle.vdcp_drive.specs.Auto.{Auto}
 use Rattle.vdcp_drive.specs.Bursts.{open_burst}
 use Rattle.vdcp_drive.specs.Reading.{Held}
-use Rattle.vdcp_drive.specs.Traces.{bytes_of, came_in, sent_in}
+use Rattle.vdcp_drive.specs.Traces.{came_in, sent_in}
 use Rattle.vdcp_laws.specs.Automation.{Prompt}
-use Rattle.vdcp_laws.specs.TwoEnds.{Ends, bytes_in, sent_up}
+use Rattle.vdcp_laws.specs.TwoEnds.{Ends, bytes_in, sent_down, sent_up}
 
 -- the driver that this automation is
 abbrev pub driver_of : Prompt → Auto Held
@@ -16,28 +17,28 @@ driver_of p = record { ear = p.held; state = p.state }
 
 -- What the automation's wire and the server's have done since these ends: to each comes, in order and in whatever pieces, a
 -- beginning of the bytes that the other has sent by then.
-pub data AreCarried (unit : ℕ) (e : Ends) : List Act → List Act → Type 0 where
-  begun : AreCarried unit e [] []
+pub data AreCarried (plan : Plan) (unit : ℕ) (e : Ends) : List Act → List Act → Type 0 where
+  begun : AreCarried plan unit e [] []
   -- the automation's wire
-  sent : {autos servers : List Act} → AreCarried unit e autos servers → (b : List ℕ)
-      → AreCarried unit e (autos ++ sends b ∷ []) servers
-  up : {autos servers : List Act} → AreCarried unit e autos servers → (piece rest : List ℕ)
+  sent : {autos servers : List Act} → AreCarried plan unit e autos servers → (b : List ℕ)
+      → AreCarried plan unit e (autos ++ sends b ∷ []) servers
+  up : {autos servers : List Act} → AreCarried plan unit e autos servers → (piece rest : List ℕ)
       → sent_up e ++ sent_in servers ≡ (e.ups ++ bytes_in (came_in autos)) ++ (piece ++ rest)
-      → AreCarried unit e (autos ++ brings (bytes piece) ∷ []) servers
-  waited : {autos servers : List Act} → AreCarried unit e autos servers
-      → AreCarried unit e (autos ++ brings silence ∷ []) servers
-  hung_up : {autos servers : List Act} → AreCarried unit e autos servers
-      → AreCarried unit e (autos ++ brings close ∷ []) servers
-  failed : {autos servers : List Act} → AreCarried unit e autos servers → AreCarried unit e (autos ++ fails ∷ []) servers
+      → AreCarried plan unit e (autos ++ brings (bytes piece) ∷ []) servers
+  waited : {autos servers : List Act} → AreCarried plan unit e autos servers
+      → AreCarried plan unit e (autos ++ brings silence ∷ []) servers
+  hung_up : {autos servers : List Act} → AreCarried plan unit e autos servers
+      → AreCarried plan unit e (autos ++ brings close ∷ []) servers
+  failed : {autos servers : List Act} → AreCarried plan unit e autos servers → AreCarried plan unit e (autos ++ fails ∷ []) servers
   -- the server's wire, on which a frame passes at any moment but within a command
-  answered : {autos servers : List Act} → AreCarried unit e autos servers → (b : List ℕ)
-      → AreCarried unit e autos (servers ++ sends b ∷ [])
-  down : {autos servers : List Act} → AreCarried unit e autos servers → (piece rest : List ℕ)
-      → bytes_of unit e.asked ++ sent_in autos ≡ bytes_in (e.downs ++ came_in servers) ++ (piece ++ rest)
-      → has_closed (e.downs ++ came_in servers) ≡ false → AreCarried unit e autos (servers ++ brings (bytes piece) ∷ [])
-  frame : {autos servers : List Act} → AreCarried unit e autos servers
+  answered : {autos servers : List Act} → AreCarried plan unit e autos servers → (b : List ℕ)
+      → AreCarried plan unit e autos (servers ++ sends b ∷ [])
+  down : {autos servers : List Act} → AreCarried plan unit e autos servers → (piece rest : List ℕ)
+      → sent_down plan unit e ++ sent_in autos ≡ bytes_in (e.downs ++ came_in servers) ++ (piece ++ rest)
+      → has_closed (e.downs ++ came_in servers) ≡ false → AreCarried plan unit e autos (servers ++ brings (bytes piece) ∷ [])
+  frame : {autos servers : List Act} → AreCarried plan unit e autos servers
       → has_closed (e.downs ++ came_in servers) ≡ false → AreMessages (open_burst (e.downs ++ came_in servers))
-      → AreCarried unit e autos (servers ++ brings silence ∷ [])
-  shut : {autos servers : List Act} → AreCarried unit e autos servers
-      → AreCarried unit e autos (servers ++ brings close ∷ [])
-  broke : {autos servers : List Act} → AreCarried unit e autos servers → AreCarried unit e autos (servers ++ fails ∷ [])
+      → AreCarried plan unit e autos (servers ++ brings silence ∷ [])
+  shut : {autos servers : List Act} → AreCarried plan unit e autos servers
+      → AreCarried plan unit e autos (servers ++ brings close ∷ [])
+  broke : {autos servers : List Act} → AreCarried plan unit e autos servers → AreCarried plan unit e autos (servers ++ fails ∷ [])

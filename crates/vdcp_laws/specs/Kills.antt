@@ -17,8 +17,8 @@ use Rattle.vdcp_journal.specs.declared.row.Note.{Note}
 use Rattle.vdcp_journal.specs.declared.row.Note.TheVariants as note
 use Rattle.vdcp_laws.specs.Announced.{came_again}
 use Rattle.vdcp_world.specs.LateLine.LateChannel.{LateChannel, CanStart, after_late_event, after_late_events, new_late_channel, oldest}
-use Rattle.vdcp_world.specs.declared.late.event.LateEvent.{LateEvent}
-use Rattle.vdcp_world.specs.declared.late.event.LateEvent.TheVariants as event
+use Rattle.vdcp_world.specs.LateLine.LateEvent.{LateEvent}
+use Rattle.vdcp_world.specs.LateLine.LateEvent as event
 
 -- the note of what came, or that nothing came in time, if it ended an exchange
 abbrev pub end_notes : Option Heard → Option Exchange → List Note

@@ -1,49 +1,38 @@
--- One connection between both ends, by what came to either since a run began there: what a driver and a server run on.
-use Rattle.std.specs.Prelude.{ℕ, ◌≡◌, false, List, [], ◌∷◌, ◌++◌, map, None}
+-- One connection between both ends, by what happens to the automation: what a driver and a server run on.
+use Rattle.std.specs.Prelude.{ℕ, List, [], ◌∷◌, None}
 use Rattle.vdcp_frame.specs.Reading.{AreMessages}
 use Rattle.vdcp_auto.specs.Plan.{Plan}
-use Rattle.vdcp_auto.specs.Turn.{awaited}
-use Rattle.vdcp_wire.specs.Wires.{Arrival, bytes, silence, close, has_closed}
-use Rattle.vdcp_drive.specs.Bursts.{open_burst}
-use Rattle.vdcp_laws.specs.Automation.{gives, kept_in, prompted_from}
-use Rattle.vdcp_laws.specs.TwoEnds.{Ends, bytes_in, note_for, sent_down, sent_up}
+use Rattle.vdcp_wire.specs.Wires.{Arrival, bytes, silence, close}
+use Rattle.vdcp_drive.specs.Auto.{Event, arrives, called, calls}
+use Rattle.vdcp_drive.specs.Reading.{completed}
+use Rattle.vdcp_drive.specs.declared.hooks.Call.{Call}
+use Rattle.vdcp_drive.specs.declared.hooks.Kept.TheVariants as kept
+use Rattle.vdcp_laws.specs.Automation.{listens}
+use Rattle.vdcp_laws.specs.TwoEnds.{Ends, note_for, notes_ended, notes_heard, wishing, with_automation, with_command, with_up}
 
--- the automation begins over the connection: it has ended no exchange, and awaits nothing
-pub record IsFresh (plan : Plan) (e : Ends) : Type 0 where
-  pub no_log : e.automation.log ≡ []
-  pub awaits_none : awaited plan e.automation.state ≡ None
+-- something came up to the automation
+abbrev pub hears_in : Plan → ℕ → Arrival → Ends → Ends
+hears_in plan unit (bytes piece) e = with_up piece (with_automation (listens plan unit (bytes piece) e.automation)
+    (notes_heard plan unit (completed e.automation.held piece) e.automation) e)
+hears_in plan unit silence e =
+    with_automation (listens plan unit silence e.automation) (notes_ended plan None e.automation.state) e
+hears_in plan unit close e =
+    with_automation (listens plan unit close e.automation) (notes_ended plan None e.automation.state) e
 
--- Both ends once this came up to the automation, and down to the server, with the automation's next command given.
-abbrev pub ends_of : Plan → ℕ → Ends → List Arrival → List Arrival → Ends
-ends_of plan unit e ups downs =
-    record {
-      asked = e.asked;
-      automation = gives (prompted_from plan unit e.automation ups);
-      ups = e.ups ++ bytes_in ups;
-      port = e.port;
-      downs = e.downs ++ downs;
-      log_before = e.log_before;
-      aired_before = e.aired_before;
-      notes = e.notes ++ map note_for (kept_in plan (gives (prompted_from plan unit e.automation ups)));
-    }
+-- a call was made
+abbrev pub heeds_in : Call → Ends → Ends
+heeds_in c e =
+    with_automation (wishing (called c e.automation.state) e.automation) (note_for (kept.Called c) ∷ []) e
 
--- What came up to the automation since, and down to the server. Of what the one has sent comes to the other a beginning,
--- in whatever pieces; the rest comes later, or never.
-pub data HasCome (plan : Plan) (unit : ℕ) (e : Ends) : List Arrival → List Arrival → Type 0 where
-  begun : HasCome plan unit e [] []
-  up : {ups downs : List Arrival} → HasCome plan unit e ups downs → (piece rest : List ℕ)
-      → sent_up (ends_of plan unit e ups downs) ≡ (e.ups ++ bytes_in ups) ++ (piece ++ rest)
-      → HasCome plan unit e (ups ++ bytes piece ∷ []) downs
-  down : {ups downs : List Arrival} → HasCome plan unit e ups downs → (piece rest : List ℕ)
-      → sent_down plan unit (ends_of plan unit e ups downs) ≡ bytes_in (e.downs ++ downs) ++ (piece ++ rest)
-      → has_closed (e.downs ++ downs) ≡ false → HasCome plan unit e ups (downs ++ bytes piece ∷ [])
-  -- the automation's time is up, at any moment; a frame passes at the server, at any moment but within a command
-  waited : {ups downs : List Arrival} → HasCome plan unit e ups downs → HasCome plan unit e (ups ++ silence ∷ []) downs
-  frame : {ups downs : List Arrival} → HasCome plan unit e ups downs → has_closed (e.downs ++ downs) ≡ false
-      → AreMessages (open_burst (e.downs ++ downs)) → HasCome plan unit e ups (downs ++ silence ∷ [])
-  -- the line is closed, for the automation and for the server
-  hung_up : {ups downs : List Arrival} → HasCome plan unit e ups downs → HasCome plan unit e (ups ++ close ∷ []) downs
-  shut : {ups downs : List Arrival} → HasCome plan unit e ups downs → HasCome plan unit e ups (downs ++ close ∷ [])
+-- all that happened to it: before each listen the next command is given
+abbrev pub ends_by : Plan → ℕ → Ends → List Event → Ends
+ends_by plan unit e [] = e
+ends_by plan unit e (arrives a ∷ later) = ends_by plan unit (hears_in plan unit a (with_command plan e)) later
+ends_by plan unit e (calls c ∷ later) = ends_by plan unit (heeds_in c e) later
+
+-- and this to the server; the next command is given
+abbrev pub ends_at : Plan → ℕ → Ends → List Event → List Arrival → Ends
+ends_at plan unit e events downs = record (with_command plan (ends_by plan unit e events)) { downs = downs }
 
 -- what comes is whole messages, if it is bytes, as a server's line hands them on by the clock
 abbrev pub ComesWhole : Arrival → Type 0

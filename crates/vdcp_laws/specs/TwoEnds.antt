@@ -24,8 +24,9 @@ use Rattle.vdcp_laws.specs.Automation.{Prompt, commands_in, gives, hears, listen
 use Rattle.vdcp_laws.specs.Announced.{Announces}
 use Rattle.vdcp_laws.specs.Kills.{IsRun}
 use Rattle.vdcp_drive.specs.Reading.{completed, holds}
-use Rattle.vdcp_drive.specs.declared.keep.Kept.{Kept}
-use Rattle.vdcp_drive.specs.declared.keep.Kept.TheVariants as kept
+use Rattle.vdcp_drive.specs.declared.hooks.Call.TheVariants as call
+use Rattle.vdcp_drive.specs.declared.hooks.Kept.{Kept}
+use Rattle.vdcp_drive.specs.declared.hooks.Kept.TheVariants as kept
 use Rattle.vdcp_drive.specs.Served.{served, port_after, items_served}
 use Rattle.vdcp_world.specs.LateLine.LateChannel.{LateChannel, CanStart, IsLateReached, IsQuestion, made_anew}
 
@@ -90,6 +91,8 @@ abbrev pub note_for : Kept → Note
 note_for (kept.Sent command) = note.Sent command
 note_for (kept.Heard heard) = note.Heard heard
 note_for kept.Silence = note.Silence
+note_for (kept.Called call.Take) = note.Take
+note_for (kept.Called call.Stop) = note.Stop
 
 -- the command that is given next
 abbrev pub notes_given : Plan → State → List Note

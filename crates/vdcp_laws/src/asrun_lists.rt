@@ -31,5 +31,5 @@ pub fn an_asrun_list_of_a_late_line_is_of_what_aired()
         (λ outcome. IsTrue (is_late_complete c.plan.mode outcome) →
         IsOfAllAired rate c.plan.list c.aired c.state.settled) }
 {
-    vdcp_world::late::laws::a_late_line_keeps_the_headline();
+    vdcp_world::laws::a_late_line_keeps_the_headline();
 }

@@ -14,8 +14,8 @@ ghost use Rattle.vdcp_laws.specs.Kills.{IsRun, asked_in_vain, played, silence_no
 ghost use Rattle.vdcp_world.specs.LateLine.GoingOn.{IsNoTick, gone_on};
 ghost use Rattle.vdcp_world.specs.LateLine.LateChannel.{LateChannel, IsLateReached, after_late_event, after_late_events};
 ghost use Rattle.vdcp_world.specs.LateLine.LateHeadline.{LateHeadline};
-ghost use Rattle.vdcp_world.specs.declared.late.event.LateEvent.{LateEvent};
-ghost use Rattle.vdcp_world.specs.declared.late.event.LateEvent.TheVariants.{Tick};
+ghost use Rattle.vdcp_world.specs.LateLine.LateEvent.{LateEvent};
+ghost use Rattle.vdcp_world.specs.LateLine.LateEvent.{Tick};
 ghost use Rattle.vdcp_words.specs.declared.command.Command.{Command};
 ghost use Rattle.vdcp_words.specs.declared.command.Command.TheVariants.{Play};
 
@@ -34,8 +34,8 @@ pub fn a_killed_run_keeps_the_headline()
     ensures journal { (c : LateChannel) (all rows : List Row) → IsRun c (notes_in all) → AreThinned all rows →
         after_rows c.plan start rows ≡ c.state }
 {
-    vdcp_world::late::laws::a_late_line_keeps_the_headline();
-    vdcp_world::late::laws::a_killed_automation_goes_on();
+    vdcp_world::laws::a_late_line_keeps_the_headline();
+    vdcp_world::laws::a_killed_automation_goes_on();
     vdcp_journal::laws::a_thinned_journal_makes_the_same();
 }
 

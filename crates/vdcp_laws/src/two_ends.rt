@@ -1,7 +1,7 @@
 //! The laws of both ends over two streams of bytes that keep order, one connection after another.
 //!
 //! The functions do nothing: their contracts are the laws, and a caller whose proof needs one calls it.
-ghost use Rattle.std.specs.Prelude.{ℕ, ◌≡◌, ◌≤◌, ◌⊎◌, ◌++◌, [], false, All, List, length, IsTrue, Option, None, Some, Result, map};
+ghost use Rattle.std.specs.Prelude.{ℕ, Bool, ◌≡◌, ◌≤◌, ◌⊎◌, ◌++◌, [], false, All, List, length, IsTrue, Option, None, Some, Result, map};
 ghost use Rattle.vdcp_value.specs.declared.part.Item.{Item};
 ghost use Rattle.vdcp_frame.specs.Reading.{AreMessages};
 ghost use Rattle.vdcp_words.specs.declared.command.Command.{Command};
@@ -10,7 +10,7 @@ ghost use Rattle.vdcp_auto.specs.Course.{logged};
 ghost use Rattle.vdcp_auto.specs.Plan.{Plan};
 ghost use Rattle.vdcp_auto.specs.Settled.{may_have_aired};
 ghost use Rattle.vdcp_auto.specs.State.{State};
-ghost use Rattle.vdcp_auto.specs.Turn.{ended_by, given, outcome_of, start, ticked};
+ghost use Rattle.vdcp_auto.specs.Turn.{ended_by, given, outcome_of, start};
 ghost use Rattle.vdcp_auto.specs.declared.exchange.Heard.{Heard};
 ghost use Rattle.vdcp_auto.specs.declared.outcome.Outcome.{Outcome};
 ghost use Rattle.vdcp_journal.specs.Airings.{settled_in};
@@ -20,15 +20,14 @@ ghost use Rattle.vdcp_journal.specs.declared.row.Row.{Row};
 ghost use Rattle.vdcp_wire.specs.Acts.{Act};
 ghost use Rattle.vdcp_wire.specs.Wires.{Arrival};
 ghost use Rattle.vdcp_drive.specs.Auto as auto;
-ghost use Rattle.vdcp_drive.specs.Auto.{Auto, after};
+ghost use Rattle.vdcp_drive.specs.Auto.{Auto, Event, after};
 ghost use Rattle.vdcp_drive.specs.Bursts.{open_burst};
 ghost use Rattle.vdcp_drive.specs.Hearing.{at_once};
-ghost use Rattle.vdcp_drive.specs.Keeping.{kept_by};
-ghost use Rattle.vdcp_drive.specs.Leaves.{HasRun};
+ghost use Rattle.vdcp_drive.specs.Leaves.{IsRun, steps_in};
 ghost use Rattle.vdcp_drive.specs.Reading.{Held};
-ghost use Rattle.vdcp_drive.specs.Steps.{Chain, World, steps_of};
-ghost use Rattle.vdcp_drive.specs.Traces.{acts_in, came_in};
-ghost use Rattle.vdcp_drive.specs.declared.keep.KeptFault.{KeptFault};
+ghost use Rattle.vdcp_drive.specs.Steps.{Chain, steps_of};
+ghost use Rattle.vdcp_drive.specs.Traces.{acts_in, came_in, kept_in};
+ghost use Rattle.vdcp_drive.specs.declared.hooks.KeptFault.{KeptFault};
 ghost use Rattle.vdcp_drive.specs.declared.line.Ran.{Ran};
 ghost use Rattle.vdcp_drive.specs.declared.line.DriveFault.{DriveFault};
 ghost use Rattle.vdcp_drive.specs.ServeLeaves.{HasServed};
@@ -40,13 +39,12 @@ ghost use Rattle.vdcp_laws.specs.Announced.{Announces, played_notes};
 ghost use Rattle.vdcp_laws.specs.Below.{Answered, Arrived, Completed, Spelt, Written};
 ghost use Rattle.vdcp_laws.specs.Carried.{AreCarried, driver_of};
 ghost use Rattle.vdcp_laws.specs.EndsHeadline.{EndsHeadline};
-ghost use Rattle.vdcp_laws.specs.OneConnection.{ComesWhole, HasCome, IsFresh, ends_of};
+ghost use Rattle.vdcp_laws.specs.OneConnection.{ComesWhole, ends_at};
 ghost use Rattle.vdcp_laws.specs.SeveralRuns.{AsksAtMost, HaveAired};
-ghost use Rattle.vdcp_laws.specs.TwoEnds.{AreJoined, AreLed, CanJoin, Ends, IsLateChannel, IsSince, aired_now, connected_anew, heard_again, log_now, new_ends, note_for, port_now, with_command, with_kept};
+ghost use Rattle.vdcp_laws.specs.TwoEnds.{AreJoined, AreLed, CanJoin, Ends, IsLateChannel, IsSince, aired_now, connected_anew, heard_again, log_now, new_ends, note_for, notes_given, port_now, with_command, with_kept};
 ghost use Rattle.vdcp_laws.specs.Undisturbed.{AreUndisturbed, CanPlay, IsDone, most_exchanges};
 
-use vdcp_auto::Source;
-use vdcp_drive::{Keep, Watch, WatchPort};
+use vdcp_drive::WatchPort;
 use vdcp_port::Catalogue;
 use vdcp_wire::Wire;
 
@@ -58,15 +56,9 @@ use vdcp_wire::Wire;
 pub fn two_ends_are_a_late_channel()
     ensures ends { (plan : Plan) (port : ClockedPort) (asked : List Command) (e : Ends) → CanJoin plan port asked →
         AreJoined plan port asked e → IsLateChannel plan port e }
-    // of one connection, by what came to either end since the automation began there
-    ensures one { (plan : Plan) (port : ClockedPort) (asked : List Command) (e : Ends) (ups downs : List Arrival) →
-        CanJoin plan port asked → AreJoined plan port asked e → IsFresh plan e →
-        HasCome plan port.state.unit e ups downs → IsLateChannel plan port (ends_of plan port.state.unit e ups downs) }
-    // as each one that follows another has just begun
-    ensures fresh { (plan : Plan) (port : ClockedPort) (e : Ends) → IsFresh plan (connected_anew plan port e) }
 {
     what_is_below();
-    vdcp_world::late::laws::a_killed_automation_goes_on();
+    vdcp_world::laws::a_killed_automation_goes_on();
     vdcp_port::laws::the_unit_stays();
     vdcp_auto::laws::reached_is_lawful();
 }
@@ -79,67 +71,40 @@ pub fn two_ends_keep_the_headline()
         AreJoined plan port asked e → EndsHeadline plan port.clips e.automation.state (log_now e) (aired_now e) }
 {
     two_ends_are_a_late_channel();
-    vdcp_world::late::laws::a_late_line_keeps_the_headline();
+    vdcp_world::laws::a_late_line_keeps_the_headline();
 }
 
-/// Of a driver and a server, new or gone on, whatever ends their runs, what came to either by any act of their wires is of
-/// what the other one has sent, if to each comes, in order, a beginning of the bytes that were sent by then.
-pub fn what_is_carried_has_come<
-    S: Source,
-    A: Wire,
-    V: Watch<S>,
-    K: Keep,
-    C: Catalogue,
-    B: Wire,
-    P: WatchPort<C>,
->()
-    ensures come { (plan : Plan) (unit count turns : ℕ) (e : Ends) (a' : Auto Held) (old new : World A K V)
-        (answer : Result Ran KeptFault) (server server' : Serving B) (watch watch' : P) (result : Result Ran DriveFault) →
-        IsFresh plan e → IsOpen e.downs →
-        (run : HasRun (record { does = A.does; adds = K.adds; loses = K.loses; sees = V.sees }) at_once plan unit count
-        (driver_of e.automation) a' old new answer) →
-        (serving : HasServed B.does (λ looks. Chain (λ look. tells_airing P.watched look.aired) looks watch watch') turns
-        (stands_at e.port e.downs) server server' result) → (autos servers behind left : List Act) →
-        acts_in (steps_of at_once plan unit (driver_of e.automation) run.came ++ run.more) ≡ autos ++ behind →
-        acts_of (stands_at e.port e.downs) serving.came ++ serving.done ≡ servers ++ left →
-        AreCarried unit e autos servers → HasCome plan unit e (came_in autos) (came_in servers) }
-    // so steps lead there, and from there on
-    ensures joined { (plan : Plan) (port : ClockedPort) (asked : List Command) (e : Ends) (ups downs : List Arrival) →
-        IsFresh plan e → AreJoined plan port asked e → HasCome plan port.state.unit e ups downs →
-        AreJoined plan port asked (ends_of plan port.state.unit e ups downs) }
-{
-    vdcp_drive::laws::what_goes_out_is_served();
-}
-
-/// So the headline holds of a driver and a server, however their runs end, whose wires' acts are carried so: of new ones,
-/// and of a driver that goes on from its journal over a new connection, with what went to air before.
-pub fn a_carried_run_keeps_the_headline<
-    S: Source,
-    A: Wire,
-    V: Watch<S>,
-    K: Keep,
-    C: Catalogue,
-    B: Wire,
-    P: WatchPort<C>,
->()
-    ensures { (plan : Plan) (port : ClockedPort) (asked : List Command) (e : Ends) (count turns : ℕ) (a' : Auto Held)
-        (old new : World A K V) (answer : Result Ran KeptFault) (server server' : Serving B) (watch watch' : P)
-        (result : Result Ran DriveFault) → CanJoin plan port asked → AreJoined plan port asked e → IsFresh plan e →
-        IsOpen e.downs →
-        (run : HasRun (record { does = A.does; adds = K.adds; loses = K.loses; sees = V.sees }) at_once plan
-        port.state.unit count (driver_of e.automation) a' old new answer) →
+/// So the headline holds of a driver and a server, however their runs end and whatever calls were made in them, whose
+/// wires' acts are carried so that to each comes, in order, a beginning of the bytes that the other one sent by then: of
+/// new ones, of a driver that runs again (its runs are one), and of one that goes on from its journal over a new
+/// connection.
+pub fn a_carried_run_keeps_the_headline<C: Catalogue, B: Wire, P: WatchPort<C>>()
+    ensures headline { (can : Bool) (plan : Plan) (port : ClockedPort) (asked : List Command) (e : Ends) (count turns : ℕ)
+        (a' : Auto Held) (answer : Result Ran KeptFault) (server server' : Serving B) (watch watch' : P)
+        (result : Result Ran DriveFault) → CanJoin plan port asked → AreJoined plan port asked e → IsOpen e.downs →
+        (run : IsRun can at_once plan port.state.unit count (driver_of e.automation) a' answer) →
         (serving : HasServed B.does (λ looks. Chain (λ look. tells_airing P.watched look.aired) looks watch watch') turns
         (stands_at e.port e.downs) server server' result) →
-        AreCarried port.state.unit e
-        (acts_in (steps_of at_once plan port.state.unit (driver_of e.automation) run.came ++ run.more))
+        AreCarried plan port.state.unit e (acts_in (steps_in run))
         (acts_of (stands_at e.port e.downs) serving.came ++ serving.done) →
         EndsHeadline plan port.clips a'.state
-        (e.log_before ++ auto.log_of at_once plan port.state.unit (driver_of e.automation) run.came)
+        (log_now e ++ auto.log_of at_once plan port.state.unit (driver_of e.automation) run.events)
         (e.aired_before ++ items_served e.port
+        (e.downs ++ came_in (acts_of (stands_at e.port e.downs) serving.came ++ serving.done))) }
+    // such runs lead both ends on, with the next command given: to what a new connection may follow
+    ensures joined { (can : Bool) (plan : Plan) (port : ClockedPort) (asked : List Command) (e : Ends) (count turns : ℕ)
+        (a' : Auto Held) (answer : Result Ran KeptFault) (server server' : Serving B) (watch watch' : P)
+        (result : Result Ran DriveFault) → AreJoined plan port asked e → IsOpen e.downs →
+        (run : IsRun can at_once plan port.state.unit count (driver_of e.automation) a' answer) →
+        (serving : HasServed B.does (λ looks. Chain (λ look. tells_airing P.watched look.aired) looks watch watch') turns
+        (stands_at e.port e.downs) server server' result) →
+        AreCarried plan port.state.unit e (acts_in (steps_in run))
+        (acts_of (stands_at e.port e.downs) serving.came ++ serving.done) →
+        AreJoined plan port asked (ends_at plan port.state.unit e run.events
         (e.downs ++ came_in (acts_of (stands_at e.port e.downs) serving.came ++ serving.done))) }
 {
     two_ends_are_a_late_channel();
-    vdcp_world::late::laws::a_late_line_keeps_the_headline();
+    vdcp_world::laws::a_late_line_keeps_the_headline();
     vdcp_drive::laws::what_goes_out_is_served();
 }
 
@@ -156,7 +121,7 @@ pub fn nothing_airs_after_a_complete_end()
         aired_now later ≡ aired_now e }
 {
     two_ends_are_a_late_channel();
-    vdcp_world::late::laws::a_late_line_keeps_the_headline();
+    vdcp_world::laws::a_late_line_keeps_the_headline();
 }
 
 /// What aired over several runs of a list, each of which begins with the number of all that aired before, is a beginning
@@ -171,7 +136,7 @@ pub fn several_runs_air_a_beginning()
         may_have_aired plan.mode (log_of rows) ≡ false → length (aired_now now) ≡ settled_in plan.mode rows }
 {
     two_ends_are_a_late_channel();
-    vdcp_world::late::laws::a_late_line_keeps_the_headline();
+    vdcp_world::laws::a_late_line_keeps_the_headline();
     vdcp_journal::laws::a_thinned_journal_makes_the_same();
     vdcp_auto::laws::a_log_grows();
 }
@@ -224,11 +189,11 @@ pub fn a_journal_makes_the_automation()
         Announces plan e.automation.state e.notes h →
         (connected_anew plan port (with_command plan (heard_again plan h e))).notes
         ≡ e.notes ++ played_notes (given plan e.automation.state) h }
-    // and what a driver's run keeps (`notes_of`), with its next command given, are the notes that it adds to the journal
-    ensures kept { (plan : Plan) (unit : ℕ) (e : Ends) (came downs : List Arrival) → IsFresh plan e →
-        (ends_of plan unit e came downs).notes ≡ e.notes ++ map note_for
-        (kept_by plan (auto.log_of at_once plan unit (driver_of e.automation) came)
-        (ticked (after at_once plan unit (driver_of e.automation) came).state)) }
+    // and what a driver's run keeps, with its next command given, are the notes that it adds to the journal
+    ensures kept { (plan : Plan) (unit : ℕ) (e : Ends) (events : List Event) (downs : List Arrival) →
+        (ends_at plan unit e events downs).notes ≡ (e.notes ++ map note_for
+        (kept_in (steps_of at_once plan unit (driver_of e.automation) events)))
+        ++ notes_given plan (after at_once plan unit (driver_of e.automation) events).state }
 {
     two_ends_are_a_late_channel();
     vdcp_journal::laws::a_thinned_journal_makes_the_same();

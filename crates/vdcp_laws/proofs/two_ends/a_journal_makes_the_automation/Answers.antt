@@ -1,7 +1,7 @@
 use Rattle.std.proofs.Common.{◌∙◌}
 use Rattle.vdcp_laws.proofs.Killed.{made, played_noted}
 use Rattle.vdcp_laws.proofs.Logging.{rows_show}
-use Rattle.vdcp_laws.proofs.Same.{noted_so}
+use Rattle.vdcp_laws.proofs.Noted.{noted_at}
 use Rattle.vdcp_laws.proofs.two_ends.a_journal_makes_the_automation.Goals as goal
 
 pub returns-clause-makes : goal.returns-clause-makes
@@ -21,4 +21,4 @@ pub returns-clause-announced : goal.returns-clause-announced
 returns-clause-announced c = played_noted
 
 pub returns-clause-kept : goal.returns-clause-kept
-returns-clause-kept c = noted_so
+returns-clause-kept c = noted_at

@@ -1,7 +1,5 @@
-use Rattle.vdcp_laws.specs.OneConnection.{ends_of}
 use Rattle.vdcp_laws.proofs.Connecting.{are_late_channel}
 use Rattle.vdcp_laws.proofs.Joining.{Laws}
-use Rattle.vdcp_laws.proofs.OneRun.{anew_fresh, are_joined}
 use Rattle.vdcp_laws.proofs.two_ends.two_ends_are_a_late_channel.Goals as goal
 
 pub returns : goal.returns
@@ -21,10 +19,4 @@ returns c =
       );
       lawful = c.reached_is_lawful.ensures;
     } in
-    record {
-      ends = are_late_channel law;
-      one = λ plan port asked e ups downs can j fresh h.
-          are_late_channel law plan port asked (ends_of plan port.state.unit e ups downs) can
-          (are_joined plan port asked e ups downs fresh j h);
-      fresh = anew_fresh;
-    }
+    record { ends = are_late_channel law }
