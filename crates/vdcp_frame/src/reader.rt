@@ -2,7 +2,7 @@
 ghost use Rattle.std.specs.Prelude.{◌≡◌, ◌+◌, ◌<◌, ◌≤◌, ◌++◌, [], List, ℕ, length, take};
 ghost use Rattle.vdcp_frame.specs.Message.{Content};
 ghost use Rattle.vdcp_frame.specs.Place.{place_after};
-ghost use Rattle.vdcp_frame.specs.Progress.{Progress, reading};
+ghost use Rattle.vdcp_frame.specs.Progress.{Progress, is_failed, reading};
 ghost use Rattle.vdcp_frame.specs.declared.reader.Place.TheVariants as places;
 ghost use Rattle.vdcp_frame.specs.Reader.{answer_of, Gives, fed, ended_of, Follows, FollowsNext, ReadsAs};
 ghost use Rattle.vdcp_frame.specs.Pieces.{ReadsOn, GoesOn};
@@ -77,6 +77,13 @@ impl Reader {
             place: Place::after(0),
             buffer: [0; LONGEST],
         }
+    }
+
+    /// Whether it is behind a fault: until the next silence it reads nothing.
+    pub fn has_failed(&self) -> bool
+        ensures { result ≡ is_failed self.now }
+    {
+        matches!(self.place, Place::Failed)
     }
 
     ghost use Rattle.std.specs.Borrow.{sem, follows_so};
