@@ -10,7 +10,8 @@ use Rattle.vdcp_frame.specs.Burst.{messages_of, end_of}
 use Rattle.vdcp_frame.specs.Head.{IsWrong}
 use Rattle.vdcp_frame.specs.Message.{Content, AreOctets, Spells}
 use Rattle.vdcp_frame.specs.Progress.{Progress, reading, failed}
-use Rattle.vdcp_frame.specs.Reader.{message, more, wrong, Gives, fed, Follows, FollowsNext, TakesFault, TakesWrong, TakesLong}
+use Rattle.vdcp_frame.specs.Pieces.{with_message}
+use Rattle.vdcp_frame.specs.Reader.{Answer, message, more, wrong, Gives, fed, Follows, FollowsNext, TakesFault, TakesWrong, TakesLong}
 use Rattle.vdcp_frame.specs.Reading.{End, clean, cut, fault, Reads, Begins, IsUnfinished, SpellsAll}
 use Rattle.vdcp_frame.specs.declared.message.Fault.{Fault}
 use Rattle.vdcp_frame.specs.declared.message.Fault.TheVariants.{Long}
@@ -18,7 +19,7 @@ use Rattle.vdcp_auto.specs.Heard.{heard_as}
 use Rattle.vdcp_auto.specs.declared.exchange.Heard.{Heard}
 use Rattle.vdcp_drive.specs.HearingLaws.{completed_both, held_both}
 use Rattle.vdcp_drive.specs.Below.{Below}
-use Rattle.vdcp_drive.specs.Reading.{Held, holds, skips, held_with, held_after, held_by, completed, IsReader}
+use Rattle.vdcp_drive.specs.Reading.{Held, holds, skips, held_with, held_after, held_by, completed, IsAfoot, IsReader}
 use Rattle.vdcp_drive.specs.Hearing.{heard_by}
 
 -- Bytes that begin a message and are no whole one.
@@ -163,18 +164,18 @@ wrong_unfinished xs x which n is w = record {
       (ap (λ (l : List ℕ). l ++ x ∷ []) parts ∙ append_assoc front rest (x ∷ []));
 }
 
-pub completes_fault : (law : Below) (held xs : List ℕ) (which : Fault) (place : ℕ) → 0 < length xs
+pub completes_fault : (law : Below) (held xs : List ℕ) (which other : Fault) (place : ℕ) → 0 < length xs
     → AreOctets (held ++ xs)
-    → IsWrong (held ++ xs) which (length (held ++ xs)) → Reads (held ++ xs) [] (fault which place)
+    → IsWrong (held ++ xs) which (length (held ++ xs)) → Reads (held ++ xs) [] (fault other place)
     → (completed (holds held) xs ≡ []) × (held_after (holds held) xs ≡ skips)
-completes_fault law held xs which place some fits w r =
+completes_fault law held xs which other place some fits w r =
     let l = has_last xs some in
     let p = parts_of held xs l in
     let v : IsUnfinished (held ++ l.before) =
     wrong_unfinished (held ++ l.before) l.last which (length (held ++ xs)) (ap (length {A = ℕ}) p)
     (subst (λ (b : List ℕ). IsWrong b which (length (held ++ xs))) p w) in
     let d = decided law held xs l v in
-    let same = law.computed (held ++ xs) [] (fault which place) fits r in
+    let same = law.computed (held ++ xs) [] (fault other place) fits r in
     (d.gives ∙ sym same.0, d.leaves ∙ ap₂ (held_with (held ++ xs)) (sym same.0) (sym same.1))
 
 -- no burst is too long
@@ -235,7 +236,7 @@ wrong_so law unit taken held piece n which place u fits t r =
     let all : AreOctets (held ++ take n piece) =
     All-append (λ b. b < 256) held (take n piece) (unfinished_octets law held u) (All-take (λ b. b < 256) n piece fits)
     in
-    let c = completes_fault law held (take n piece) which place (omega (arith, t.some, length-take-le n piece t.within))
+    let c = completes_fault law held (take n piece) which which place (omega (arith, t.some, length-take-le n piece t.within))
     all t.first r in
     record { takes = sym c.1; hears = sym (ap (map (heard_as unit)) c.0) }
 
@@ -268,6 +269,63 @@ begun_more (reading taken held) piece n begun t = (
   t.unfinished,
 )
 begun_more failed piece n begun t = absurd begun
+
+-- What the reader of a server gave for them.
+
+-- these bytes were read, which complete these messages
+pub record HasTold (held : Held) (piece : List ℕ) (held' : Held) (ms : List Content) : Type 0 where
+  pub takes : held' ≡ held_after held piece
+  pub gives : completed held piece ≡ ms
+
+told_wrong : (law : Below) (taken : ℕ) (held piece : List ℕ) (n : ℕ) (which other : Fault) (place : ℕ)
+    → taken ≡ length held → IsUnfinished held
+    → AreOctets (take n piece) → TakesFault taken held piece n which → Reads (held ++ take n piece) [] (fault other place)
+    → HasTold (holds held) (take n piece) skips []
+told_wrong law taken held piece n Long other place is u fits t r = absurd (never_long law taken n held piece is t)
+told_wrong law taken held piece n which other place is u fits t r =
+    let all : AreOctets (held ++ take n piece) =
+    All-append (λ b. b < 256) held (take n piece) (unfinished_octets law held u) fits in
+    let c = completes_fault law held (take n piece) which other place (omega (arith, t.some, length-take-le n piece t.within))
+    all t.first r in
+    record { takes = sym c.1; gives = c.0 }
+
+-- how far a reader is that begins anew behind each message
+abbrev pub renewed : Answer → Progress → Progress
+renewed (message m) new = reading 0 []
+renewed more new = new
+renewed (wrong which place) new = new
+
+pub told_by : (law : Below) (p : Progress) (piece : List ℕ) (n : ℕ) (answer : Answer) → IsAfoot p
+    → AreOctets (take n piece) → Gives p piece n answer
+    → ((burst : List ℕ) (ms : List Content) → Follows burst ms p
+    → Follows (burst ++ take n piece) (ms ++ with_message answer []) (fed p piece n answer))
+    → HasTold (held_by (Some p)) (take n piece) (held_by (Some (renewed answer (fed p piece n answer))))
+    (with_message answer []) × IsAfoot (renewed answer (fed p piece n answer))
+told_by law (reading taken held) piece n (message m) begun fits t follows =
+    let c = completes law held (take n piece) m (omega (arith, t.some, length-take-le n piece t.within)) t.spelt in
+    (record { takes = sym c.1; gives = c.0 }, (refl, law.start.unfinished))
+told_by law (reading taken held) piece n more begun fits t follows =
+    let c = completes_none law held (take n piece) t.unfinished in (
+      record { takes = sym c.1; gives = c.0 },
+      (
+        omega (arith, begun.0, t.all, length-append held (take n piece), length-take-le n piece (omega (arith, t.all))),
+        t.unfinished,
+      ),
+    )
+told_by law (reading taken held) piece n (wrong which place) begun fits t follows =
+    let f : Follows held [] (reading taken held) =
+    subst (λ (k : ℕ). Follows held [] (reading k held)) (sym begun.0) (follows_held law held begun.1) in
+    let g = follows held [] f in
+    let r : Reads ((held ++ take n piece) ++ []) [] (fault g.0 g.1) = g.2 [] in (
+      told_wrong law taken held piece n which g.0 g.1 begun.0 begun.1 fits t.0
+          (subst (λ (b : List ℕ). Reads b [] (fault g.0 g.1)) (append-nil (held ++ take n piece)) r),
+      tt,
+    )
+told_by law failed piece n (message m) begun fits t follows = absurd t
+told_by law failed piece n more begun fits t follows =
+    let c = completes_nothing (take n piece) in
+    (record { takes = sym c.1; gives = c.0 }, tt)
+told_by law failed piece n (wrong which place) begun fits t follows = absurd t
 
 -- whole messages, and then a beginning of one
 

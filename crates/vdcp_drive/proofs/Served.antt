@@ -16,18 +16,27 @@ use Rattle.vdcp_wire.specs.Acts.{Act, brings, fails, sends}
 use Rattle.vdcp_wire.specs.Wires.{Arrival, bytes, silence, close, has_closed}
 use Rattle.vdcp_drive.specs.Below.{Below}
 use Rattle.vdcp_drive.specs.Bursts.{ended_bursts, open_burst}
+use Rattle.vdcp_drive.specs.ServeLeaves.{ServeEnding, by_itself, cut_short, end_steps}
+use Rattle.vdcp_drive.specs.ServerEars.{completed, in_burst}
+use Rattle.vdcp_drive.specs.Served.{IsOpen, only, after_bursts, items_for_bursts, items_served, sent_for_bursts, served, stands_at}
+use Rattle.vdcp_drive.specs.Serving.{HookStep, IsCutShort, Service, acts_of, airs, asked, at_end, hears, hook_steps, in_answer, in_listen, items_in, last_aired, left_by, lent, replies, sending}
+use Rattle.vdcp_drive.specs.Serving as happening
+use Rattle.vdcp_drive.proofs.Serving as server
+use Rattle.vdcp_drive.specs.Served.{HasMore, aired_at, sent_at}
+use Rattle.vdcp_drive.specs.ServerEars.{completes}
 use Rattle.vdcp_drive.specs.Leaves.{AreOctetsIn}
-use Rattle.vdcp_drive.specs.ServeLeaves.{ServeEnding, by_itself, cut_short}
-use Rattle.vdcp_drive.specs.Served.{IsOpen, after_bursts, items_for_bursts, items_served, sent_for_bursts, served, stands_at}
-use Rattle.vdcp_drive.specs.Serving.{IsCutShort, Look, Service, acts_of, airs, at_end, completed, in_answer, in_listen, items_in, last_aired, left_by, looks_of, replies, sending, serves}
+use Rattle.vdcp_drive.specs.Lines.{line_of}
 use Rattle.vdcp_drive.specs.Traces.{came_in, sent_in, until_close}
+use Rattle.vdcp_drive.specs.Turns.{Turn, listen, frame}
+use Rattle.vdcp_drive.specs.declared.hearing.Hearing.{Hearing}
 use Rattle.vdcp_drive.specs.declared.line.DriveFault.{DriveFault}
-use Rattle.vdcp_drive.specs.declared.line.Ran.{Ran}
+use Rattle.vdcp_drive.specs.declared.line.TurnsEnd.{TurnsEnd}
+use Rattle.vdcp_drive.specs.declared.line.TurnsEnd.TheVariants as ends
 use Rattle.vdcp_drive.proofs.Cutting.{ended_bytes, ended_close, ended_silence, open_bytes, open_close, open_silence}
 use Rattle.vdcp_drive.proofs.Running.{closed_more, closing}
-use Rattle.vdcp_drive.specs.Lines.{line_of}
-use Rattle.vdcp_drive.proofs.Taking.{messages_grow}
 use Rattle.vdcp_drive.proofs.Tracing.{came_both, sent_both}
+use Rattle.vdcp_drive.proofs.Turning.{closed_only}
+use Rattle.vdcp_drive.proofs.Taking.{messages_grow}
 
 -- One more ended burst.
 
@@ -72,11 +81,11 @@ record OneMore (p : ClockedPort) (before : List Arrival) (what : Arrival) : Type
   sent : served p (before ++ what ∷ []) ≡ served p before
       ++ sent_in (sending (stands_at p before).port.state.unit (replies what (stands_at p before)))
   items : items_served p (before ++ what ∷ []) ≡ items_served p before ++ option_to_list (airs what (stands_at p before))
-  stands : stands_at p (before ++ what ∷ []) ≡ serves what (stands_at p before)
+  stands : stands_at p (before ++ what ∷ []) ≡ hears what (stands_at p before)
   octets : AreOctets (open_burst (before ++ what ∷ []))
 
 abbrev service : ClockedPort → List ℕ → Service
-service port burst = record { port = port; burst = burst }
+service port burst = record { port = port; ear = in_burst burst }
 
 abbrev served_by : ClockedPort → List (List ℕ) → List Content → List ℕ
 served_by p ended ms = sent_for_bursts p ended ++ bytes_for_all (after_bursts p ended) ms
@@ -159,17 +168,17 @@ goes_on law p before close later o fits is = inr (refl, sym (ap drop_one is))
 abbrev turn_acts : Service → Arrival → List Act
 turn_acts s what = brings what ∷ sending s.port.state.unit (replies what s)
 
-pub acts_came : (s : Service) (came : List Arrival) → came_in (acts_of s came) ≡ came
+pub acts_came : (s : Service) (came : List Arrival) → came_in (acts_of s (only came)) ≡ came
 acts_came s [] = refl
 acts_came s (what ∷ later) =
-    came_both (turn_acts s what) (acts_of (serves what s) later)
+    came_both (turn_acts s what) (acts_of (hears what s) (only later))
     ∙ ap₂ (λ (x y : List Arrival). (what ∷ x) ++ y) (sending_came s.port.state.unit (replies what s))
-    (acts_came (serves what s) later)
+    (acts_came (hears what s) later)
 
 pub record AllServed (p : ClockedPort) (before came : List Arrival) : Type 0 where
-  pub sent : served p (before ++ came) ≡ served p before ++ sent_in (acts_of (stands_at p before) came)
-  pub items : items_served p (before ++ came) ≡ items_served p before ++ items_in (looks_of (stands_at p before) came)
-  pub left : left_by (stands_at p before) came ≡ stands_at p (before ++ came)
+  pub sent : served p (before ++ came) ≡ served p before ++ sent_in (acts_of (stands_at p before) (only came))
+  pub items : items_served p (before ++ came) ≡ items_served p before ++ items_in (hook_steps (stands_at p before) (only came))
+  pub left : left_by (stands_at p before) (only came) ≡ stands_at p (before ++ came)
 
 served_none : (p : ClockedPort) (before : List Arrival) → AllServed p before []
 served_none p before = record { sent = simp append-nil; items = simp append-nil; left = simp append-nil }
@@ -178,18 +187,18 @@ served_further : (law : Below) (p : ClockedPort) (before : List Arrival) (what :
     → OneMore p before what → AllServed p (before ++ what ∷ []) later → AllServed p before (what ∷ later)
 served_further law p before what later m h =
     let s : Service = stands_at p before in
-    let t : Service = serves what s in
+    let t : Service = hears what s in
     let first : List ℕ = sent_in (sending s.port.state.unit (replies what s)) in
     let same : before ++ what ∷ later ≡ (before ++ what ∷ []) ++ later = sym (append_assoc before (what ∷ []) later) in
     record {
       sent = ap (served p) same ∙ h.sent
-          ∙ ap₂ (λ (x : List ℕ) (y : Service). x ++ sent_in (acts_of y later)) m.sent m.stands
-          ∙ append_assoc (served p before) first (sent_in (acts_of t later))
-          ∙ ap (λ (l : List ℕ). served p before ++ l) (sym (sent_both (turn_acts s what) (acts_of t later)));
+          ∙ ap₂ (λ (x : List ℕ) (y : Service). x ++ sent_in (acts_of y (only later))) m.sent m.stands
+          ∙ append_assoc (served p before) first (sent_in (acts_of t (only later)))
+          ∙ ap (λ (l : List ℕ). served p before ++ l) (sym (sent_both (turn_acts s what) (acts_of t (only later))));
       items = ap (items_served p) same ∙ h.items
-          ∙ ap₂ (λ (x : List Item) (y : Service). x ++ items_in (looks_of y later)) m.items m.stands
-          ∙ append_assoc (items_served p before) (option_to_list (airs what s)) (items_in (looks_of t later));
-      left = ap (λ (x : Service). left_by x later) (sym m.stands) ∙ h.left ∙ ap (stands_at p) (sym same);
+          ∙ ap₂ (λ (x : List Item) (y : Service). x ++ items_in (hook_steps y (only later))) m.items m.stands
+          ∙ append_assoc (items_served p before) (option_to_list (airs what s)) (items_in (hook_steps t (only later)));
+      left = ap (λ (x : Service). left_by x (only later)) (sym m.stands) ∙ h.left ∙ ap (stands_at p) (sym same);
     }
 
 either : {A B C : Type 0} → (A → C) → (B → C) → A ⊎ B → C
@@ -219,20 +228,20 @@ opens law p before (close ∷ later) o fits is = cc
 
 -- At each moment.
 
-abbrev head_or : Act → List Act → Act
+abbrev pub head_or : Act → List Act → Act
 head_or other [] = other
 head_or other (act ∷ acts) = act
 
-abbrev behind_first : List Act → List Act
+abbrev pub behind_first : List Act → List Act
 behind_first [] = []
 behind_first (act ∷ acts) = acts
 
-no_front : {A : Type 0} (xs ys : List A) → xs ++ ys ≡ [] → xs ≡ []
+pub no_front : {A : Type 0} (xs ys : List A) → xs ++ ys ≡ [] → xs ≡ []
 no_front [] ys is = refl
 no_front (x ∷ xs) ys is = cc
 
 -- a beginning of two lists ends within the first one, or goes beyond it
-split : (xs ys some behind : List Act) → xs ++ ys ≡ some ++ behind
+pub split : (xs ys some behind : List Act) → xs ++ ys ≡ some ++ behind
     → ((zs : List Act) × (xs ≡ some ++ zs)) ⊎ ((zs : List Act) × (some ≡ xs ++ zs) × (ys ≡ zs ++ behind))
 split [] ys some behind is = inr (some, refl, is)
 split (x ∷ xs) ys [] behind is = inl (x ∷ xs, refl)
@@ -275,7 +284,7 @@ within p before what ss (a ∷ some) behind more m none parts is =
     })
 
 -- of the answers to messages, up to a beginning of one
-front_sent : (law : Below) (q : ClockedPort) (ms : List Content) (m : Content) (others : List Content)
+pub front_sent : (law : Below) (q : ClockedPort) (ms : List Content) (m : Content) (others : List Content)
     (front rest : List ℕ) → bytes_for (after_messages q ms) m ≡ front ++ rest
     → (more : List ℕ) × (answer_bytes q.state.unit (answers_to q (ms ++ m ∷ others))
     ≡ sent_in (sending q.state.unit (answers_to q ms) ++ sends front ∷ []) ++ more)
@@ -312,13 +321,13 @@ cut_served law p before done some behind port aired o
     (came_both (sending s.port.state.unit (answers_to s.port ms)) (sends front ∷ [])
     ∙ append-nil (came_in (sending s.port.state.unit (answers_to s.port ms)))
     ∙ sending_came s.port.state.unit (answers_to s.port ms))
-    (sending_sent s.port.state.unit (answers_to s.port (completed s.burst piece))
+    (sending_sent s.port.state.unit (answers_to s.port (completed (open_burst before) piece))
     ∙ ap (λ (l : List Content). answer_bytes s.port.state.unit (answers_to s.port l)) messages ∙ f.1)
     (sym is ∙ parts)
 cut_served law p before done some behind port aired o (at_end front rest part is port_is aired_is) parts =
     let s : Service = stands_at p before in
     within p before silence (sends front ∷ []) some behind rest (one_more law p before silence o tt) refl
-    (sending_sent s.port.state.unit (end_answers (end_of s.burst)) ∙ part
+    (sending_sent s.port.state.unit (end_answers (end_of (open_burst before))) ∙ part
     ∙ ap (λ (l : List ℕ). l ++ rest) (sym (append-nil front)))
     (sym is ∙ parts)
 
@@ -327,11 +336,12 @@ abbrev pub HasStopped : Service → Bool → List Act → Type 0
 HasStopped s is_closed done = (done ≡ [])
     ⊎ ((port : ClockedPort) × (aired : Option Item) × (is_closed ≡ false) × IsCutShort s done port aired)
 
-pub stopped : (count : ℕ) (came : List Arrival) (s : Service) (answer : Result Ran DriveFault) (done : List Act)
-    (seen : List Look) (port : ClockedPort) (reader : Progress)
-    → ServeEnding count came s answer done seen port reader → HasStopped s (has_closed came) done
-stopped count came s answer done seen port reader (by_itself r is to nothing unseen port_is h) = inl nothing
-stopped count came s answer done seen port reader (cut_short aired is still cut look) = inr (port, aired, still, cut)
+pub stopped : (can : Bool) (count : ℕ) (came : List Arrival) (hearing : Hearing) (s : Service) (answer : Result TurnsEnd DriveFault)
+    (done : List Act) (last : List HookStep) (port : ClockedPort) (reader : Progress)
+    → ServeEnding can count (only came) hearing s answer done last port reader → HasStopped s (has_closed came) done
+stopped can count came hearing s answer done last port reader (by_itself e is to nothing last_is port_is h) = inl nothing
+stopped can count came hearing s answer done last port reader (cut_short aired is still cut look) =
+    inr (port, aired, sym (closed_only came) ∙ still, cut)
 
 closed_stops : (s : Service) (what : Arrival) (later : List Arrival) (done : List Act)
     → has_closed (what ∷ later) ≡ true → HasStopped s (has_closed (what ∷ later)) done → done ≡ []
@@ -365,15 +375,15 @@ beyond p before what zs some m none is h =
 
 pub moments_served : (law : Below) (p : ClockedPort) (before came : List Arrival) (done some behind : List Act)
     → IsOpen before → All AreOctetsIn came → until_close came ≡ came
-    → HasStopped (left_by (stands_at p before) came) (has_closed came) done
-    → acts_of (stands_at p before) came ++ done ≡ some ++ behind → SendsServed p before some
+    → HasStopped (left_by (stands_at p before) (only came)) (has_closed came) done
+    → acts_of (stands_at p before) (only came) ++ done ≡ some ++ behind → SendsServed p before some
 moments_served law p before [] done some behind o fits is end parts =
     either (λ none. let e : some ≡ [] = no_front some behind (sym parts ∙ none) in
     silent p before some (ap came_in e) (ap sent_in e))
     (λ h. cut_served law p before done some behind h.0 h.1 o h.3 parts) end
 moments_served law p before (what ∷ later) done some behind o fits is end parts =
     let s : Service = stands_at p before in
-    let t : Service = serves what s in
+    let t : Service = hears what s in
     let out : List Act = sending s.port.state.unit (replies what s) in
     let fit : AreOctetsIn what = All-head AreOctetsIn what later fits in
     let m : OneMore p before what = one_more law p before what o fit in
@@ -382,15 +392,15 @@ moments_served law p before (what ∷ later) done some behind o fits is end part
     (λ x. within p before what out some x.0 [] m here (sym (append-nil (sent_in out))) x.1)
     (λ x. beyond p before what x.0 some m here x.1
     (either (λ h. moments_served law p (before ++ what ∷ []) later done x.0 behind h.0
-    (All-tail AreOctetsIn what later fits) h.1 (subst (λ (u : Service). HasStopped (left_by u later) (has_closed later) done)
-    (sym m.stands) (still_stops (left_by t later) what later done end))
-    (ap (λ (u : Service). acts_of u later ++ done) m.stands ∙ x.2))
+    (All-tail AreOctetsIn what later fits) h.1 (subst (λ (u : Service). HasStopped (left_by u (only later)) (has_closed later) done)
+    (sym m.stands) (still_stops (left_by t (only later)) what later done end))
+    (ap (λ (u : Service). acts_of u (only later) ++ done) m.stands ∙ x.2))
     (λ h. let none : x.0 ≡ [] = no_front x.0 behind (sym x.2
-    ∙ ap₂ (λ (l : List Arrival) (d : List Act). acts_of t l ++ d) h.1 (closed_stops (left_by t later) what later done h.0 end)) in
+    ∙ ap₂ (λ (l : List Arrival) (d : List Act). acts_of t (only l) ++ d) h.1 (closed_stops (left_by t (only later)) what later done h.0 end)) in
     silent p (before ++ what ∷ []) x.0 (ap came_in none) (ap sent_in none))
     (goes_on law p before what later o fit is)))
-    (split (turn_acts s what) (acts_of t later ++ done) some behind
-    (sym (append_assoc (turn_acts s what) (acts_of t later) done) ∙ parts))
+    (split (turn_acts s what) (acts_of t (only later) ++ done) some behind
+    (sym (append_assoc (turn_acts s what) (acts_of t (only later)) done) ∙ parts))
 
 -- The items that went to air, also if the wire failed.
 
@@ -425,31 +435,61 @@ cut_items law p before done port aired o (in_answer piece ms m others front rest
 cut_items law p before done port aired o (at_end front rest part is port_is aired_is) =
     record { rest = []; is = rw (is, aired_is) ((one_more law p before silence o tt).items) }
 
-pub items_both : (xs ys : List Look) → items_in (xs ++ ys) ≡ items_in xs ++ items_in ys
+pub items_both : (xs ys : List HookStep) → items_in (xs ++ ys) ≡ items_in xs ++ items_in ys
 items_both [] ys = refl
-items_both (x ∷ xs) ys = simp (append_assoc, items_both xs ys)
+items_both (asked answer ∷ xs) ys = items_both xs ys
+items_both (lent look ∷ xs) ys = simp (append_assoc, items_both xs ys)
 
-pub items_by_then : (law : Below) (p : ClockedPort) (before came : List Arrival) (count : ℕ) (answer : Result Ran DriveFault)
-    (done : List Act) (seen : List Look) (port : ClockedPort) (reader : Progress) → IsOpen before
+ends_bare : (e : TurnsEnd) → items_in (end_steps e) ≡ []
+ends_bare ends.Closed = refl
+ends_bare ends.Spent = refl
+ends_bare ends.GivenUp = refl
+
+pub items_by_then : (law : Below) (p : ClockedPort) (before came : List Arrival) (can : Bool) (count : ℕ) (hearing : Hearing)
+    (answer : Result TurnsEnd DriveFault) (done : List Act) (last : List HookStep) (port : ClockedPort) (reader : Progress) → IsOpen before
     → All AreOctetsIn came → until_close came ≡ came
-    → ServeEnding count came (left_by (stands_at p before) came) answer done seen port reader
-    → AirsServed p before (acts_of (stands_at p before) came ++ done) (items_in (looks_of (stands_at p before) came ++ seen))
-items_by_then law p before came count answer done seen port reader o fits is
-    (by_itself r a to nothing unseen port_is h) =
+    → ServeEnding can count (only came) hearing (left_by (stands_at p before) (only came)) answer done last port reader
+    → AirsServed p before (acts_of (stands_at p before) (only came) ++ done) (items_in (hook_steps (stands_at p before) (only came) ++ last))
+items_by_then law p before came can count hearing answer done last port reader o fits is
+    (by_itself e a to nothing last_is port_is h) =
     let s : Service = stands_at p before in
     record {
       rest = [];
-      is = rw (nothing, unseen) (simp (append-nil, acts_came s came) (all_served law p before came o fits is).items);
+      is = rw (nothing, last_is) (simp (items_both, ends_bare, append-nil, acts_came s came) (all_served law p before came o fits is).items);
     }
-items_by_then law p before came count answer done seen port reader o fits is (cut_short aired a still cut look) =
+items_by_then law p before came can count hearing answer done last port reader o fits is (cut_short aired a still cut look) =
     let s : Service = stands_at p before in
     let all : AllServed p before came = all_served law p before came o fits is in
     let c : AirsServed p (before ++ came) done (option_to_list aired) =
-    cut_items law p (before ++ came) done port aired (opens law p before came o fits still)
+    cut_items law p (before ++ came) done port aired (opens law p before came o fits (sym (closed_only came) ∙ still))
     (subst (λ (x : Service). IsCutShort x done port aired) all.left cut) in
-    let first : List Item = items_in (looks_of s came) in
+    let first : List Item = items_in (hook_steps s (only came)) in
     record {
       rest = c.rest;
       is = rw look (simp (came_both, acts_came, items_both, append-nil, append_assoc)
           (simp append_assoc at (rw all.items at c.is)));
+    }
+
+-- One turn more, of any server.
+
+turn_sent : (what : Turn) (s : Service) → sent_in (happening.turn_acts what s) ≡ sent_at what s
+turn_sent (listen what) s = sending_sent s.port.state.unit (replies what s)
+turn_sent frame s = refl
+
+turn_aired : (law : Below) (what : Turn) (s : Service) → option_to_list (happening.airs_at what s) ≡ aired_at what s
+turn_aired law (listen (bytes piece)) s = last_is_all law s.port (completes s.ear piece)
+turn_aired law (listen silence) s = refl
+turn_aired law (listen close) s = refl
+turn_aired law frame s = refl
+
+pub has_more : (law : Below) (s : Service) (turns : List Turn) (what : Turn) → HasMore s turns what
+has_more law s turns what =
+    let t : Service = left_by s turns in record {
+      sent = ap sent_in (server.acts_both s turns (what ∷ [])) ∙ sent_both (acts_of s turns) (acts_of t (what ∷ []))
+          ∙ ap (λ (l : List Act). sent_in (acts_of s turns) ++ sent_in l) (append-nil (happening.turn_acts what t))
+          ∙ ap (λ (l : List ℕ). sent_in (acts_of s turns) ++ l) (turn_sent what t);
+      aired = ap items_in (server.steps_both s turns (what ∷ [])) ∙ items_both (hook_steps s turns) (hook_steps t (what ∷ []))
+          ∙ ap (λ (l : List Item). items_in (hook_steps s turns) ++ l)
+          (append-nil (option_to_list (happening.airs_at what t)) ∙ turn_aired law what t);
+      left = server.left_both s turns (what ∷ []);
     }

@@ -9,8 +9,9 @@ use Rattle.vdcp_value.specs.declared.part.Item.{Item}
 use Rattle.vdcp_frame.specs.Burst.{messages_of, end_of}
 use Rattle.vdcp_frame.specs.Message.{Content, AreOctets}
 use Rattle.vdcp_frame.specs.Pieces.{ReadsOn, with_message}
-use Rattle.vdcp_frame.specs.Progress.{Progress}
-use Rattle.vdcp_frame.specs.Reader.{Answer, message, Follows}
+use Rattle.vdcp_frame.specs.Progress.{Progress, reading}
+use Rattle.vdcp_frame.specs.Reader.{Answer, message, more, wrong, Follows}
+use Rattle.vdcp_frame.specs.declared.message.Fault.{Fault}
 use Rattle.vdcp_frame.specs.Reading.{Reads, ReadsShort, burst_limit}
 use Rattle.vdcp_words.specs.declared.reply.Reply.{Reply}
 use Rattle.vdcp_port.specs.Answers.{after_messages, aired_on_way, answers_to, bytes_for, reply_bytes}
@@ -18,8 +19,14 @@ use Rattle.vdcp_port.specs.Clock.{ClockedPort}
 use Rattle.vdcp_wire.specs.Acts.{Act, sends, OfFront}
 use Rattle.vdcp_drive.specs.Below.{Below}
 use Rattle.vdcp_drive.specs.ServeLeaves.{HasBroken, HasTaken}
-use Rattle.vdcp_drive.specs.Serving.{HasRead, Service, completed, last_aired, sending}
 use Rattle.vdcp_drive.specs.Steps.{Chain}
+use Rattle.vdcp_drive.specs.ServerEars.{ServerEar, HasRead, completed, completes, in_burst, in_stream, takes}
+use Rattle.vdcp_drive.specs.HearingLaws.{completed_both, held_both}
+use Rattle.vdcp_drive.specs.Reading.{held_by}
+use Rattle.vdcp_drive.specs.Serving.{Service, last_aired, sending}
+use Rattle.vdcp_drive.specs.declared.hearing.Hearing.{Hearing}
+use Rattle.vdcp_drive.specs.declared.hearing.Hearing.TheVariants.{AtSilences, AtOnce}
+use Rattle.vdcp_drive.proofs.Completing.{HasTold, octets_front, renewed, told_by}
 use Rattle.vdcp_drive.proofs.Chains.{chain_both}
 
 -- Messages.
@@ -51,9 +58,9 @@ messages_grow law burst piece fits both =
     (law.some (burst ++ piece) both)) in
     o.1 ∙ ap (λ (l : List Content). messages_of burst ++ l) (sym (completed_so burst piece o.0 o.1))
 
-pub completed_both : (law : Below) (burst xs ys : List ℕ) → AreOctets burst → AreOctets (burst ++ xs)
+burst_both : (law : Below) (burst xs ys : List ℕ) → AreOctets burst → AreOctets (burst ++ xs)
     → AreOctets ((burst ++ xs) ++ ys) → completed burst (xs ++ ys) ≡ completed burst xs ++ completed (burst ++ xs) ys
-completed_both law burst xs ys a b c =
+burst_both law burst xs ys a b c =
     completed_so burst (xs ++ ys) (completed burst xs ++ completed (burst ++ xs) ys)
     (ap messages_of (sym (append_assoc burst xs ys))
     ∙ messages_grow law (burst ++ xs) ys b c
@@ -63,6 +70,77 @@ completed_both law burst xs ys a b c =
 completed_none : (burst : List ℕ) → completed burst [] ≡ []
 completed_none burst =
     completed_so burst [] [] (ap messages_of (append-nil burst) ∙ sym (append-nil (messages_of burst)))
+
+-- The ears.
+
+-- its bytes are bytes
+abbrev pub IsFit : ServerEar → Type 0
+IsFit (in_burst burst) = AreOctets burst
+IsFit (in_stream held) = Unit {0}
+
+pub fit : (hearing : Hearing) (ear : ServerEar) (reader : Progress) → HasRead hearing ear reader → IsFit ear
+fit AtSilences (in_burst burst) reader h = h.octets
+fit AtSilences (in_stream held) reader h = absurd h
+fit AtOnce (in_burst burst) reader h = absurd h
+fit AtOnce (in_stream held) reader h = tt
+
+fit_more : (ear : ServerEar) (xs : List ℕ) → IsFit ear → AreOctets xs → IsFit (takes ear xs)
+fit_more (in_burst burst) xs h fits = All-append (λ x. x < 256) burst xs h fits
+fit_more (in_stream held) xs h fits = tt
+
+completes_none : (ear : ServerEar) → completes ear [] ≡ []
+completes_none (in_burst burst) = completed_none burst
+completes_none (in_stream held) = refl
+
+takes_none : (ear : ServerEar) → takes ear [] ≡ ear
+takes_none (in_burst burst) = ap in_burst (append-nil burst)
+takes_none (in_stream held) = refl
+
+pub completes_both : (law : Below) (ear : ServerEar) (xs ys : List ℕ) → IsFit ear → AreOctets xs → AreOctets ys
+    → completes ear (xs ++ ys) ≡ completes ear xs ++ completes (takes ear xs) ys
+completes_both law (in_burst burst) xs ys h fits fit₂ =
+    let b : AreOctets (burst ++ xs) = All-append (λ x. x < 256) burst xs h fits in
+    burst_both law burst xs ys h b (All-append (λ x. x < 256) (burst ++ xs) ys b fit₂)
+completes_both law (in_stream held) xs ys h fits fit₂ = completed_both held xs ys
+
+takes_both : (ear : ServerEar) (xs ys : List ℕ) → takes ear (xs ++ ys) ≡ takes (takes ear xs) ys
+takes_both (in_burst burst) xs ys = ap in_burst (sym (append_assoc burst xs ys))
+takes_both (in_stream held) xs ys = ap in_stream (held_both held xs ys)
+
+-- One call of next.
+
+-- where it leaves the reader: in a stream it begins anew behind each message
+abbrev pub left : Hearing → Answer → Progress → Progress
+left AtSilences answer new = new
+left AtOnce answer new = renewed answer new
+
+record Called (hearing : Hearing) (ear : ServerEar) (piece : List ℕ) (ms : List Content) (reader' : Progress) : Type 0 where
+  messages : completes ear piece ≡ ms
+  has_read : HasRead hearing (takes ear piece) reader'
+
+called : (law : Below) (hearing : Hearing) (ear : ServerEar) (reader new : Progress) (rest behind : List ℕ) (answer : Answer)
+    → HasRead hearing ear reader → (r : ReadsOn reader rest answer behind new) → AreOctets (take r.count rest)
+    → Called hearing ear (take r.count rest) (with_message answer []) (left hearing answer new)
+called law AtSilences (in_burst burst) reader new rest behind answer h r fits =
+    let piece : List ℕ = take r.count rest in
+    let octets : AreOctets (burst ++ piece) = All-append (λ x. x < 256) burst piece h.octets fits in
+    let f : Follows (burst ++ piece) (messages_of burst ++ with_message answer []) new =
+    r.follows burst (messages_of burst) h.follows in
+    let same : messages_of burst ++ with_message answer [] ≡ messages_of (burst ++ piece) =
+    law.messages (burst ++ piece) (messages_of burst ++ with_message answer []) new octets f in record {
+      messages = completed_so burst piece (with_message answer []) (sym same);
+      has_read = record { octets = octets; follows = subst (λ (l : List Content). Follows (burst ++ piece) l new) same f };
+    }
+called law AtSilences (in_stream held) reader new rest behind answer h r fits = absurd h
+called law AtOnce (in_burst burst) reader new rest behind answer h r fits = absurd h
+called law AtOnce (in_stream held) reader new rest behind answer h r fits =
+    let t = told_by law reader rest r.count answer h.afoot fits r.gives
+    (λ burst ms f. subst (Follows (burst ++ take r.count rest) (ms ++ with_message answer [])) r.after (r.follows burst ms f)) in
+    let told : HasTold held (take r.count rest) (held_by (Some (renewed answer new))) (with_message answer []) =
+    rw (h.is, r.after) t.0 in record {
+      messages = told.gives;
+      has_read = record { is = sym told.takes; afoot = rw r.after t.1 };
+    }
 
 -- Items and replies.
 
@@ -105,94 +183,76 @@ read_whole piece front rest left count parts leaves none =
 
 -- Calls after calls.
 
-pub taken_none : {W : Type 0} (does : Act → W → W → Type 0) (s : Service) (reader : Progress) (aired : Option Item)
-    (wire : W) → HasRead s.burst reader → HasTaken does s aired wire [] s.port reader aired wire
-taken_none does s reader aired wire h =
-    let none : completed s.burst [] ≡ [] = completed_none s.burst in
+pub taken_none : {W : Type 0} (does : Act → W → W → Type 0) (hearing : Hearing) (s : Service) (reader : Progress)
+    (aired : Option Item) (wire : W) → HasRead hearing s.ear reader → HasTaken does hearing s aired wire [] s.port reader aired wire
+taken_none does hearing s reader aired wire h =
+    let none : completes s.ear [] ≡ [] = completes_none s.ear in
     record {
-      has_read = subst (λ (b : List ℕ). HasRead b reader) (sym (append-nil s.burst)) h;
+      has_read = subst (λ (e : ServerEar). HasRead hearing e reader) (sym (takes_none s.ear)) h;
       port_is = sym (ap (after_messages s.port) none);
       aired_is = sym (ap (λ (l : List Content). last_aired aired (aired_on_way s.port l)) none);
       sent = subst (λ (l : List Content). Chain does (sending s.port.state.unit (answers_to s.port l)) wire wire)
           (sym none) refl;
     }
 
--- bytes after these that complete these messages
-record Further (s : Service) (front piece : List ℕ) (ns : List Content) (reader : Progress) : Type 0 where
-  all : completed s.burst (front ++ piece) ≡ completed s.burst front ++ ns
-  has_read : HasRead (s.burst ++ (front ++ piece)) reader
-
-further : (law : Below) (s : Service) (front piece : List ℕ) (reader reader' : Progress)
-    (ns : List Content) → AreOctets s.burst → AreOctets piece → HasRead (s.burst ++ front) reader
-    → Follows ((s.burst ++ front) ++ piece) (messages_of (s.burst ++ front) ++ ns) reader'
-    → Further s front piece ns reader'
-further law s front piece reader reader' ns begun fits h f =
-    let b : List ℕ = s.burst ++ front in
-    let octets : AreOctets (b ++ piece) = All-append (λ x. x < 256) b piece h.octets fits in
-    let same : messages_of b ++ ns ≡ messages_of (b ++ piece) =
-    law.messages (b ++ piece) (messages_of b ++ ns) reader' octets f in
-    let whole : HasRead (b ++ piece) reader' =
-    record { octets = octets; follows = subst (λ (l : List Content). Follows (b ++ piece) l reader') same f } in
-    record {
-      all = completed_both law s.burst front piece begun h.octets octets
-          ∙ ap (λ (l : List Content). completed s.burst front ++ l) (completed_so b piece ns (sym same));
-      has_read = subst (λ (l : List ℕ). HasRead l reader') (append_assoc s.burst front piece) whole;
-    }
-
-pub taken_on : {W : Type 0} (does : Act → W → W → Type 0) (law : Below) (s : Service)
+pub taken_on : {W : Type 0} (does : Act → W → W → Type 0) (law : Below) (hearing : Hearing) (s : Service)
     (port₁ port₂ : ClockedPort) (reader₁ reader₂ : Progress) (aired₀ aired₁ aired₂ : Option Item) (wire₀ wire₁ wire₂ : W)
-    (front rest left : List ℕ) (answer : Answer) → AreOctets s.burst
-    → HasTaken does s aired₀ wire₀ front port₁ reader₁ aired₁ wire₁
-    → (r : ReadsOn reader₁ rest answer left reader₂) → AreOctets (take r.count rest)
+    (front rest behind : List ℕ) (answer : Answer) → IsFit s.ear → AreOctets front
+    → HasTaken does hearing s aired₀ wire₀ front port₁ reader₁ aired₁ wire₁
+    → (r : ReadsOn reader₁ rest answer behind reader₂) → AreOctets (take r.count rest)
     → port₂ ≡ after_messages port₁ (with_message answer [])
     → aired₂ ≡ last_aired aired₁ (aired_on_way port₁ (with_message answer []))
     → Chain does (sending port₁.state.unit (answers_to port₁ (with_message answer []))) wire₁ wire₂
-    → HasTaken does s aired₀ wire₀ (front ++ take r.count rest) port₂ reader₂ aired₂ wire₂
-taken_on {W} does law s port₁ port₂ reader₁ reader₂ aired₀ aired₁ aired₂ wire₀ wire₁ wire₂ front rest left
-    answer begun a r fits leaves puts sent =
+    → HasTaken does hearing s aired₀ wire₀ (front ++ take r.count rest) port₂ (left hearing answer reader₂) aired₂ wire₂
+taken_on {W} does law hearing s port₁ port₂ reader₁ reader₂ aired₀ aired₁ aired₂ wire₀ wire₁ wire₂ front rest behind
+    answer begun before a r fits leaves puts sent =
     let ns : List Content = with_message answer [] in
     let piece : List ℕ = take r.count rest in
-    let c : List Content = completed s.burst front in
+    let c : List Content = completes s.ear front in
     let q : ClockedPort = after_messages s.port c in
-    let m : Further s front piece ns reader₂ = further law s front piece reader₁ reader₂ ns begun fits a.has_read
-    (r.follows (s.burst ++ front) (messages_of (s.burst ++ front)) a.has_read.follows) in
+    let m : Called hearing (takes s.ear front) piece ns (left hearing answer reader₂) =
+    called law hearing (takes s.ear front) reader₁ reader₂ rest behind answer a.has_read r fits in
+    let all : completes s.ear (front ++ piece) ≡ c ++ ns =
+    completes_both law s.ear front piece begun before fits ∙ ap (λ (l : List Content). c ++ l) m.messages in
     record {
-      has_read = m.has_read;
-      port_is = rw (leaves, a.port_is, m.all, law.next s.port c ns) refl;
-      aired_is = rw (puts, a.aired_is, a.port_is, m.all) (aired_both law s.port c ns aired₀);
-      sent = rw (m.all, ← answering_both law s.port c ns)
+      has_read = subst (λ (e : ServerEar). HasRead hearing e (left hearing answer reader₂)) (sym (takes_both s.ear front piece)) m.has_read;
+      port_is = rw (leaves, a.port_is, all, law.next s.port c ns) refl;
+      aired_is = rw (puts, a.aired_is, a.port_is, all) (aired_both law s.port c ns aired₀);
+      sent = rw (all, ← answering_both law s.port c ns)
           (chain_both does (sending s.port.state.unit (answers_to s.port c)) (sending q.state.unit (answers_to q ns))
           wire₀ wire₁ wire₂ a.sent (rw a.port_is at sent));
     }
 
 -- the wire fails in the answer
-pub broken_on : {W : Type 0} (does : Act → W → W → Type 0) (law : Below) (s : Service)
+pub broken_on : {W : Type 0} (does : Act → W → W → Type 0) (law : Below) (hearing : Hearing) (s : Service)
     (port₁ port₂ : ClockedPort) (reader₁ reader₂ : Progress) (aired₀ aired₁ aired₂ : Option Item) (wire₀ wire₁ wire₂ : W)
-    (front rest left : List ℕ) (m : Content) → AreOctets s.burst
-    → HasTaken does s aired₀ wire₀ front port₁ reader₁ aired₁ wire₁
-    → (r : ReadsOn reader₁ rest (message m) left reader₂) → AreOctets (take r.count rest) → AreOctets left
+    (front rest behind : List ℕ) (m : Content) → IsFit s.ear → AreOctets front
+    → HasTaken does hearing s aired₀ wire₀ front port₁ reader₁ aired₁ wire₁
+    → (r : ReadsOn reader₁ rest (message m) behind reader₂) → AreOctets (take r.count rest) → AreOctets behind
     → port₂ ≡ after_messages port₁ (m ∷ [])
     → aired₂ ≡ last_aired aired₁ (aired_on_way port₁ (m ∷ []))
     → OfFront (bytes_for port₁ m) (λ b. does (sends b) wire₁ wire₂)
     → HasBroken does s aired₀ wire₀ (front ++ rest) port₂ aired₂ wire₂
-broken_on {W} does law s port₁ port₂ reader₁ reader₂ aired₀ aired₁ aired₂ wire₀ wire₁ wire₂ front rest left m
-    begun a r fits fits_left leaves puts sent =
+broken_on {W} does law hearing s port₁ port₂ reader₁ reader₂ aired₀ aired₁ aired₂ wire₀ wire₁ wire₂ front rest behind m
+    begun before a r fits fits_left leaves puts sent =
     let ns : List Content = m ∷ [] in
     let piece : List ℕ = take r.count rest in
-    let c : List Content = completed s.burst front in
-    let w : Further s front piece ns reader₂ = further law s front piece reader₁ reader₂ ns begun fits a.has_read
-    (r.follows (s.burst ++ front) (messages_of (s.burst ++ front)) a.has_read.follows) in
-    let b : List ℕ = s.burst ++ (front ++ piece) in
-    let others : List Content = completed b left in
-    let parts : front ++ rest ≡ (front ++ piece) ++ left =
-    parts_on (front ++ rest) front rest left r.count refl r.leaves in
-    let octets : AreOctets (b ++ left) = All-append (λ x. x < 256) b left w.has_read.octets fits_left in
+    let c : List Content = completes s.ear front in
+    let w : Called hearing (takes s.ear front) piece ns (left hearing (message m) reader₂) =
+    called law hearing (takes s.ear front) reader₁ reader₂ rest behind (message m) a.has_read r fits in
+    let others : List Content = completes (takes (takes s.ear front) piece) behind in
+    let parts : rest ≡ piece ++ behind = sym (ap (λ (l : List ℕ). piece ++ l) r.leaves ∙ take-append-drop r.count rest) in
+    let all : completes s.ear (front ++ rest) ≡ c ++ (ns ++ others) =
+    ap (λ (l : List ℕ). completes s.ear (front ++ l)) parts
+    ∙ completes_both law s.ear front (piece ++ behind) begun before (All-append (λ x. x < 256) piece behind fits fits_left)
+    ∙ ap (λ (l : List Content). c ++ l) (completes_both law (takes s.ear front) piece behind
+    (fit_more s.ear front begun before) fits fits_left
+    ∙ ap (λ (l : List Content). l ++ others) w.messages) in
     record {
       before = c;
       last = m;
       others = others;
-      messages = rw (parts, completed_both law s.burst (front ++ piece) left begun w.has_read.octets octets, w.all)
-          (append_assoc c ns others);
+      messages = all;
       port_is = rw (leaves, a.port_is, law.next s.port c ns) refl;
       aired_is = rw (puts, a.aired_is, a.port_is) (aired_both law s.port c ns aired₀);
       sent = record {
@@ -215,3 +275,25 @@ pub behind : (piece front rest : List ℕ) → piece ≡ front ++ rest → AreOc
 behind piece front rest is h =
     subst AreOctets (ap (drop (length front)) is ∙ drop-append_seam front rest)
     (All-drop (λ b. b < 256) (length front) piece h)
+
+-- The reader behind a call, by how the server hears.
+
+pub left_once : (hearing : Hearing) (m : Content) (new : Progress) → hearing ≡ AtOnce
+    → left hearing (message m) new ≡ reading 0 []
+left_once AtSilences m new is = cc
+left_once AtOnce m new is = refl
+
+pub left_on : (hearing : Hearing) (answer : Answer) (new : Progress) → (hearing ≡ AtOnce → ⊥) → left hearing answer new ≡ new
+left_on AtSilences answer new is = refl
+left_on AtOnce answer new is = absurd (is refl)
+
+pub left_more : (hearing : Hearing) (new : Progress) → left hearing more new ≡ new
+left_more AtSilences new = refl
+left_more AtOnce new = refl
+
+pub left_wrong : (hearing : Hearing) (which : Fault) (place : ℕ) (new : Progress) → left hearing (wrong which place) new ≡ new
+left_wrong AtSilences which place new = refl
+left_wrong AtOnce which place new = refl
+
+pub ahead : (piece front rest : List ℕ) → piece ≡ front ++ rest → AreOctets piece → AreOctets front
+ahead piece front rest is fits = octets_front front rest (subst AreOctets is fits)

@@ -29,16 +29,18 @@ ghost use Rattle.vdcp_value.specs.declared.part.Item.{Item};
 ghost use Rattle.vdcp_frame.specs.Progress.{Progress};
 ghost use Rattle.vdcp_wire.specs.Acts.{Act};
 ghost use Rattle.vdcp_drive.specs.ServeLeaves.{ServeEnding};
-ghost use Rattle.vdcp_drive.specs.Served.{IsOpen, items_served, served, stands_at};
-ghost use Rattle.vdcp_drive.specs.Serving.{Look, Service, acts_of, items_in, left_by, looks_of};
-ghost use Rattle.vdcp_drive.specs.Watching.{tells_airing};
+ghost use Rattle.vdcp_drive.specs.Served.{AreOnly, HasMore, IsMoment, IsOpen, items_served, only, served, stands_at};
+ghost use Rattle.vdcp_drive.specs.Serving.{HookStep, Service, acts_of, hook_steps, items_in, left_by};
+ghost use Rattle.vdcp_drive.specs.Turns.{IsMade, AreOctetsAt, Turn, until_closed};
 ghost use Rattle.vdcp_drive.specs.declared.line.DriveFault.{DriveFault};
 ghost use Rattle.vdcp_drive.specs.declared.hooks.KeptFault.{KeptFault};
+ghost use Rattle.vdcp_drive.specs.declared.hearing.Hearing.{Hearing};
 ghost use Rattle.vdcp_drive.specs.declared.line.Ran.{Ran};
+ghost use Rattle.vdcp_drive.specs.declared.line.TurnsEnd.{TurnsEnd};
 
 use crate::ear::Ear;
 use crate::hooks::Hooks;
-use crate::watch::WatchPort;
+use crate::server_hooks::ServerHooks;
 use vdcp_auto::{Source, laws as courses};
 use vdcp_frame::laws as bursts;
 use vdcp_port::{Catalogue, laws as answers};
@@ -53,6 +55,7 @@ pub(crate) fn laws_below()
     bursts::what_is_spelt_is_bytes();
     bursts::a_spelling_is_its_message();
     bursts::what_is_followed_is_read();
+    bursts::what_is_fed_is_followed();
     bursts::one_reading();
     bursts::written_is_read();
     answers::messages_after_messages();
@@ -180,7 +183,7 @@ pub fn a_broken_run_tells<S: Source, E: Ear, W: Wire, H: Hooks<S>>()
         IfTold (W.told new.wire) (λ u. BreaksOn E.fold plan unit a a' t u) }
 {}
 
-/// An automation that hears at once completes just the messages that the bytes spell, and holds what has begun
+/// An end that hears at once completes just the messages that the bytes spell, and holds what has begun
 /// since; and it doesn't matter into which pieces the bytes are cut.
 pub fn what_is_spelt_is_completed()
     ensures messages { (ms : List Content) (bytes rest : List ℕ) → SpellsAll ms bytes → IsUnfinished rest →
@@ -209,58 +212,84 @@ pub fn bursts_grow()
         × (open_burst (came ++ close ∷ []) ≡ open_burst came) }
 {}
 
-/// What the turns of a server come to that has served what came before: the bytes that go out and the items that go to
-/// air are those that are served for all that came, and this leaves it so. It drops nothing.
+/// Where no frame passes but at a silence, all that happened is what came.
+pub fn without_frames_all_comes()
+    ensures { (turns : List Turn) → All (IsMade false) turns → All AreOctetsAt turns → until_closed turns ≡ turns →
+        AreOnly turns }
+{}
+
+/// What the turns of a server come to that hears at silences and has served what came before, if no other frame passes:
+/// the bytes that go out and the items that go to air are those that are served for all that came, and this leaves it so.
 pub fn turns_are_served()
     ensures sent { (p : ClockedPort) (before came : List Arrival) → IsOpen before → All AreOctetsIn came →
         until_close came ≡ came →
-        served p (before ++ came) ≡ served p before ++ sent_in (acts_of (stands_at p before) came) }
+        served p (before ++ came) ≡ served p before ++ sent_in (acts_of (stands_at p before) (only came)) }
     ensures items { (p : ClockedPort) (before came : List Arrival) → IsOpen before → All AreOctetsIn came →
         until_close came ≡ came →
-        items_served p (before ++ came) ≡ items_served p before ++ items_in (looks_of (stands_at p before) came) }
+        items_served p (before ++ came) ≡ items_served p before ++ items_in (hook_steps (stands_at p before) (only came)) }
     ensures left { (p : ClockedPort) (before came : List Arrival) → IsOpen before → All AreOctetsIn came →
-        until_close came ≡ came → left_by (stands_at p before) came ≡ stands_at p (before ++ came) }
-    ensures came { (s : Service) (came : List Arrival) → came_in (acts_of s came) ≡ came }
+        until_close came ≡ came → left_by (stands_at p before) (only came) ≡ stands_at p (before ++ came) }
+    ensures came { (s : Service) (came : List Arrival) → came_in (acts_of s (only came)) ≡ came }
 {
     laws_below();
 }
 
-/// At each moment of a server's turns, also in an answer that the wire cuts short, what went out is a beginning of what is
-/// served for what had come by then; and the items that its watcher was lent are a beginning of those that went to air.
+/// At each moment of such turns, also in an answer that the wire cuts short, what went out is a beginning of what is
+/// served for what had come by then; and the items that its hooks were lent are a beginning of those that went to air.
 pub fn what_goes_out_is_served()
-    ensures sent { (p : ClockedPort) (before came : List Arrival) (count : ℕ) (answer : Result Ran DriveFault)
-        (done : List Act) (seen : List Look) (port : ClockedPort) (reader : Progress) → IsOpen before →
-        All AreOctetsIn came → until_close came ≡ came →
-        ServeEnding count came (left_by (stands_at p before) came) answer done seen port reader →
-        (some behind : List Act) → acts_of (stands_at p before) came ++ done ≡ some ++ behind → (rest : List ℕ)
+    ensures sent { (p : ClockedPort) (before came : List Arrival) (can : Bool) (count : ℕ) (hearing : Hearing)
+        (answer : Result TurnsEnd DriveFault) (done : List Act) (last : List HookStep) (port : ClockedPort) (reader : Progress) →
+        IsOpen before → All AreOctetsIn came → until_close came ≡ came →
+        ServeEnding can count (only came) hearing (left_by (stands_at p before) (only came)) answer done last port reader →
+        (some behind : List Act) → acts_of (stands_at p before) (only came) ++ done ≡ some ++ behind → (rest : List ℕ)
         × (served p (before ++ came_in some) ≡ served p before ++ (sent_in some ++ rest)) }
-    ensures items { (p : ClockedPort) (before came : List Arrival) (count : ℕ) (answer : Result Ran DriveFault)
-        (done : List Act) (seen : List Look) (port : ClockedPort) (reader : Progress) → IsOpen before →
-        All AreOctetsIn came → until_close came ≡ came →
-        ServeEnding count came (left_by (stands_at p before) came) answer done seen port reader → (rest : List Item)
-        × (items_served p (before ++ came_in (acts_of (stands_at p before) came ++ done)) ≡ items_served p before
-        ++ (items_in (looks_of (stands_at p before) came ++ seen) ++ rest)) }
+    ensures items { (p : ClockedPort) (before came : List Arrival) (can : Bool) (count : ℕ) (hearing : Hearing)
+        (answer : Result TurnsEnd DriveFault) (done : List Act) (last : List HookStep) (port : ClockedPort) (reader : Progress) →
+        IsOpen before → All AreOctetsIn came → until_close came ≡ came →
+        ServeEnding can count (only came) hearing (left_by (stands_at p before) (only came)) answer done last port reader →
+        (rest : List Item)
+        × (items_served p (before ++ came_in (acts_of (stands_at p before) (only came) ++ done)) ≡ items_served p before
+        ++ (items_in (hook_steps (stands_at p before) (only came) ++ last) ++ rest)) }
 {
     laws_below();
 }
 
 /// Turns that go on where others left a server are one.
 pub fn servers_go_on()
-    ensures left { (s : Service) (xs ys : List Arrival) → left_by s (xs ++ ys) ≡ left_by (left_by s xs) ys }
-    ensures acts { (s : Service) (xs ys : List Arrival) →
+    ensures left { (s : Service) (xs ys : List Turn) → left_by s (xs ++ ys) ≡ left_by (left_by s xs) ys }
+    ensures acts { (s : Service) (xs ys : List Turn) →
         acts_of s (xs ++ ys) ≡ acts_of s xs ++ acts_of (left_by s xs) ys }
-    ensures looks { (s : Service) (xs ys : List Arrival) →
-        looks_of s (xs ++ ys) ≡ looks_of s xs ++ looks_of (left_by s xs) ys }
+    ensures hooks { (s : Service) (xs ys : List Turn) →
+        hook_steps s (xs ++ ys) ≡ hook_steps s xs ++ hook_steps (left_by s xs) ys }
 {}
 
-/// What a wire tells after some acts, and the watcher of a server after some looks, is what happened.
-pub fn what_happened_is_told<C: Catalogue, W: Wire, V: WatchPort<C>>()
+/// What a wire tells after some acts is what happened; and what hooks tell, if with each item that they are lent they tell
+/// one more, are the items that went to air.
+pub fn what_happened_is_told<C: Catalogue, W: Wire, H: ServerHooks<C>>()
     ensures wire { (acts : List Act) (old new : W) (t : Told) → Chain W.does acts old new → W.told old ≡ Some t →
         W.told new ≡ Some (told_after_all acts t) }
-    ensures watcher { (looks : List Look) (old new : V) (items : List Item) →
-        Chain (λ look. tells_airing V.watched look.aired) looks old new → V.watched old ≡ Some items →
-        V.watched new ≡ Some (items ++ items_in looks) }
+    ensures hooks { (tell : H → List Item) (steps : List HookStep) (old new : H) →
+        ((step : HookStep) (a b : H) → H.does step a b → tell b ≡ tell a ++ items_in (step ∷ [])) →
+        Chain H.does steps old new → tell new ≡ tell old ++ items_in steps }
     // A stream whose bytes are known has gained just the bytes that went out.
     ensures stream { (acts : List Act) (old new : Streamed) → Chain StreamDoes acts old new →
         Appends old.written new.written (sent_in acts) }
 {}
+
+/// What one event more makes of what a server has sent, aired and is left with.
+pub fn one_event_more()
+    ensures { (s : Service) (turns : List Turn) (what : Turn) → HasMore s turns what }
+{
+    laws_below();
+}
+
+/// At each moment of a server's turns, however it hears and wherever frames pass, also in an answer that the wire cuts
+/// short, what went out is a beginning of what it answers to what had happened by then.
+pub fn what_goes_out_is_answered()
+    ensures { (s : Service) (turns : List Turn) (can : Bool) (count : ℕ) (hearing : Hearing) (answer : Result TurnsEnd DriveFault)
+        (done : List Act) (last : List HookStep) (port : ClockedPort) (reader : Progress) →
+        ServeEnding can count turns hearing (left_by s turns) answer done last port reader → (some behind : List Act) →
+        acts_of s turns ++ done ≡ some ++ behind → (more : List Turn) × IsMoment s (turns ++ more) some }
+{
+    laws_below();
+}

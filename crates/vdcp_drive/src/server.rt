@@ -1,36 +1,37 @@
-//! The server's end: it listens, and answers what comes.
+//! The server's end: it listens, and answers what comes, and frames pass at its port.
 ghost use Rattle.std.specs.Option.{option_to_list};
-ghost use Rattle.std.specs.Prelude.{◌≡◌, ◌≢◌, ◌≤◌, [], List, ℕ, IfOk, OnOk, OnErr, IsErr, None};
+ghost use Rattle.std.specs.Prelude.{◌≡◌, ◌≢◌, ◌≤◌, Bool, [], List, ℕ, IfOk, IfSome, OnOk, OnErr, IsErr, None, true};
 ghost use Rattle.vdcp_frame.specs.Message.{content_of, AreOctets};
 ghost use Rattle.vdcp_frame.specs.Progress.{reading};
-ghost use Rattle.vdcp_frame.specs.Reader.{ended_of};
-ghost use Rattle.vdcp_port.specs.Answers as answered;
 ghost use Rattle.vdcp_port.specs.Answers.{answer_bytes, bytes_for, items_for};
 ghost use Rattle.vdcp_port.specs.Clock.{after_frame, after_message, answer_to};
-ghost use Rattle.vdcp_drive.specs.ServeLeaves.{HasBroken, HasTaken, HasTurned, ServeLeaves};
-ghost use Rattle.vdcp_drive.specs.Serving.{HasRead, last_aired, sending};
+ghost use Rattle.vdcp_words.specs.Replies.{IsWritableReply};
+ghost use Rattle.vdcp_drive.specs.ServeLeaves.{HasBroken, HasTaken, HasTurned, ServeLeaves, due_by, listened};
+ghost use Rattle.vdcp_drive.specs.ServerEars.{ServerEar, HasRead, rests, says};
+ghost use Rattle.vdcp_drive.specs.Serving.{asked, last_aired, sending};
 ghost use Rattle.vdcp_drive.specs.Steps.{Chain};
-ghost use Rattle.vdcp_drive.specs.Watching.{tells_airing};
 ghost use Rattle.vdcp_wire.specs.Acts.{OfFront, sends};
 
+use crate::hearing::Hearing;
 use crate::laws;
-use crate::line::{DriveFault, Line, Ran};
-use crate::watch::WatchPort;
+use crate::line::{DriveFault, TurnsEnd};
+use crate::server_hooks::{Due, ServerHooks, Turned};
 use std::marker::Model;
 use vdcp_frame::{Got, Message, Reader, laws as bursts};
 use vdcp_port::{Catalogue, Port, laws as answers, reply_at_end};
 use vdcp_value::Item;
 use vdcp_wire::{Came, PIECE, Wire, WireFault};
+use vdcp_words::Reply;
 
 /// The server's end of one playout channel, over a wire.
 ///
-/// `turn` and `serve` listen and answer; `wire`, `port` and `aired` only look. An answer goes out as
-/// soon as its message is read. At a silence the burst ends: its end is answered, and then one frame
-/// passes at the port.
+/// `turn` and `serve` listen and answer; `pass_frame` lets a frame pass; `wire`, `port` and `aired` only look. An answer
+/// goes out as soon as its message is read.
 #[derive(Drop)]
 pub struct Server<C: Catalogue, W: Wire> {
     port: Port<C>,
     wire: W,
+    hearing: Hearing,
     reader: Reader,
     aired: Option<Item>,
     failed: bool,
@@ -42,23 +43,25 @@ impl<C: Catalogue, W: Wire> Model for Server<C, W> {
 
     ghost Value = { Serving W };
 
-    ghost view = { λ s. record { port = s.port; wire = s.wire; reader = s.reader; aired = s.aired } };
+    ghost view = { λ s. record { port = s.port; wire = s.wire; hearing = s.hearing; reader = s.reader; aired = s.aired } };
 
     ghost invariant = { λ s. W.failures s.wire ≡ (if s.failed then 1 else 0) };
 }
 
 impl<C: Catalogue, W: Wire> Server<C, W> {
-    /// A server with this port, at the start of a burst.
-    pub fn new(port: Port<C>, wire: W) -> Self
+    /// A server with this port, to which nothing has come.
+    pub fn new(port: Port<C>, hearing: Hearing, wire: W) -> Self
         requires { W.failures wire ≡ 0 }
         ensures port { result.port ≡ port }
         ensures wire { result.wire ≡ wire }
+        ensures hearing { result.hearing ≡ hearing }
         ensures reader { result.reader ≡ reading 0 [] }
         ensures aired { result.aired ≡ None }
     {
         Server {
             port,
             wire,
+            hearing,
             reader: Reader::new(),
             aired: None,
             failed: false,
@@ -94,32 +97,74 @@ impl<C: Catalogue, W: Wire> Server<C, W> {
         self.aired
     }
 
-    /// Takes this many turns, or fewer if the other end closes. After each `watcher` is lent the port, with the item that
-    /// the turn put to air. `Device` if the wire fails or has failed before.
-    pub fn serve<V: WatchPort<C>>(&mut self, turns: u64, watcher: &mut V) -> Result<Ran, DriveFault>
-        ensures leaves { ServeLeaves W.does (λ looks. Chain (λ look. tells_airing V.watched look.aired) looks watcher.old
-            watcher.new) W.failures turns self.old self.new result }
+    /// Takes this many turns, or fewer if the other end closes or the hooks give the line up. At each these are asked what
+    /// is due: it listens, or a frame passes. After each they are lent the port, with the item that the turn put to air.
+    /// `Device` if the wire fails or has failed before.
+    pub fn serve<H: ServerHooks<C>>(
+        &mut self,
+        turns: u64,
+        hooks: &mut H,
+    ) -> Result<TurnsEnd, DriveFault>
+        ensures leaves { ServeLeaves W.does H.can_act (λ steps. Chain H.does steps hooks.old hooks.new) W.failures turns
+            self.old self.new result }
     {
         if self.failed {
             return Err(DriveFault::Device);
         }
         let mut made = 0;
         'turns: while made < turns {
-            let line = self.turn();
-            watcher.look(&self.port, self.aired);
-            if let Line::Closed = line? {
-                return Ok(Ran::Closed);
+            let Some(turned) = self.turn_due(hooks) else {
+                return Ok(TurnsEnd::GivenUp);
+            };
+            hooks.look(&self.port, self.aired, turned);
+            if turned?.closes() {
+                return Ok(TurnsEnd::Closed);
             }
             made += 1;
         }
-        Ok(Ran::Spent)
+        Ok(TurnsEnd::Spent)
+    }
+
+    // What is due is done: gives what this was, or none if the line is given up.
+    fn turn_due<H: ServerHooks<C>>(&mut self, hooks: &mut H) -> Option<Result<Turned, DriveFault>>
+        requires { W.failures self.old.wire ≡ 0 }
+        ensures serves { (ear : ServerEar) → HasRead self.old.hearing ear self.old.reader →
+            IfSome result (λ turned. HasTurned W.does H.can_act self.old.hearing (record { port = self.old.port; ear = ear })
+            self.old.wire turned self.new.port self.new.reader self.new.aired self.new.wire) }
+        ensures asks { H.does (asked (due_by result)) hooks.old hooks.new }
+        ensures gives_up { result ≡ None → (self.new ≡ self.old) × (H.can_act ≡ true) }
+        ensures hears { self.new.hearing ≡ self.old.hearing }
+        ensures works { IfSome result (λ turned. OnOk turned (W.failures self.new.wire ≡ 0)) }
+        ensures device { IfSome result (λ turned. OnErr turned (W.failures self.new.wire ≡ 1)) }
+    {
+        match hooks.due() {
+            Due::Listen => Some(match self.turn() {
+                Ok(came) => Ok(Turned::Listen(came)),
+                Err(fault) => Err(fault),
+            }),
+            Due::Frame => {
+                self.pass_frame();
+                Some(Ok(Turned::Frame))
+            }
+            Due::GiveUp => None,
+        }
+    }
+
+    /// A frame passes at the port. This tells the reader nothing.
+    pub fn pass_frame(&mut self)
+        ensures { self.new ≡ record self.old { port = after_frame self.old.port; aired = None } }
+    {
+        self.aired = None;
+        self.port.frame();
     }
 
     /// Listens once on the wire, and answers what came. `Device` if the wire fails or has failed before.
-    pub fn turn(&mut self) -> Result<Line, DriveFault>
-        ensures serves { W.failures self.old.wire ≡ 0 → (burst : List ℕ) → HasRead burst self.old.reader →
-            HasTurned W.does (record { port = self.old.port; burst = burst }) self.old.wire result self.new.port
-            self.new.reader self.new.aired self.new.wire }
+    pub fn turn(&mut self) -> Result<Came, DriveFault>
+        ensures serves { W.failures self.old.wire ≡ 0 → (can : Bool) (ear : ServerEar) →
+            HasRead self.old.hearing ear self.old.reader →
+            HasTurned W.does can self.old.hearing (record { port = self.old.port; ear = ear }) self.old.wire
+            (listened result) self.new.port self.new.reader self.new.aired self.new.wire }
+        ensures hears { self.new.hearing ≡ self.old.hearing }
         ensures works { OnOk result (W.failures self.new.wire ≡ 0) }
         ensures device { OnErr result (W.failures self.new.wire ≡ 1) }
         ensures stays { W.failures self.old.wire ≡ 1 → IsErr result × (self.new ≡ self.old) }
@@ -128,12 +173,13 @@ impl<C: Catalogue, W: Wire> Server<C, W> {
             return Err(DriveFault::Device);
         }
         match hear(
+            self.hearing,
             &mut self.reader,
             &mut self.port,
             &mut self.aired,
             &mut self.wire,
         ) {
-            Ok(line) => Ok(line),
+            Ok(came) => Ok(came),
             Err(WireFault) => {
                 self.failed = true;
                 Err(DriveFault::Device)
@@ -144,38 +190,36 @@ impl<C: Catalogue, W: Wire> Server<C, W> {
 
 // Listens once, and answers what came.
 fn hear<C: Catalogue, W: Wire>(
+    hearing: Hearing,
     reader: &mut Reader,
     port: &mut Port<C>,
     aired: &mut Option<Item>,
     wire: &mut W,
-) -> Result<Line, WireFault>
+) -> Result<Came, WireFault>
     requires { W.failures wire.old ≡ 0 }
-    ensures serves { (burst : List ℕ) → HasRead burst reader.old →
-        HasTurned W.does (record { port = port.old; burst = burst }) wire.old result port.new reader.new aired.new
-        wire.new }
+    ensures serves { (can : Bool) (ear : ServerEar) → HasRead hearing ear reader.old →
+        HasTurned W.does can hearing (record { port = port.old; ear = ear }) wire.old (listened result) port.new reader.new
+        aired.new wire.new }
     ensures works { OnOk result (W.failures wire.new ≡ 0) }
     ensures failed { OnErr result (W.failures wire.new ≡ 1) }
 {
-    laws::laws_below();
-    bursts::what_is_fed_is_followed();
-    answers::one_answer_to_the_end();
     *aired = None;
     let mut buffer = [0; PIECE];
-    match wire.listen(&mut buffer)? {
-        Came::Bytes(n) => {
-            take_piece(reader, port, aired, wire, &buffer[..n])?;
-            Ok(Line::More)
-        }
+    let came = wire.listen(&mut buffer)?;
+    match came {
+        Came::Bytes(n) => take_piece(hearing, reader, port, aired, wire, &buffer[..n])?,
         Came::Silence => {
-            end_burst(reader, port, wire)?;
-            Ok(Line::Ended)
+            let reply = rest(hearing, reader);
+            end_burst(hearing, reply, port, wire)?;
         }
-        Came::Closed => Ok(Line::Closed),
+        Came::Closed => {}
     }
+    Ok(came)
 }
 
-// Takes bytes of a burst, and answers each message once it is whole.
+// Takes bytes, and answers each message once it is whole.
 fn take_piece<C: Catalogue, W: Wire>(
+    hearing: Hearing,
     reader: &mut Reader,
     port: &mut Port<C>,
     aired: &mut Option<Item>,
@@ -183,11 +227,11 @@ fn take_piece<C: Catalogue, W: Wire>(
     piece: &[u8],
 ) -> Result<(), WireFault>
     requires { W.failures wire.old ≡ 0 }
-    ensures taken { (burst : List ℕ) → HasRead burst reader.old → OnOk result (HasTaken W.does
-        (record { port = port.old; burst = burst }) aired.old wire.old piece.now port.new reader.new aired.new
+    ensures taken { (ear : ServerEar) → HasRead hearing ear reader.old → OnOk result (HasTaken W.does hearing
+        (record { port = port.old; ear = ear }) aired.old wire.old piece.now port.new reader.new aired.new
         wire.new) }
-    ensures broken { (burst : List ℕ) → HasRead burst reader.old → OnErr result (HasBroken W.does
-        (record { port = port.old; burst = burst }) aired.old wire.old piece.now port.new aired.new wire.new) }
+    ensures broken { (ear : ServerEar) → HasRead hearing ear reader.old → OnErr result (HasBroken W.does
+        (record { port = port.old; ear = ear }) aired.old wire.old piece.now port.new aired.new wire.new) }
     ensures fits { AreOctets piece.now }
     ensures works { OnOk result (W.failures wire.new ≡ 0) }
     ensures failed { OnErr result (W.failures wire.new ≡ 1) }
@@ -197,7 +241,12 @@ fn take_piece<C: Catalogue, W: Wire>(
     let mut rest = piece;
     'piece: loop {
         match reader.next(&mut rest) {
-            Got::Message(message) => answer(port, aired, wire, &message)?,
+            Got::Message(message) => {
+                answer(port, aired, wire, &message)?;
+                if let Hearing::AtOnce = hearing {
+                    reader.silence();
+                }
+            }
             Got::Fault(_, _) => {}
             Got::More => return Ok(()),
         }
@@ -232,27 +281,45 @@ fn answer<C: Catalogue, W: Wire>(
     }
 }
 
-// The burst ends at a silence: its end is answered, and a frame passes at the port.
+// The line is silent: gives what is answered. A burst ends there, and in a stream only a fault does.
+fn rest(hearing: Hearing, reader: &mut Reader) -> Option<Reply>
+    ensures says { (ear : ServerEar) → HasRead hearing ear reader.old → option_to_list result ≡ says ear }
+    ensures rests { (ear : ServerEar) → HasRead hearing ear reader.old → HasRead hearing (rests ear) reader.new }
+    ensures readable { IfSome result IsWritableReply }
+{
+    laws::laws_below();
+    answers::one_answer_to_the_end();
+    if let Hearing::AtOnce = hearing
+        && !reader.has_failed()
+    {
+        return None;
+    }
+    reply_at_end(reader.silence())
+}
+
+// Answers a silence, and if it ends a burst, a frame passes at the port.
 fn end_burst<C: Catalogue, W: Wire>(
-    reader: &mut Reader,
+    hearing: Hearing,
+    reply: Option<Reply>,
     port: &mut Port<C>,
     wire: &mut W,
 ) -> Result<(), WireFault>
-    requires { W.failures wire.old ≡ 0 }
-    ensures sent { OnOk result (Chain W.does (sending port.old.state.unit
-        (option_to_list (answered.reply_at_end (ended_of reader.old)))) wire.old wire.new) }
-    ensures front { OnErr result (OfFront (answer_bytes port.old.state.unit
-        (option_to_list (answered.reply_at_end (ended_of reader.old)))) (λ front.
+    requires wire { W.failures wire.old ≡ 0 }
+    requires readable { IfSome reply IsWritableReply }
+    ensures sent { OnOk result (Chain W.does (sending port.old.state.unit (option_to_list reply)) wire.old wire.new) }
+    ensures front { OnErr result (OfFront (answer_bytes port.old.state.unit (option_to_list reply)) (λ front.
         W.does (sends front) wire.old wire.new)) }
-    ensures next { OnOk result (port.new ≡ after_frame port.old) }
+    ensures bursts { OnOk result (hearing ≡ Hearing.AtSilences → port.new ≡ after_frame port.old) }
+    ensures streams { OnOk result (hearing ≡ Hearing.AtOnce → port.new ≡ port.old) }
     ensures unended { OnErr result (port.new ≡ port.old) }
-    ensures restarts { reader.new ≡ reading 0 [] }
     ensures works { OnOk result (W.failures wire.new ≡ 0) }
     ensures failed { OnErr result (W.failures wire.new ≡ 1) }
 {
-    if let Some(reply) = reply_at_end(reader.silence()) {
+    if let Some(reply) = reply {
         wire.send(reply.encode(port.unit()).as_slice())?;
     }
-    port.frame();
+    if let Hearing::AtSilences = hearing {
+        port.frame();
+    }
     Ok(())
 }

@@ -6,6 +6,7 @@ returns c = record {
   only = c.one_spelling.ensures.only;
   octets = c.what_is_spelt_is_bytes.ensures.message;
   size = c.what_is_spelt_is_bytes.ensures.size;
+  start = c.what_is_fed_is_followed.ensures.start;
   alone = c.a_spelling_is_its_message.ensures.messages;
   before = c.a_spelling_is_its_message.ensures.before;
   some = c.one_reading.ensures.some;

@@ -1,6 +1,5 @@
-use Rattle.std.proofs.Common.{ℕ, List, ◌-◌, ◌≡◌, ◌≤◌, false}
-use Rattle.vdcp_drive.specs.Serving.{HasRead, Look}
-use Rattle.vdcp_drive.specs.Watching.{tells_airing}
+use Rattle.std.proofs.Common.{◌-◌, ◌≡◌, ◌≤◌, false}
+use Rattle.vdcp_drive.specs.ServerEars.{ServerEar, HasRead}
 use Rattle.vdcp_drive.proofs.Serving.{Stands}
 use Rattle.vdcp_drive.proofs.server.Server.serve.Given as goal
 
@@ -9,10 +8,11 @@ invariant-turns g l =
     record {
       within : l.made ≤ l.turns;
       works : g.W.Wire.failures l.self.wire ≡ 0;
-      stands : (burst : List ℕ) → HasRead burst l.fn.self.reader
-          → Stands g.W.Wire.does (λ (look : Look). tells_airing g.V.WatchPort.watched look.aired) l.made
-          (record { port = l.fn.self.port; burst = burst }) l.self.port l.self.reader l.fn.self.wire l.self.wire
-          l.fn.watcher l.watcher false;
+      hears : l.self.hearing ≡ l.fn.self.hearing;
+      stands : (ear : ServerEar) → HasRead l.fn.self.hearing ear l.fn.self.reader
+          → Stands g.W.Wire.does g.H.ServerHooks.can_act g.H.ServerHooks.does l.made l.fn.self.hearing
+          (record { port = l.fn.self.port; ear = ear }) l.self.port l.self.reader l.fn.self.wire l.self.wire
+          l.fn.hooks l.hooks false;
     }
 
 abbrev pub decreases-turns : goal.decreases-turns
