@@ -134,7 +134,7 @@ impl<S: Source> Hooks<S> for Unhooked {
 impl<S: Source, H: Hooks<S>> Hooks<S> for Option<H> {
     ghost use Rattle.std.specs.Option.{option_map};
     ghost use Rattle.std.specs.Prelude.{Option};
-    ghost use Rattle.vdcp_drive.specs.Hooked.{MayKeep};
+    ghost use Rattle.vdcp_drive.specs.Hooked.{MayKeep, MayLose};
 
     ghost Journal = { Option H.Journal };
 
@@ -142,7 +142,7 @@ impl<S: Source, H: Hooks<S>> Hooks<S> for Option<H> {
 
     ghost adds = { MayKeep H.adds };
 
-    ghost loses = { MayKeep H.loses };
+    ghost loses = { MayLose H.loses };
 
     ghost can_fail = { H.can_fail };
 

@@ -4,7 +4,7 @@ use Rattle.std.specs.Prelude.{Option, None, Some, Result, Ok, Err}
 use Rattle.vdcp_auto.specs.Plan.{Plan}
 use Rattle.vdcp_drive.specs.Auto.{AreMade, Auto, Event, arrives, calls, gives, heeds, listens}
 use Rattle.vdcp_drive.specs.Ears.{Fold}
-use Rattle.vdcp_drive.specs.Hooked.{MayKeep}
+use Rattle.vdcp_drive.specs.Hooked.{MayKeep, MayLose}
 use Rattle.vdcp_drive.specs.Keeping.{HasKept, KeepsRun}
 use Rattle.vdcp_drive.specs.Leaves.{IsRun}
 use Rattle.vdcp_drive.specs.Steps.{Chain}
@@ -51,29 +51,29 @@ all_kept adds (one ∷ more) k new chain =
     kept_on adds one more k chain.0 new chain.1 chain.2 (λ l. all_kept adds more l new)
 
 one_lost : {J : Type 0} (loses : Kept → J → J → Type 0) (one : Kept) (k : J) (new : Option J)
-    → MayKeep loses one (Some k) new → (m : J) × (new ≡ Some m) × loses one k m
+    → MayLose loses one (Some k) new → (m : J) × (new ≡ Some m) × loses one k m
 one_lost loses one k None lost = absurd lost
 one_lost loses one k (Some m) lost = (m, refl, lost)
 
 has_kept : {J : Type 0} (adds loses : Kept → J → J → Type 0) (answer : Result Ran KeptFault) (notes : List Kept) (k : J)
-    (new : Option J) → HasKept (MayKeep adds) (MayKeep loses) answer notes (Some k) new
+    (new : Option J) → HasKept (MayKeep adds) (MayLose loses) answer notes (Some k) new
     → (m : J) × (new ≡ Some m) × HasKept adds loses answer notes k m
 has_kept adds loses (Ok ran) notes k new kept = all_kept adds notes k new kept
 has_kept adds loses (Err fault.Device) notes k new kept = all_kept adds notes k new kept
 has_kept {J} adds loses (Err fault.Unkept) notes k new kept =
     let all = all_kept adds notes k kept.0 kept.2 in
     let lost = one_lost loses kept.1 all.0 new
-    (subst (λ (o : Option J). MayKeep loses kept.1 o new) all.1 kept.3) in
+    (subst (λ (o : Option J). MayLose loses kept.1 o new) all.1 kept.3) in
     (lost.0, lost.1, (all.0, kept.1, all.2, lost.2))
 
 pub keeps_by_one : {E W J : Type 0} (adds loses : Kept → J → J → Type 0) (told : W → Option Told) (fold : Fold E)
     (plan : Plan) (unit : ℕ) (a a' : Auto E) (wire wire' : W) (answer : Result Ran KeptFault) (k : J) (old new : Option J)
     (events : List Event) (notes : List Kept) → old ≡ Some k
-    → KeepsRun (MayKeep adds) (MayKeep loses) told fold plan unit a a' wire wire' answer old new events notes
+    → KeepsRun (MayKeep adds) (MayLose loses) told fold plan unit a a' wire wire' answer old new events notes
     → (m : J) × (new ≡ Some m) × KeepsRun adds loses told fold plan unit a a' wire wire' answer k m events notes
 keeps_by_one {J = J} adds loses told fold plan unit a a' wire wire' answer k old new events notes is n =
     let kept = has_kept adds loses answer notes k new
-    (subst (λ (o : Option J). HasKept (MayKeep adds) (MayKeep loses) answer notes o new) is n.noted) in
+    (subst (λ (o : Option J). HasKept (MayKeep adds) (MayLose loses) answer notes o new) is n.noted) in
     (kept.0, kept.1, record { noted = kept.2; shows = n.shows; sends = n.sends; comes = n.comes })
 
 -- Without one, there is none.
@@ -85,8 +85,8 @@ none_kept {J} adds (one ∷ more) old new is chain =
     none_kept adds more chain.0 new (subst (λ (o : Option J). MayKeep adds one o chain.0) is chain.1) chain.2
 
 pub keeps_none : {J : Type 0} (adds loses : Kept → J → J → Type 0) (answer : Result Ran KeptFault) (notes : List Kept)
-    (old new : Option J) → old ≡ None → HasKept (MayKeep adds) (MayKeep loses) answer notes old new → new ≡ None
+    (old new : Option J) → old ≡ None → HasKept (MayKeep adds) (MayLose loses) answer notes old new → new ≡ None
 keeps_none adds loses (Ok ran) notes old new is kept = none_kept adds notes old new is kept
 keeps_none adds loses (Err fault.Device) notes old new is kept = none_kept adds notes old new is kept
 keeps_none {J} adds loses (Err fault.Unkept) notes old new is kept =
-    subst (λ (o : Option J). MayKeep loses kept.1 o new) (none_kept adds notes old kept.0 is kept.2) kept.3
+    absurd (subst (λ (o : Option J). MayLose loses kept.1 o new) (none_kept adds notes old kept.0 is kept.2) kept.3)

@@ -2,7 +2,7 @@
 ghost use Rattle.std.specs.Prelude.{◌≡◌, ℕ, Bool, None, Option, Result, Some};
 ghost use Rattle.vdcp_auto.specs.Plan.{Plan};
 ghost use Rattle.vdcp_drive.specs.Auto.{Auto};
-ghost use Rattle.vdcp_drive.specs.Hooked.{MayKeep};
+ghost use Rattle.vdcp_drive.specs.Hooked.{MayKeep, MayLose};
 ghost use Rattle.vdcp_drive.specs.Leaves.{HasRun, steps_in};
 ghost use Rattle.vdcp_drive.specs.Steps.{World};
 ghost use Rattle.vdcp_drive.specs.Traces.{kept_in};
@@ -34,13 +34,13 @@ pub fn a_run_is_recorded<
     ensures recorded { (can : Bool) (plan : Plan) (unit count : ℕ) (a a' : Auto E)
         (old new : World W (Option (Recording F))) (answer : Result Ran KeptFault) →
         (h : HasRun (record
-        { does = W.does; adds = MayKeep (Notes F.safe); loses = MayKeep (Loses F.safe); can_call = can }) E.fold plan unit
+        { does = W.does; adds = MayKeep (Notes F.safe); loses = MayLose (Loses F.safe); can_call = can }) E.fold plan unit
         count a a' old new answer) → (before : Recording F) → old.keep ≡ Some before → MayHold before.pending →
         (since : Recording F) × (new.keep ≡ Some since) × IsRecorded F.safe W.told E.fold plan unit a a' old.wire new.wire
         answer before since h.run.events (kept_in (steps_in h.run)) }
     ensures unrecorded { (can : Bool) (plan : Plan) (unit count : ℕ) (a a' : Auto E)
         (old new : World W (Option (Recording F))) (answer : Result Ran KeptFault) → HasRun (record
-        { does = W.does; adds = MayKeep (Notes F.safe); loses = MayKeep (Loses F.safe); can_call = can }) E.fold plan unit
+        { does = W.does; adds = MayKeep (Notes F.safe); loses = MayLose (Loses F.safe); can_call = can }) E.fold plan unit
         count a a' old new answer → old.keep ≡ None → new.keep ≡ None }
 {
     laws::what_a_run_keeps::<S, E, W, Option<Recorder<'a, 'r, R, F>>>();

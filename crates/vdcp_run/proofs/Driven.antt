@@ -8,7 +8,7 @@ use Rattle.vdcp_wire.specs.Acts.{Act}
 use Rattle.vdcp_wire.specs.Wires.{Arrival}
 use Rattle.vdcp_drive.specs.Auto.{Auto, Driving, auto_of}
 use Rattle.vdcp_drive.specs.Ears.{Fold}
-use Rattle.vdcp_drive.specs.Hooked.{MayKeep}
+use Rattle.vdcp_drive.specs.Hooked.{MayKeep, MayLose}
 use Rattle.vdcp_drive.specs.Leaves.{Ending, HasRun, RunLeaves, by_itself, in_drop, in_keep, in_listen, in_send, steps_in}
 use Rattle.vdcp_drive.specs.Steps.{Happens, Rules, Step, World, acts, keeps, misses, steps_of}
 use Rattle.vdcp_drive.specs.declared.hooks.Kept.{Kept}
@@ -18,12 +18,12 @@ use Rattle.vdcp_drive.specs.declared.hooks.KeptFault.TheVariants as fault
 use Rattle.vdcp_drive.specs.declared.line.Ran.{Ran}
 use Rattle.vdcp_drive.specs.declared.line.Ran.TheVariants as ran
 use Rattle.vdcp_list.specs.Rests.{FromEvent, items_left}
-use Rattle.vdcp_journal_file.specs.Recorded.{Notes}
+use Rattle.vdcp_journal_file.specs.Recorded.{Loses, Notes}
 use Rattle.vdcp_journal_file.specs.Recording.{Recording}
 use Rattle.vdcp_run.proofs.Ends.{EndedWith, comes_so}
 use Rattle.vdcp_run.specs.Ends.{line_end_of, outcome_in_list}
 use Rattle.vdcp_run.specs.Run.{ComesTo, EndsRun, HasAsrun, IsEndBy, MayBeUnkept, journal_of}
-use Rattle.vdcp_run.specs.Session.{IsClosed, MayLose, Plays, rules_of, start_of}
+use Rattle.vdcp_run.specs.Session.{IsClosed, Plays, rules_of, start_of}
 use Rattle.vdcp_run.specs.Waiting.{RunsFrom, over}
 use Rattle.vdcp_run.specs.declared.run_end.LineEnd.TheVariants as line_end
 use Rattle.vdcp_run.specs.declared.run_end.RunEnd.{RunEnd}
@@ -88,10 +88,10 @@ module _ {W F : Type 0} (does : Act → W → W → Type 0) (safe : F → Option
   name_noted row.Silence (Some old) (Some new) (time, is) = ap (λ (r : Recording F). Some r.name) is
   name_noted (row.Called c) (Some old) (Some new) (time, made, is) = ap (λ (r : Recording F). Some r.name) is
 
-  name_lost : (r : Kept) (old new : Option (Recording F)) → MayLose safe r old new → journal_of new ≡ journal_of old
-  name_lost r None new (some, h) = cc
-  name_lost r (Some old) None (some, h) = absurd h
-  name_lost r (Some old) (Some new) (some, (time, fault, made, is)) = ap (λ (r : Recording F). Some r.name) is
+  name_lost : (r : Kept) (old new : Option (Recording F)) → MayLose (Loses safe) r old new → journal_of new ≡ journal_of old
+  name_lost r None new h = absurd h
+  name_lost r (Some old) None h = absurd h
+  name_lost r (Some old) (Some new) (time, fault, made, is) = ap (λ (r : Recording F). Some r.name) is
 
   names_stay : (steps : List Step) (old new : World W (Option (Recording F))) → Happens (rules_of does safe) steps old new
       → journal_of new.keep ≡ journal_of old.keep
@@ -103,9 +103,9 @@ module _ {W F : Type 0} (does : Act → W → W → Type 0) (safe : F → Option
   names_stay (misses r ∷ later) old new (next, (lost, is), rest) =
       names_stay later next new rest ∙ name_lost r old.keep next.keep lost
 
-  has_lost : (r : Kept) (old new : Option (Recording F)) → MayLose safe r old new → IsSome new
-  has_lost r None new (some, h) = cc
-  has_lost r (Some old) None (some, h) = absurd h
+  has_lost : (r : Kept) (old new : Option (Recording F)) → MayLose (Loses safe) r old new → IsSome new
+  has_lost r None new h = absurd h
+  has_lost r (Some old) None h = absurd h
   has_lost r (Some old) (Some new) h = refl
 
   last_lost : (steps : List Step) (r : Kept) (old new : World W (Option (Recording F)))

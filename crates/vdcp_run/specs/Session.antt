@@ -7,14 +7,13 @@ use Rattle.vdcp_auto.specs.declared.outcome.Outcome.{Outcome}
 use Rattle.vdcp_drive.specs.Auto.{Auto}
 use Rattle.vdcp_drive.specs.Ears.{Fold}
 use Rattle.vdcp_drive.specs.Hearing as ears
-use Rattle.vdcp_drive.specs.Hooked.{MayKeep}
+use Rattle.vdcp_drive.specs.Hooked.{MayKeep, MayLose}
 use Rattle.vdcp_drive.specs.Leaves.{HasRun}
 use Rattle.vdcp_drive.specs.Reading.{holds}
 use Rattle.vdcp_drive.specs.Steps.{Rules, World}
 use Rattle.vdcp_drive.specs.Vacancy.{HasAsked}
 use Rattle.vdcp_drive.specs.declared.hooks.Call.{Call}
 use Rattle.vdcp_drive.specs.declared.hooks.Call.TheVariants.{Stop}
-use Rattle.vdcp_drive.specs.declared.hooks.Kept.{Kept}
 use Rattle.vdcp_drive.specs.declared.hooks.KeptFault.{KeptFault}
 use Rattle.vdcp_drive.specs.declared.line.Ran.{Ran}
 use Rattle.vdcp_drive.specs.declared.vacancy.Vacancy.{Vacancy}
@@ -61,13 +60,10 @@ IsClosed {F} safe outcome None (Some recorder) =
     (time : Moment) × (then : Recording F) × Adds safe recorder then (outcome_rows time outcome)
 IsClosed safe outcome (Some lack) (Some recorder) = Unit {0}
 
--- a journal failed to keep this; a run that has none fails in nothing
-abbrev pub MayLose : {F : Type 0} → (F → Option (List ℕ)) → Kept → Option (Recording F) → Option (Recording F) → Type 0
-MayLose safe note old new = IsSome old × MayKeep (Loses safe) note old new
-
 -- what its wire and its journal, if it has one, do in a step
 abbrev pub rules_of : {W F : Type 0} → (Act → W → W → Type 0) → (F → Option (List ℕ)) → Rules W (Option (Recording F))
-rules_of does safe = record { does = does; adds = MayKeep (Notes safe); loses = MayLose safe; can_call = true }
+rules_of does safe =
+    record { does = does; adds = MayKeep (Notes safe); loses = MayLose (Loses safe); can_call = true }
 
 -- with this ear a new driver ran, and came to this end: before each command went out and each call was given its journal,
 -- if it has one, had the rows safe that were due. Then the journal was ended

@@ -53,6 +53,17 @@ impl<'a, R: Clock, W: Wire> Lapsing<'a, R, W> {
         }
     }
 
+    // Whether a silence is due. (While nothing has come the clock isn't read.)
+    fn has_lapsed(&mut self) -> bool
+        ensures lapsed { result ≡ has_lapsed self.old.since self.old.patience self.old.sent self.new.stopwatch.now }
+        ensures keeps { self.new ≡ record self.old { stopwatch = self.new.stopwatch } }
+    {
+        match self.since {
+            Since::Nothing => false,
+            Since::Bytes => self.patience <= self.stopwatch.read().saturating_sub(self.sent),
+        }
+    }
+
     // Listens once, unless a silence is due.
     fn listen_in_time(&mut self, buffer: &mut [u8; PIECE]) -> Result<Came, WireFault>
         requires { W.failures self.old.wire ≡ 0 }
@@ -67,10 +78,7 @@ impl<'a, R: Clock, W: Wire> Lapsing<'a, R, W> {
             (has_lapsed self.old.since self.old.patience self.old.sent self.new.stopwatch.now) came self.old.since) }
         ensures sent { self.new.sent ≡ self.old.sent }
     {
-        let now = self.stopwatch.read();
-        if let Since::Bytes = self.since
-            && self.patience <= now.saturating_sub(self.sent)
-        {
+        if self.has_lapsed() {
             return Ok(Came::Silence);
         }
         let came = self.wire.listen(buffer)?;

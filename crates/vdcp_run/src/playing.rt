@@ -24,10 +24,9 @@ impl<
     V: io::Write + Drop,
 > Hooks<Rest<S>> for Playing<'_, '_, '_, R, F, I, O, V> {
     ghost use Rattle.std.specs.Prelude.{Option};
-    ghost use Rattle.vdcp_drive.specs.Hooked.{MayKeep};
-    ghost use Rattle.vdcp_journal_file.specs.Recorded.{Notes};
+    ghost use Rattle.vdcp_drive.specs.Hooked.{MayKeep, MayLose};
+    ghost use Rattle.vdcp_journal_file.specs.Recorded.{Loses, Notes};
     ghost use Rattle.vdcp_journal_file.specs.Recording.{Recording};
-    ghost use Rattle.vdcp_run.specs.Session.{MayLose};
 
     ghost Journal = { Option (Recording F) };
 
@@ -35,7 +34,7 @@ impl<
 
     ghost adds = { MayKeep (Notes F.safe) };
 
-    ghost loses = { MayLose F.safe };
+    ghost loses = { MayLose (Loses F.safe) };
 
     fn due(&mut self, controller: &Controller<Rest<S>>) -> Option<Call> {
         self.console.hand.call(controller)
