@@ -17,7 +17,7 @@ use std::time::{Duration, Instant};
 use vdcp_drive::DriveFault;
 use vdcp_log::{Hearing, Log, Logged};
 use vdcp_text::Failure;
-use vdcp_wire::{Duplex, StreamWire, WireFault};
+use vdcp_wire::{Duplex, StreamWire, Waits, WireFault};
 
 /// Listens at an address and takes one connection after another. The system has those wait that come meanwhile.
 #[derive(Drop)]
@@ -153,7 +153,12 @@ pub fn line_over<R: Clock, S: Duplex + Drop>(
     let wait = settings.pace.wait(settings.silence);
     let wire = match settings.idle {
         Some(seconds) => {
-            StreamWire::with_sending(stream, wait, Duration::from_secs(u64::from(seconds)))
+            let waits = Waits {
+                read: wait,
+                reads: 1,
+                send: Duration::from_secs(u64::from(seconds)),
+            };
+            StreamWire::with_waits(stream, waits)
         }
         None => StreamWire::new(stream, wait),
     }?;

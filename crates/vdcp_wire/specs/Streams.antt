@@ -2,7 +2,7 @@
 use Rattle.std.proofs.Common.{rules}
 use Rattle.std.specs.IoError.{error_kind}
 use Rattle.std.specs.Io.KnownBytes.{Appends, Consumes, Keeps}
-use Rattle.std.specs.Prelude.{ℕ, zero, suc, ◌≤◌, List, [], Option, Result, Ok, Err}
+use Rattle.std.specs.Prelude.{ℕ, zero, suc, ◌+◌, ◌≤◌, ◌≡◌, List, [], Option, Result, Ok, Err}
 use Rattle.std.specs.declared.io.Error.{Error}
 use Rattle.std.specs.declared.io.ErrorKind.{ErrorKind}
 use Rattle.std.specs.declared.io.ErrorKind.TheVariants.{WouldBlock, Interrupted}
@@ -14,11 +14,14 @@ use Rattle.vdcp_wire.specs.declared.wire.Came.{Came}
 use Rattle.vdcp_wire.specs.declared.wire.Came.TheVariants as came
 
 -- a wire over a connection: what is known of the connection, the bytes that its reads will give, and those that it
--- holds of what was written, if the connection tells them
+-- holds of what was written, if the connection tells them; how many reads in vain are a silence, and how many of them
+-- are left until the next one
 pub record Streamed : Type 0 where
   pub connection : Connection
   pub ahead : Option (List ℕ)
   pub written : Option (List ℕ)
+  pub reads : ℕ
+  pub left : ℕ
 
 -- some of the next bytes, or none, were taken
 abbrev pub Takes : Option (List ℕ) → Option (List ℕ) → Type 0
@@ -49,6 +52,31 @@ abbrev pub came_of : Result ℕ Error → Result Came Error
 came_of (Ok zero) = Ok came.Closed
 came_of (Ok (suc n)) = Ok (came.Bytes (suc n))
 came_of (Err error) = came_of_kind (error_kind error) error
+
+-- what a listen tells of what a read brought: a read in vain is a silence if it is the last that was left
+abbrev pub heard_of : Came → ℕ → Came
+heard_of came.Silence (suc (suc left)) = came.Bytes 0
+heard_of came.Silence (suc zero) = came.Silence
+heard_of came.Silence zero = came.Silence
+heard_of (came.Bytes n) left = came.Bytes n
+heard_of came.Closed left = came.Closed
+
+-- how many reads in vain are then left until the next silence
+abbrev pub left_behind : Came → ℕ → ℕ → ℕ
+left_behind came.Silence reads (suc (suc left)) = suc left
+left_behind came.Silence reads (suc zero) = reads
+left_behind came.Silence reads zero = reads
+left_behind (came.Bytes zero) reads left = left
+left_behind (came.Bytes (suc n)) reads left = reads
+left_behind came.Closed reads left = reads
+
+-- a listen counts the reads in vain: each that brings nothing takes one of those that are left at most, bytes bring
+-- them all back, and a silence comes at the last
+abbrev pub Counts : Came → Streamed → Streamed → Type 0
+Counts (came.Bytes zero) old new = old.left ≤ new.left + 1
+Counts (came.Bytes (suc n)) old new = new.left ≡ new.reads
+Counts came.Silence old new = (old.left ≤ 1) × (new.left ≡ new.reads)
+Counts came.Closed old new = Unit {0}
 
 -- what is known of the connection after it
 abbrev pub connection_behind : Came → Connection → Connection

@@ -28,5 +28,5 @@ pub use accept::{AcceptFault, accept_one, listen_at};
 pub use address::{AddressFault, address_of};
 pub use duplex::Duplex;
 pub use script::{Entry, ScriptWire};
-pub use stream::StreamWire;
+pub use stream::{StreamWire, Waits};
 pub use wire::{Came, PIECE, Wire, WireFault};

@@ -3,7 +3,7 @@ ghost use Rattle.std.specs.Io.KnownBytes.{Appends, Consumes, IsAtEnd, Keeps, Wri
 ghost use Rattle.std.specs.Io.{WritesAtMost};
 ghost use Rattle.std.specs.Prelude.{◌≡◌, take, IfOk, IsOk, OnErr, OnOk};
 ghost use Rattle.vdcp_wire.specs.Acts.{OfFront};
-ghost use Rattle.vdcp_wire.specs.Streams.{came_of, connection_behind, failures_of, Takes};
+ghost use Rattle.vdcp_wire.specs.Streams.{came_of, connection_behind, failures_of, Counts, heard_of, left_behind, Takes};
 ghost use Rattle.vdcp_wire.specs.Wires.{brought, FitsBuffer};
 
 use crate::duplex::Duplex;
@@ -18,6 +18,17 @@ const MOST_READS: u32 = 128;
 
 /// For how many seconds a send waits if the other end takes nothing, unless another number is set.
 const SENDING: u64 = 10;
+
+/// How long a wire waits for the other end.
+#[derive(Clone, Copy, Debug, PartialEq, Eq)]
+pub struct Waits {
+    /// For how long a read waits, 1 millisecond or more.
+    pub read: Duration,
+    /// How many reads in a row wait in vain before it is a silence. One is the least.
+    pub reads: u32,
+    /// For how long a send waits for each part of its bytes, 1 microsecond or more.
+    pub send: Duration,
+}
 
 /// What a wire knows of its connection.
 #[derive(Clone, Copy, Debug, PartialEq, Eq)]
@@ -37,13 +48,17 @@ enum Connection {
 /// its bytes, or a beginning of them if it fails; what `listen` gives is exactly what came next; and `drop_waiting`
 /// takes some of that.
 ///
-/// A read that waited for the time of a silence is one, and an interrupted read brings no bytes. A connection that
-/// the system gives up, since nothing is acknowledged any more, has failed. `drop_waiting` doesn't wait. It drops what
-/// at most 128 reads take; the rest stays.
+/// A read that waited in vain is a silence if it is the last of as many in a row as `Waits` says, and else brings no
+/// bytes, as an interrupted read does. Bytes that come begin the count anew. A connection that the system gives up,
+/// since nothing is acknowledged any more, has failed. `drop_waiting` doesn't wait. It drops what at most 128 reads
+/// take; the rest stays.
 #[derive(Drop)]
 pub struct StreamWire<S: Duplex + Drop = TcpStream> {
     stream: S,
     connection: Connection,
+    /// How many reads in vain are a silence, and how many of them are left until the next one.
+    reads: u32,
+    left: u32,
 }
 
 impl<S: Duplex + Drop> Model for StreamWire<S> {
@@ -55,33 +70,43 @@ impl<S: Duplex + Drop> Model for StreamWire<S> {
       connection = w.connection;
       ahead = S.ahead w.stream;
       written = S.written w.stream;
+      reads = w.reads;
+      left = w.left;
     } };
 }
 
 impl<S: Duplex + Drop> StreamWire<S> {
     /// A wire over this connection, on which nothing comes for `silence` at the end of a burst, 1
-    /// millisecond or more. What is sent goes out at once; if the other end takes nothing, a send waits for ten
-    /// seconds. Err if the connection refuses this.
+    /// millisecond or more. If the other end takes nothing, a send waits for ten seconds. Err if the connection
+    /// refuses this.
     pub fn new(stream: S, silence: Duration) -> io::Result<Self>
         ensures open { IfOk result (λ wire. wire.connection ≡ Connection.Open) }
         ensures ahead { IfOk result (λ wire. wire.ahead ≡ S.ahead stream) }
         ensures written { IfOk result (λ wire. wire.written ≡ S.written stream) }
     {
-        StreamWire::with_sending(stream, silence, Duration::from_secs(SENDING))
+        let waits = Waits {
+            read: silence,
+            reads: 1,
+            send: Duration::from_secs(SENDING),
+        };
+        StreamWire::with_waits(stream, waits)
     }
 
-    /// Likewise, but if the other end takes nothing, a send waits for this time, 1 microsecond or more.
-    pub fn with_sending(stream: S, silence: Duration, sending: Duration) -> io::Result<Self>
+    /// Likewise, but its calls wait as `waits` says. What is sent goes out at once.
+    pub fn with_waits(stream: S, waits: Waits) -> io::Result<Self>
         ensures open { IfOk result (λ wire. wire.connection ≡ Connection.Open) }
         ensures ahead { IfOk result (λ wire. wire.ahead ≡ S.ahead stream) }
         ensures written { IfOk result (λ wire. wire.written ≡ S.written stream) }
+        ensures reads { IfOk result (λ wire. (wire.reads ≡ waits.reads) × (wire.left ≡ waits.reads)) }
     {
         stream.set_nodelay(true)?;
-        stream.set_read_timeout(Some(silence))?;
-        stream.set_write_timeout(Some(sending))?;
+        stream.set_read_timeout(Some(waits.read))?;
+        stream.set_write_timeout(Some(waits.send))?;
         Ok(StreamWire {
             stream,
             connection: Connection::Open,
+            reads: waits.reads,
+            left: waits.reads,
         })
     }
 
@@ -92,10 +117,13 @@ impl<S: Duplex + Drop> StreamWire<S> {
         ensures apart { Keeps self.old.written self.new.written }
         ensures closed { self.old.connection ≡ Connection.Closed → IsOk result × (self.new ≡ self.old) }
         ensures works { failures_of self.new.connection ≡ 0 }
+        ensures reads { self.new.reads ≡ self.old.reads }
+        ensures anew { self.old.connection ≡ Connection.Open → self.new.left ≡ self.new.reads }
     {
         if let Connection::Closed = self.connection {
             return Ok(());
         }
+        self.left = self.reads;
         self.stream.set_nonblocking(true)?;
         let behind = read_waiting(&mut self.stream);
         self.stream.set_nonblocking(false)?;
@@ -103,11 +131,28 @@ impl<S: Duplex + Drop> StreamWire<S> {
         Ok(())
     }
 
+    // What a listen tells of a read, whose reads in vain are counted.
+    fn count_read(&mut self, read: Came) -> Came
+        ensures told { result ≡ heard_of read self.old.left }
+        ensures left { self.new ≡ record self.old { left = left_behind read self.old.reads self.old.left } }
+    {
+        match read {
+            Came::Bytes(0) => {}
+            Came::Silence if self.left > 1 => {
+                self.left -= 1;
+                return Came::Bytes(0);
+            }
+            Came::Bytes(_) | Came::Silence | Came::Closed => self.left = self.reads,
+        }
+        read
+    }
+
     // The fault of a call that failed. None is made again.
     fn fail(&mut self) -> WireFault
         ensures failed { self.new.connection ≡ Connection.Failed }
         ensures ahead { self.new.ahead ≡ self.old.ahead }
         ensures written { self.new.written ≡ self.old.written }
+        ensures reads { self.new.reads ≡ self.old.reads }
     {
         self.connection = Connection::Failed;
         WireFault
@@ -132,6 +177,8 @@ impl<S: Duplex + Drop> Wire for StreamWire<S> {
         ensures sends { OnOk result (StreamDoes (sends bytes.now) self.old self.new) }
         ensures sends_some { OnErr result (OfFront bytes.now (λ front. StreamDoes (sends front) self.old self.new)) }
         ensures connection { OnOk result (self.new.connection ≡ self.old.connection) }
+        ensures reads { self.new.reads ≡ self.old.reads }
+        ensures left { OnOk result (self.new.left ≡ self.old.left) }
         ensures failed { OnErr result (failures_of self.new.connection ≡ 1) }
     {
         let mut at = 0;
@@ -155,6 +202,8 @@ impl<S: Duplex + Drop> Wire for StreamWire<S> {
         ensures fails { OnErr result (StreamDoes fails self.old self.new) }
         ensures kept { OnErr result (Keeps self.old.ahead self.new.ahead) }
         ensures end { self.old.connection ≡ Connection.Open → result ≡ Ok Came.Closed → IsAtEnd self.new.ahead }
+        ensures silence { IfOk result (λ came. Counts came self.old self.new) }
+        ensures reads { self.new.reads ≡ self.old.reads }
         ensures next { IfOk result (λ came. self.new.connection ≡ connection_behind came self.old.connection) }
         ensures closed { self.old.connection ≡ Connection.Closed → (result ≡ Ok Came.Closed) × (self.new ≡ self.old) }
         ensures failed { OnErr result (failures_of self.new.connection ≡ 1) }
@@ -162,9 +211,10 @@ impl<S: Duplex + Drop> Wire for StreamWire<S> {
         if let Connection::Closed = self.connection {
             return Ok(Came::Closed);
         }
-        let Ok(came) = came_of(self.stream.read_some(buffer)) else {
+        let Ok(read) = came_of(self.stream.read_some(buffer)) else {
             return Err(self.fail());
         };
+        let came = self.count_read(read);
         if let Came::Closed = came {
             self.connection = Connection::Closed;
         }
@@ -176,6 +226,8 @@ impl<S: Duplex + Drop> Wire for StreamWire<S> {
         ensures drops { OnOk result (StreamDoes drops self.old self.new) }
         ensures fails { OnErr result (StreamDoes fails self.old self.new) }
         ensures closed { self.old.connection ≡ Connection.Closed → IsOk result × (self.new ≡ self.old) }
+        ensures reads { self.new.reads ≡ self.old.reads }
+        ensures anew { self.old.connection ≡ Connection.Open → OnOk result (self.new.left ≡ self.new.reads) }
         ensures works { OnOk result (failures_of self.new.connection ≡ 0) }
         ensures failed { OnErr result (failures_of self.new.connection ≡ 1) }
     {

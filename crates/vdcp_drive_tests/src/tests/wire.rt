@@ -7,7 +7,7 @@ use std::io::{self, Write};
 use std::net::{Ipv4Addr, SocketAddr, TcpListener, TcpStream};
 use std::test::Fail;
 use std::time::{Duration, Instant};
-use vdcp_wire::{Came, PIECE, StreamWire, Wire, WireFault};
+use vdcp_wire::{Came, PIECE, StreamWire, Waits, Wire, WireFault};
 
 const SHORT: u64 = 40;
 
@@ -109,7 +109,12 @@ fn failed_connection_is_no_silence(rt: HostRuntime) -> Result<(), Fail> {
     let dropped = reset(&rt)?.drop_waiting();
     let (_peer, near) = pair(&rt)?;
     let short = Duration::from_millis(SHORT);
-    let mut wire = StreamWire::with_sending(near, short, short)?;
+    let waits = Waits {
+        read: short,
+        reads: 1,
+        send: short,
+    };
+    let mut wire = StreamWire::with_waits(near, waits)?;
     let sent = wire.send(vec![in rt.alloc(); 3; 64_000_000]?.as_slice());
     let failed = (Err(WireFault), Err(WireFault), Err(WireFault));
     expect(&rt, &(heard, dropped, sent), &failed);

@@ -11,6 +11,8 @@ writes-preserved g c =
           inv.appended c.in-Ok.ensures.bytes;
       apart = Keeps-trans _ (g.S.Duplex.ahead c.self.inside.stream) _ inv.apart c.write_some.ensures.apart;
       connection = inv.connection;
+      reads = inv.reads;
+      left = inv.left;
     }
 
 pub returns-clause-sends_some : goal.returns-clause-sends_some

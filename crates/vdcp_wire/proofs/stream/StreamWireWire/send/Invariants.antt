@@ -8,4 +8,6 @@ invariant-writes g l = record {
   appended : Appends l.fn.self.written l.self.written (take l.at l.bytes);
   apart : Keeps l.fn.self.ahead l.self.ahead;
   connection : l.self.connection ≡ l.fn.self.connection;
+  reads : l.self.reads ≡ l.fn.self.reads;
+  left : l.self.left ≡ l.fn.self.left;
 }
