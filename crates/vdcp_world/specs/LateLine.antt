@@ -1,5 +1,6 @@
 -- What the laws of a line that keeps order cite.
 pub mod Damage
+pub mod Asking
 pub mod LateEvent
 pub mod LateChannel
 pub mod Pipe

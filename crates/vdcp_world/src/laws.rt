@@ -84,9 +84,9 @@ pub fn no_cut_without_a_take()
 }
 
 /// Whatever happened on a line that keeps order, from a new controller on: deliveries as late as they like, losses,
-/// detected damage, copies in their place, junk, forged NAKs, time-outs at any moment, cue completions, clip ends,
-/// frames, the operator's calls, the server started anew, the automation started anew; in plain mode from a port in
-/// whatever state, and in confirm mode, with receipts from nowhere, from a port with nothing cued; with what asked the
+/// detected damage, copies in their place, junk, forged NAKs, time-outs at any moment, questions beside the controller's
+/// commands where they may be asked, cue completions, clip ends, frames, the operator's calls, the server started anew,
+/// the automation started anew; in plain mode from a port in whatever state, and in confirm mode, with receipts from nowhere, from a port with nothing cued; with what asked the
 /// port before, and its answers, still on the way; with whatever playlist and catalogue:
 ///
 /// - what went to air is a beginning of the playlist, each event once and in order;

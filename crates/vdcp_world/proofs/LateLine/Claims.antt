@@ -17,6 +17,8 @@ use Rattle.vdcp_auto.specs.declared.phase.Mode.TheVariants.{Confirming}
 use Rattle.vdcp_auto.specs.declared.phase.Phase.{Phase}
 use Rattle.vdcp_auto.specs.declared.phase.Phase.TheVariants as phase
 use Rattle.vdcp_auto.specs.State.{Stage, Ready, Awaiting, Ended, State}
+use Rattle.vdcp_world.specs.LateLine.Asking.{asked_by}
+use Rattle.vdcp_world.specs.LateLine.Asking.{Question}
 use Rattle.vdcp_world.specs.LateLine.Damage.{is_no_answer}
 use Rattle.vdcp_world.specs.LateLine.Pipe.{IsPipe}
 use Rattle.vdcp_world.proofs.LateLine.Endings.{Misses, settled_at}
@@ -62,6 +64,12 @@ pub record Closed (mode : Mode) (S : Claim) : Type 0 where
       (aired : List Item) (ups : List Answer)
       (downs : List Phase) (stop : Bool) (q : Phase) → S list clips settled s a aired ups downs (Ready q)
       → S list clips settled s a aired ups (downs ++ phase_to_send stop q ∷ []) (Awaiting (phase_to_send stop q))
+  -- the automation asks beside it
+  pub asks : (list : List Item) (clips : List (ClipId × Timecode)) (settled : ℕ) (s : Bool) (a : Cued)
+      (aired : List Item) (ups : List Answer)
+      (downs : List Phase) (asked : Question) (q d : Phase) → asked_by asked q ≡ Some d
+      → S list clips settled s a aired ups downs (Ready q)
+      → S list clips settled s a aired ups (downs ++ d ∷ []) (Ready q)
   -- something comes to it, or nothing in time
   pub comes : (plan : Plan) (clips : List (ClipId × Timecode)) (s : Bool) (a : Cued) (aired : List Item)
       (ups : List Answer) (downs : List Phase)

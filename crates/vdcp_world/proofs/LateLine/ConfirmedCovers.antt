@@ -18,7 +18,7 @@ use Rattle.vdcp_world.proofs.Exchanges.{fits_asked, no_receipt, no_refusal}
 use Rattle.vdcp_world.proofs.LateLine.ConfirmedHearing.{Leads, goes_on, replied}
 use Rattle.vdcp_world.proofs.LateLine.ConfirmedPlaces.{Secured, Spot, secure_lessens, spot_lessens}
 use Rattle.vdcp_world.proofs.LateLine.ConfirmedReads.{secure_keeps}
-use Rattle.vdcp_world.proofs.LateLine.ConfirmedStanding.{secure_in, spot_keeps, spot_sends}
+use Rattle.vdcp_world.proofs.LateLine.ConfirmedStanding.{secure_in, spot_asks, spot_keeps, spot_sends}
 use Rattle.vdcp_world.proofs.LateLine.Delivering.{clash}
 use Rattle.vdcp_world.proofs.LateLine.Exactness.{is_exact_in, none_taken}
 use Rattle.vdcp_world.proofs.LateLine.Held.{Holds, LeadsBy, Tended}
@@ -68,6 +68,7 @@ confirming_tended = record {
       spot_keeps list settled s a aired ups d downs q r t b airs h.0 h.1 x;
   calm_reads = secure_keeps;
   sends = spot_sends;
+  asks = spot_asks;
   calm_in = λ list settled s a aired ups downs q h. secure_in list settled s a aired ups downs q h.0 h.1;
   halts = λ list settled s a aired ups downs h. h;
   near = λ list settled s a aired downs h. h.near;

@@ -1,6 +1,6 @@
 -- What is on the way in confirm mode is secure in each phase; and what the controller sends keeps the places, as what
 -- the port reads does.
-use Rattle.std.proofs.Common.{◌≡◌, ℕ, ◌+◌, ◌*◌, ◌≤◌, ◌⊎◌, inl, inr, Bool, true, false, List, [], ◌∷◌, ◌++◌, length, take, refl, arith, sym, ap, subst, ◌∙◌}
+use Rattle.std.proofs.Common.{◌≡◌, ℕ, ◌+◌, ◌*◌, ◌≤◌, ◌⊎◌, inl, inr, Bool, true, false, List, [], ◌∷◌, ◌++◌, length, take, refl, arith, sym, ap, subst, ◌∙◌, Some}
 use Rattle.std.proofs.lemmas.Bool.{or_parts}
 use Rattle.std.specs.List.{list_any}
 use Rattle.vdcp_value.specs.declared.part.Item.{Item}
@@ -9,6 +9,10 @@ use Rattle.vdcp_port.specs.Port.{Cued}
 use Rattle.vdcp_auto.specs.declared.phase.Mode.TheVariants.{Confirming}
 use Rattle.vdcp_auto.specs.declared.phase.Phase.{Phase}
 use Rattle.vdcp_auto.specs.declared.phase.Phase.TheVariants as phase
+use Rattle.vdcp_world.specs.LateLine.Asking.{asked_by}
+use Rattle.vdcp_world.specs.LateLine.Asking.{Question}
+use Rattle.vdcp_world.specs.LateLine.Asking as question
+use Rattle.vdcp_world.proofs.LateLine.Lessening.{unwrapped}
 use Rattle.vdcp_world.specs.LateLine.Pipe.{stretch, Climbs, stretches, IsPipe}
 use Rattle.vdcp_world.proofs.LateLine.ConfirmedPlaces.{tries, Owns, ToSound, Sounded, Sounding, Spent, Last, Secure, Spot, none_sent, last_sent}
 use Rattle.vdcp_world.proofs.LateLine.ConfirmedReads.{cue_free, idle_keeps, trying_keeps, sounding_keeps, secure_keeps, tries_not_cues}
@@ -168,6 +172,22 @@ module _ (list : List Item) (settled : ℕ) (s : Bool) (a : Cued) (aired : List 
   spot_sends downs phase.Halt h = secure_sends list settled a aired downs phase.Halt refl refl refl h
   spot_sends downs phase.HaltClose h = secure_sends list settled a aired downs phase.HaltClose refl refl refl h
   spot_sends downs _ h = h
+
+  -- ---- the automation asks
+
+  pub spot_asks : (downs : List Phase) (asks : Question) (q d : Phase) → asked_by asks q ≡ Some d
+      → Spot list settled s a aired ups downs q → Spot list settled s a aired ups (downs ++ d ∷ []) q
+  spot_asks downs question.State (phase.Play k) d is h =
+      sounding_sends list settled s a aired ups downs k d (ap tries (sym (unwrapped is))) h
+  spot_asks downs question.State (phase.Probe k) d is h =
+      sounding_sends list settled s a aired ups downs k d (ap tries (sym (unwrapped is))) h
+  spot_asks downs asks phase.Halt d is h = cc
+  spot_asks downs asks phase.HaltClose d is h = cc
+  spot_asks downs question.Open (phase.Play k) d is h = cc
+  spot_asks downs question.Open (phase.Probe k) d is h = cc
+  spot_asks downs question.Select (phase.Play k) d is h = cc
+  spot_asks downs question.Select (phase.Probe k) d is h = cc
+  spot_asks downs asks _ d is h = h
 
   -- ---- the port reads the oldest command
 

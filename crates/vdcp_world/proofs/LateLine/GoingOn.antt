@@ -18,6 +18,7 @@ held kept now = record now { state = kept.state; log = kept.log }
 -- what happens on the line where the controller is held: what it would hear is lost, and it isn't called
 abbrev instead : LateEvent → List LateEvent
 instead event.Tick = []
+instead (event.Ask question) = []
 instead event.Down = event.Down ∷ []
 instead event.Up = event.LoseUp 0 ∷ []
 instead event.DownCopy = event.DownCopy ∷ []
@@ -46,6 +47,7 @@ first_lost (burst ∷ queue) = refl
 step_held : (kept now : LateChannel) (e : LateEvent) → IsNoTick e
     → after_late_events (held kept now) (instead e) ≡ held kept (after_late_event now e)
 step_held kept now event.Tick quiet = absurd quiet
+step_held kept now (event.Ask question) quiet = absurd quiet
 step_held kept now event.Up quiet = ap (λ queue. record (held kept now) { up = queue }) (first_lost now.up)
 step_held kept now _ quiet = refl
 

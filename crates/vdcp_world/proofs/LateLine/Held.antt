@@ -39,8 +39,10 @@ use Rattle.vdcp_world.proofs.LateLine.Stretches.{pipe_delivered}
 use Rattle.vdcp_world.proofs.PhaseTable.{Near}
 use Rattle.vdcp_auto.specs.Commands.{fits}
 use Rattle.vdcp_auto.specs.Replies.{is_refusal}
+use Rattle.vdcp_world.specs.LateLine.Asking.{asked_by}
+use Rattle.vdcp_world.specs.LateLine.Asking.{Question}
 use Rattle.vdcp_world.specs.LateLine.Damage.{is_no_answer}
-use Rattle.vdcp_world.proofs.LateLine.Lessening.{flow_pushed, Lessens}
+use Rattle.vdcp_world.proofs.LateLine.Lessening.{flow_asked, flow_pushed, Lessens}
 
 -- of the playlist, how many events are settled, whether the port is selected, its cued slot, what was aired, the answers
 -- on the way up, what is on the way down, and a phase
@@ -109,6 +111,9 @@ module _ (mode : Mode) (Spot : Spots) (Calm : Calms) where
     pub sends : (list : List Item) (settled : ℕ) (s : Bool) (a : Cued) (aired : List Item) (ups : List Answer)
         (downs : List Phase) (q : Phase) → Spot list settled s a aired ups downs q
         → Spot list settled s a aired ups (downs ++ q ∷ []) q
+    pub asks : (list : List Item) (settled : ℕ) (s : Bool) (a : Cued) (aired : List Item) (ups : List Answer)
+        (downs : List Phase) (asked : Question) (q d : Phase) → asked_by asked q ≡ Some d
+        → Spot list settled s a aired ups downs q → Spot list settled s a aired ups (downs ++ d ∷ []) q
     pub calm_in : (list : List Item) (settled : ℕ) (s : Bool) (a : Cued) (aired : List Item) (ups : List Answer)
         (downs : List Phase) (q : Phase) → Here list settled s a aired ups downs q → Calm list settled s a aired downs
     pub halts : (list : List Item) (settled : ℕ) (s : Bool) (a : Cued) (aired : List Item) (ups : List Answer)
@@ -335,6 +340,14 @@ module _ (mode : Mode) (Spot : Spots) (Calm : Calms) where
       };
       sends = λ list clips settled s a aired ups downs stop q h. record {
         place = sends list clips settled s a aired ups downs stop q h.place;
+        fit = h.fit;
+        true_told = h.true_told;
+      };
+      asks = λ list clips settled s a aired ups downs asked q d is h. record {
+        place = (
+          tended.asks list settled s a aired ups downs asked q d is h.place.0,
+          flow_asked mode (length list) ups downs asked q d is h.place.1,
+        );
         fit = h.fit;
         true_told = h.true_told;
       };

@@ -27,6 +27,11 @@ use Rattle.vdcp_auto.specs.declared.phase.Mode.{Mode}
 use Rattle.vdcp_auto.specs.declared.phase.Mode.TheVariants.{Plain, Confirming}
 use Rattle.vdcp_auto.specs.declared.phase.Phase.{Phase}
 use Rattle.vdcp_auto.specs.State.{Stage, Ready, Awaiting, State}
+use Rattle.std.specs.Option.{option_and_then}
+use Rattle.vdcp_auto.specs.declared.phase.Phase.TheVariants as phase
+use Rattle.vdcp_world.specs.LateLine.Asking.{asked_by, asked_in}
+use Rattle.vdcp_world.specs.LateLine.Asking.{Question}
+use Rattle.vdcp_world.specs.LateLine.Asking as question
 use Rattle.vdcp_world.specs.Channel.{state_hearing, log_hearing, state_straying, log_straying, Make}
 use Rattle.vdcp_world.specs.LateLine.Damage.{can_become, can_become_up, is_junk_down, is_junk_up, is_no_answer}
 use Rattle.vdcp_world.specs.LateLine.LateHeadline.{log_so_far}
@@ -39,13 +44,13 @@ use Rattle.vdcp_world.proofs.LateLine.Carrying.{carries_pushed, carries_same, Le
 use Rattle.vdcp_world.proofs.LateLine.Claims.{Claim, Closed, Comes, Exactly, Steady, exactly, thins}
 use Rattle.vdcp_world.proofs.LateLine.Exactness.{came_may, exact_sends, is_exact_at, is_exact_in, may_in, no_arm, sent_may}
 use Rattle.vdcp_world.proofs.LateLine.Kept.{IsJunkDown, IsCommand, IsJunkUp, IsAnswer, DownCarries, UpCarries, StandsAt, IsKept, writable, Delivered, delivered_nothing, delivered_command, with_state, with_port, with_down, with_up, with_delivery, with_hearing}
-use Rattle.vdcp_world.proofs.LateLine.Places.{Answer, Exact, plays}
+use Rattle.vdcp_world.proofs.LateLine.Places.{Answer, Exact, arms, plays}
 use Rattle.vdcp_world.proofs.OnTheWay.{ReadsCommand}
 use Rattle.vdcp_world.proofs.WayLemmas.{reads_nothing, reads_command}
 use Rattle.vdcp_world.proofs.LateLine.Thinning.{Thins, all_left}
 use Rattle.vdcp_world.proofs.WayKept.{front_of_none}
 use Rattle.vdcp_world.proofs.Reached.{make_frame}
-use Rattle.vdcp_world.proofs.LateLine.Lessening.{Ages, same_ages, ready_ages, anew_ages, copied}
+use Rattle.vdcp_world.proofs.LateLine.Lessening.{Ages, same_ages, ready_ages, anew_ages, copied, unwrapped}
 
 -- ---- a tick
 
@@ -151,6 +156,99 @@ module _ (mode : Mode) (S : Claim) where
           k.ups k.downs c.state.stop q h.stands) h.exact)
       at _ h =
           (k.downs, carries_same IsJunkDown (IsCommand c.plan.list c.plan.port unit) c.down k.downs k.down_is, k.stands)
+
+-- ---- the automation asks beside the controller
+
+-- what joins the queue down; the controller stays
+pub record Asked (mode : Mode) (S : Claim) (c : LateChannel) (ups : List Answer) (o : Option Command) : Type 0 where
+  pub downs : List Phase
+  pub down_is : DownCarries c.plan.list c.plan.port c.port.state.unit (c.down ++ command_bursts c.port.state.unit o) downs
+  pub stands : StandsAt (ExactlyIn S c) c.plan.list c.port c.state.settled c.state.stage c.aired ups downs
+
+-- where the place says what aired, or nothing that plays is sent
+no_play : (asks : Question) (q d : Phase) → asked_by asks q ≡ Some d → plays d ≡ false
+no_play question.Open phase.Open d is = ap plays (sym (unwrapped is))
+no_play question.Select phase.Open d is = ap plays (sym (unwrapped is))
+no_play question.State phase.Open d is = ap plays (sym (unwrapped is))
+no_play question.State phase.Select d is = ap plays (sym (unwrapped is))
+no_play question.State phase.Seen d is = ap plays (sym (unwrapped is))
+no_play question.State (phase.Wait k) d is = ap plays (sym (unwrapped is))
+no_play question.State (phase.Play k) d is = ap plays (sym (unwrapped is))
+no_play question.State (phase.Probe k) d is = ap plays (sym (unwrapped is))
+no_play question.State phase.Drain d is = ap plays (sym (unwrapped is))
+no_play asks q d is = cc
+
+arms_nothing : (asks : Question) (q d : Phase) → asked_by asks q ≡ Some d → is_exact_in q ≡ false → arms d ≡ false
+arms_nothing question.State (phase.Play k) d is e = ap arms (sym (unwrapped is))
+arms_nothing question.State (phase.Probe k) d is e = ap arms (sym (unwrapped is))
+arms_nothing question.Open phase.Open d is e = cc
+arms_nothing question.Select phase.Open d is e = cc
+arms_nothing asks q d is e = cc
+
+module _ (mode : Mode) (S : Claim) where
+  exact_asked : Closed mode S → (list : List Item) (clips : List (ClipId × Timecode)) (settled : ℕ) (s : Bool) (a : Cued)
+      (aired : List Item) (ups : List Answer) (downs : List Phase) (asks : Question) (q d : Phase) → asked_by asks q ≡ Some d
+      → (b : Bool) → is_exact_in q ≡ b → S list clips settled s a aired ups (downs ++ d ∷ []) (Ready q)
+      → Exact list settled s a aired downs → Exact list settled s a aired (downs ++ d ∷ [])
+  exact_asked closed list clips settled s a aired ups downs asks q d by true is h e =
+      closed.exact list clips settled s a aired ups (downs ++ d ∷ []) (Ready q) is h
+  exact_asked closed list clips settled s a aired ups downs asks q d by false is h e =
+      exact_sends list settled s a aired downs d (no_play asks q d by) (arms_nothing asks q d by is) e
+
+  asked_kept : Closed mode S → Below → (c : LateChannel) (k : IsKept mode (ExactlyIn S c) c) (asks : Question)
+      → Asked mode S c k.ups (asked_in c.plan asks c.state.stage)
+  asked_kept closed below c k asks = at c.state.stage refl
+    where
+      unit : ℕ
+      unit = c.port.state.unit
+
+      none : Asked mode S c k.ups None
+      none = record {
+        downs = k.downs;
+        down_is = carries_same IsJunkDown (IsCommand c.plan.list c.plan.port unit) c.down k.downs k.down_is;
+        stands = k.stands;
+      }
+
+      one : (q d : Phase) → c.state.stage ≡ Ready q → asked_by asks q ≡ Some d → (o : Option Command)
+          → command_in c.plan.list c.plan.port d ≡ o → Asked mode S c k.ups o
+      one q d at by None is = none
+      one q d at by (Some x) is = record {
+        downs = k.downs ++ d ∷ [];
+        down_is = carries_pushed IsJunkDown (IsCommand c.plan.list c.plan.port unit) c.down k.downs
+            (spelling (command_message unit x)) d (
+              x,
+              is,
+              below.alone (command_message unit x) (below.command_fits unit x (omega (arith, k.unit_fits))
+                  (writable below c.plan d x k.of_bytes k.port_fits is)),
+            )
+            k.down_is;
+        stands = subst Stands (sym at) (pushed (subst Before at k.stands));
+      }
+        where
+          Before : Stage → Type 0
+          Before stage = StandsAt (ExactlyIn S c) c.plan.list c.port c.state.settled stage c.aired k.ups k.downs
+
+          Stands : Stage → Type 0
+          Stands stage = StandsAt (ExactlyIn S c) c.plan.list c.port c.state.settled stage c.aired k.ups (k.downs ++ d ∷ [])
+
+          pushed : Before (Ready q) → Stands (Ready q)
+          pushed h =
+              let after = closed.asks c.plan.list c.port.clips c.state.settled (is_selected c.port.state)
+              c.port.state.cued c.aired k.ups k.downs asks q d by h.stands in
+              record {
+                stands = after;
+                exact = λ e. exact_asked closed c.plan.list c.port.clips c.state.settled (is_selected c.port.state)
+                    c.port.state.cued c.aired k.ups k.downs asks q d by (is_exact_in q) refl after (h.exact e);
+              }
+
+      ready : (q : Phase) → c.state.stage ≡ Ready q → (o : Option Phase) → asked_by asks q ≡ o
+          → Asked mode S c k.ups (option_and_then (command_in c.plan.list c.plan.port) o)
+      ready q at None by = none
+      ready q at (Some d) by = one q d at by (command_in c.plan.list c.plan.port d) refl
+
+      at : (stage : Stage) → c.state.stage ≡ stage → Asked mode S c k.ups (asked_in c.plan asks stage)
+      at (Ready q) is = ready q is (asked_by asks q) refl
+      at _ is = none
 
 -- ---- the port reads the oldest burst
 
@@ -452,6 +550,16 @@ pub kept_event : (mode : Mode) (S : Claim) → Closed mode S → Below → (c : 
     → IsKept mode (ExactlyIn S (after_late_event c e)) (after_late_event c e)
 kept_event mode S closed below c event.Tick r k =
     let t = ticked_kept mode S closed below c k in
+    record {
+      fits = k.fits;
+      downs = t.downs;
+      ups = k.ups;
+      down_is = t.down_is;
+      up_is = k.up_is;
+      stands = t.stands;
+    }
+kept_event mode S closed below c (event.Ask asks) r k =
+    let t = asked_kept mode S closed below c k asks in
     record {
       fits = k.fits;
       downs = t.downs;

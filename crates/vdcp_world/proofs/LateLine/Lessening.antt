@@ -9,6 +9,10 @@ use Rattle.vdcp_auto.specs.declared.phase.Mode.{Mode}
 use Rattle.vdcp_auto.specs.declared.phase.Phase.{Phase}
 use Rattle.vdcp_auto.specs.declared.phase.Phase.TheVariants as phase
 use Rattle.vdcp_world.specs.LateLine.Pipe.{Climbs, IsPipe, stretch, stretches, oldest_stretch}
+use Rattle.vdcp_world.specs.LateLine.Asking.{asked_by}
+use Rattle.vdcp_world.specs.LateLine.Asking.{Question}
+use Rattle.vdcp_world.specs.LateLine.Asking as question
+use Rattle.std.specs.Prelude.{Some}
 use Rattle.vdcp_world.proofs.LateLine.Pipes.{climbs_pushed, climbs_thins}
 use Rattle.vdcp_world.proofs.LateLine.Stretches.{pipe_copied, pipe_pushed}
 use Rattle.vdcp_world.proofs.LateLine.Places.{Answer, pipe_of, plays, says_done, says_empty, HasItem, HasDone, HasNone}
@@ -124,6 +128,31 @@ flow_pushed Plain n ups downs (phase.Wait k) c = pushed Plain n (5 * k + 3) ups 
 flow_pushed Confirming n ups downs (phase.Wait k) c =
     pushed Confirming n (5 * k + 2) ups downs (phase.Wait k) (omega arith) c
 flow_pushed mode n ups downs q c = pushed mode n (oldest_stretch mode n q) ups downs q (omega arith) c
+
+pub unwrapped : {p d : Phase} → Some p ≡ Some d → p ≡ d
+unwrapped is = cc
+
+-- the pipe with one question more, which is of the phase's own stretch
+of_stretch : (mode : Mode) (n : ℕ) (asks : Question) (q d : Phase) → asked_by asks q ≡ Some d
+    → stretch mode n d ≡ stretch mode n q
+of_stretch mode n question.Open phase.Open d is = ap (stretch mode n) (sym (unwrapped is))
+of_stretch mode n question.Select phase.Open phase.Select is = refl
+of_stretch mode n question.State phase.Open phase.Seen is = refl
+of_stretch mode n question.State phase.Select phase.Seen is = refl
+of_stretch mode n question.State phase.Seen phase.Seen is = refl
+of_stretch mode n question.State (phase.Wait k) d is = ap (stretch mode n) (sym (unwrapped is))
+of_stretch mode n question.State (phase.Play k) d is = ap (stretch mode n) (sym (unwrapped is))
+of_stretch mode n question.State (phase.Probe k) d is = ap (stretch mode n) (sym (unwrapped is))
+of_stretch mode n question.State phase.Drain d is = ap (stretch mode n) (sym (unwrapped is))
+of_stretch mode n asks q d is = cc
+
+pub flow_asked : (mode : Mode) (n : ℕ) (ups : List Answer) (downs : List Phase) (asks : Question) (q d : Phase)
+    → asked_by asks q ≡ Some d → IsPipe mode n q (pipe_of ups downs) → IsPipe mode n q (pipe_of ups (downs ++ d ∷ []))
+flow_asked mode n ups downs asks q d is c =
+    flow_maps mode n (pipe_of ups (downs ++ q ∷ [])) (pipe_of ups (downs ++ d ∷ [])) q
+    (λ low high. subst (Climbs low high) (pipe_pushed mode n ups downs q
+    ∙ ap (λ (x : ℕ). stretches mode n (pipe_of ups downs) ++ x ∷ []) (sym (of_stretch mode n asks q d is))
+    ∙ sym (pipe_pushed mode n ups downs d))) (flow_pushed mode n ups downs q c)
 
 -- ---- the port changes by itself: its cue gets done, or it is made anew
 

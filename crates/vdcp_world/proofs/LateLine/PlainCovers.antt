@@ -25,7 +25,7 @@ use Rattle.vdcp_world.proofs.LateLine.Held.{Holds, LeadsBy, Tended}
 use Rattle.vdcp_world.proofs.LateLine.Hearing.{Here, Leads, goes_on, refused, replied}
 use Rattle.vdcp_world.proofs.LateLine.Places.{Answer, At, Place, Safe}
 use Rattle.vdcp_world.proofs.LateLine.Safety.{calm_in, safe_keeps}
-use Rattle.vdcp_world.proofs.LateLine.Standing.{place_keeps, place_sends, place_lessens, safe_lessens}
+use Rattle.vdcp_world.proofs.LateLine.Standing.{place_asks, place_keeps, place_sends, place_lessens, safe_lessens}
 
 -- in which phases how many events are aired and settled
 at_in : (list : List Item) (settled : ℕ) (s : Bool) (a : Cued) (aired : List Item) (ups : List Answer)
@@ -93,6 +93,7 @@ plain_tended = record {
       place_keeps list settled s a aired ups d downs q r t b airs fit h.0 h.1 x;
   calm_reads = safe_keeps;
   sends = place_sends;
+  asks = place_asks;
   calm_in = λ list settled s a aired ups downs q h. calm_in list settled s a aired ups downs q h.0 h.1;
   halts = λ list settled s a aired ups downs h. h;
   near = λ list settled s a aired downs h. h.near;

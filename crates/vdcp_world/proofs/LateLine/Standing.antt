@@ -1,5 +1,5 @@
 -- What the controller sends keeps the places of plain mode, and so does what the port reads, or a copy of it.
-use Rattle.std.proofs.Common.{◌≡◌, ℕ, ◌+◌, ◌*◌, ◌⊎◌, inl, inr, Bool, false, List, [], ◌∷◌, ◌++◌, length, refl, arith}
+use Rattle.std.proofs.Common.{◌≡◌, ℕ, ◌+◌, ◌*◌, ◌⊎◌, inl, inr, Bool, false, List, [], ◌∷◌, ◌++◌, length, refl, arith, Some, ap, sym}
 use Rattle.std.specs.List.{list_any}
 use Rattle.vdcp_value.specs.declared.part.Item.{Item}
 use Rattle.vdcp_words.specs.declared.reply.Reply.{Reply}
@@ -7,6 +7,10 @@ use Rattle.vdcp_port.specs.Port.{Cued}
 use Rattle.vdcp_auto.specs.declared.phase.Mode.TheVariants.{Plain}
 use Rattle.vdcp_auto.specs.declared.phase.Phase.{Phase}
 use Rattle.vdcp_auto.specs.declared.phase.Phase.TheVariants as phase
+use Rattle.vdcp_world.specs.LateLine.Asking.{asked_by}
+use Rattle.vdcp_world.specs.LateLine.Asking.{Question}
+use Rattle.vdcp_world.specs.LateLine.Asking as question
+use Rattle.vdcp_world.proofs.LateLine.Lessening.{unwrapped}
 use Rattle.vdcp_world.specs.LateLine.Pipe.{IsPipe}
 use Rattle.vdcp_world.proofs.LateLine.ConfirmedPlaces.{none_sent}
 use Rattle.vdcp_world.proofs.LateLine.Delivering.{at_same, airs_none, cueing_keeps, waiting_keeps}
@@ -54,6 +58,22 @@ module _ (list : List Item) (settled : ℕ) (s : Bool) (a : Cued) (aired : List 
   place_sends ups downs phase.Halt h = safe_sends downs phase.Halt refl refl h
   place_sends ups downs phase.HaltClose h = safe_sends downs phase.HaltClose refl refl h
   place_sends ups downs _ h = h
+
+  -- ---- the automation asks
+
+  pub place_asks : (ups : List Answer) (downs : List Phase) (asks : Question) (q d : Phase) → asked_by asks q ≡ Some d
+      → Place list settled s a aired ups downs q → Place list settled s a aired ups (downs ++ d ∷ []) q
+  place_asks ups downs question.State (phase.Play k) d is h =
+      playing_sends ups downs k d (ap waits (sym (unwrapped is))) h
+  place_asks ups downs question.State (phase.Probe k) d is h =
+      playing_sends ups downs k d (ap waits (sym (unwrapped is))) h
+  place_asks ups downs asks phase.Halt d is h = cc
+  place_asks ups downs asks phase.HaltClose d is h = cc
+  place_asks ups downs question.Open (phase.Play k) d is h = cc
+  place_asks ups downs question.Open (phase.Probe k) d is h = cc
+  place_asks ups downs question.Select (phase.Play k) d is h = cc
+  place_asks ups downs question.Select (phase.Probe k) d is h = cc
+  place_asks ups downs asks _ d is h = h
 
   -- ---- the port reads the oldest command
 

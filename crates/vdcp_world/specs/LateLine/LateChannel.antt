@@ -22,8 +22,9 @@ use Rattle.vdcp_auto.specs.declared.exchange.Exchange.{Exchange}
 use Rattle.vdcp_auto.specs.declared.phase.Mode.TheVariants.{Confirming}
 use Rattle.vdcp_auto.specs.State.{State}
 use Rattle.vdcp_world.specs.Channel.{Make, state_hearing, log_hearing, state_straying, log_straying}
+use Rattle.vdcp_world.specs.LateLine.Asking.{asked_in}
 use Rattle.vdcp_world.specs.LateLine.Damage.{can_become, is_junk_down, is_junk_up, can_become_up, with_damage, with_junk}
-use Rattle.vdcp_world.specs.LateLine.LateEvent.{LateEvent, Tick, Down, Up, DownCopy, UpCopy, LoseDown, LoseUp, AlterDown, AlterUp, JunkDown, JunkUp}
+use Rattle.vdcp_world.specs.LateLine.LateEvent.{LateEvent, Tick, Ask, Down, Up, DownCopy, UpCopy, LoseDown, LoseUp, AlterDown, AlterUp, JunkDown, JunkUp}
 use Rattle.vdcp_world.specs.LateLine.LateEvent.{Timeout, Ready, End, Frame, Take, Stop, ServerAnew, AutomationAnew, StrayAck, StrayNak}
 
 -- The controller, with what it was made with, and the port; the bursts on the way down, to the port, and up, to
@@ -89,6 +90,8 @@ after_late_event c Tick =
       state = ticked c.state;
       down = c.down ++ command_bursts c.port.state.unit (given c.plan c.state);
     }
+after_late_event c (Ask question) =
+    record c { down = c.down ++ command_bursts c.port.state.unit (asked_in c.plan question c.state.stage) }
 after_late_event c Down = record (delivered_down c) { down = without_oldest c.down }
 after_late_event c Up = record (delivered_up c) { up = without_oldest c.up }
 after_late_event c DownCopy = delivered_down c

@@ -1,10 +1,13 @@
 -- What can happen on a line that keeps order, at one of its ends, or in time. If it can't happen, nothing changes. Places
 -- in a queue are counted from 0, the oldest burst.
 use Rattle.std.specs.Prelude.{ℕ, List}
+use Rattle.vdcp_world.specs.LateLine.Asking.{Question}
 
 pub data LateEvent : Type 0 where
   -- the controller gives its next command, which joins the queue down
   Tick : LateEvent
+  -- the port is asked this beside the controller's commands, where it may be; the command joins the queue down
+  Ask : (question : Question) → LateEvent
   -- the oldest burst of the queue down comes to the port, whose answer joins the queue up
   Down : LateEvent
   -- the oldest burst of the queue up comes to the controller, which hears its first message
