@@ -31,7 +31,7 @@ use Rattle.vdcp_journal.specs.declared.moment.Moment.{Moment}
 use Rattle.vdcp_journal.specs.declared.row.Note.{Note}
 use Rattle.vdcp_journal.specs.declared.row.Note.TheVariants as note
 use Rattle.vdcp_journal.specs.declared.row.Row.{Row}
-use Rattle.vdcp_journal_file.specs.Recorded.{IsNoAct, IsRecorded, IsTornBy, MayBeLeft, MayHold, KeepsRow, Loses, LosesRow, Notes, NotesEnd, acting, call_note, commands_of_note, commands_of_rows, note_for}
+use Rattle.vdcp_journal_file.specs.Recorded.{HasSafe, IsNoAct, IsRecorded, IsTornBy, MayBeLeft, MayHold, KeepsRow, Loses, LosesRow, Notes, NotesEnd, acting, call_note, commands_of_note, commands_of_rows, note_for}
 use Rattle.vdcp_journal_file.specs.Recording.{MakesBeginning, MakesSafe, Recording, after_row, announces, end_note, ended, is_again, is_announced, notes_seen, rows_due, rows_left, says_nothing_new, seen_before, seen_last, seen_of, with_play}
 use Rattle.vdcp_journal_file.specs.declared.pending.Pending.{Pending}
 use Rattle.vdcp_journal_file.specs.declared.pending.Pending.TheVariants as pending
@@ -825,6 +825,22 @@ shown adds loses told fold plan unit a a' wire wire' answer k m events notes n b
     (subst (Alternates b) (sym (ap (λ (c : Option Command). map kept.Sent (option_to_list c) ++ exchanged notes) (sym none)
     ∙ n.shows)) (notes_alternate b plan (log_of fold plan unit a events) a'.state answer))
 
+-- what rows have, with nothing behind them
+has_rows : {F : Type 0} (safe : F → Option (List ℕ)) (notes : List Kept) (k m : Recording F) → MayHold k.pending
+    → (r : RowsOf safe notes k m) → HasSafe safe k m (commands_kept notes) r.rows []
+has_rows safe notes k m none r = record {
+  safe_since = subst (λ (b : List ℕ). Appends (safe k.file) (safe m.file) b) (sym (append-nil (rows_text k.unit r.rows)))
+      r.appends;
+  left = held m.pending;
+  kept = r.acts none;
+  unkept = may_be_left m.pending _ r.stands (r.holds none);
+}
+
+pub rows_at : {F : Type 0} (safe : F → Option (List ℕ)) (notes : List Kept) (k m : Recording F) → MayHold k.pending
+    → Chain (Notes safe) notes k m → (rows : List Row) × HasSafe safe k m (commands_kept notes) rows []
+rows_at safe notes k m none chain =
+    let r = rows_of safe notes k m chain in (r.rows, has_rows safe notes k m none r)
+
 -- if each command was kept
 whole_run : {E W F : Type 0} (safe : F → Option (List ℕ)) (told : W → Option Told) (fold : Fold E) (plan : Plan)
     (unit : ℕ) (a a' : Auto E) (wire wire' : W) (answer : Result Ran KeptFault) (k m : Recording F)
@@ -839,14 +855,10 @@ whole_run safe told fold plan unit a a' wire wire' answer k m events notes n non
       last = rows_left m.pending;
       few = few_left m.pending;
       torn = [];
-      safe_since = subst (λ (b : List ℕ). Appends (safe k.file) (safe m.file) b) (sym (append-nil (rows_text k.unit r.rows)))
-          r.appends;
       torn_by = untorn;
       commands = commands_kept notes;
       sends = n.sends;
-      left = held m.pending;
-      kept = r.acts none;
-      unkept = may_be_left m.pending _ r.stands (r.holds none);
+      has = has_rows safe notes k m none r;
       waits = r.holds none;
       comes = n.comes;
       shows = λ idle. r.tells (shown (Notes safe) (Loses safe) told fold plan unit a a' wire wire' answer k m events notes n
@@ -871,8 +883,6 @@ lost_run {F = F} safe told fold plan unit a a' wire wire' k l m one events notes
       last = rows_left l.pending;
       few = few_left l.pending;
       torn = take lost.2.0 text;
-      safe_since = appends_both (safe k.file) (safe l.file) (safe m.file) (rows_text k.unit r.rows)
-          (take lost.2.0 text) r.appends lost.2.1;
       torn_by = (
         row,
         torn.0,
@@ -880,9 +890,13 @@ lost_run {F = F} safe told fold plan unit a a' wire wire' k l m one events notes
       );
       commands = commands_kept notes;
       sends = n.sends;
-      left = held l.pending;
-      kept = r.acts none;
-      unkept = may_be_left l.pending _ r.stands (r.holds none);
+      has = record {
+        safe_since = appends_both (safe k.file) (safe l.file) (safe m.file) (rows_text k.unit r.rows)
+            (take lost.2.0 text) r.appends lost.2.1;
+        left = held l.pending;
+        kept = r.acts none;
+        unkept = may_be_left l.pending _ r.stands (r.holds none);
+      };
       waits = subst MayHold (sym (ap (λ (x : Recording F). x.pending) lost.3)) tt;
       comes = n.comes;
       shows = λ idle. r.tells (shown (Notes safe) (Loses safe) told fold plan unit a a' wire wire' (Err fault.Unkept) k m

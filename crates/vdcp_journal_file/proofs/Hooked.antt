@@ -1,5 +1,5 @@
 -- What hooks have kept that may have a recorder.
-use Rattle.std.proofs.Common.{ℕ, ◌≡◌, Bool, List, [], ◌∷◌, refl, subst, true}
+use Rattle.std.proofs.Common.{ℕ, ◌≡◌, Bool, List, [], ◌∷◌, ap, refl, subst, true}
 use Rattle.std.specs.Prelude.{Option, None, Some, Result, Ok, Err}
 use Rattle.vdcp_auto.specs.Plan.{Plan}
 use Rattle.vdcp_drive.specs.Auto.{AreMade, Auto, Event, arrives, calls, gives, heeds, listens}
@@ -7,11 +7,13 @@ use Rattle.vdcp_drive.specs.Ears.{Fold}
 use Rattle.vdcp_drive.specs.Hooked.{MayKeep, MayLose}
 use Rattle.vdcp_drive.specs.Keeping.{HasKept, KeepsRun}
 use Rattle.vdcp_drive.specs.Leaves.{IsRun}
-use Rattle.vdcp_drive.specs.Steps.{Chain}
+use Rattle.vdcp_drive.specs.Steps.{Chain, Happens, Rules, Step, World, acts, keeps, misses}
+use Rattle.vdcp_drive.specs.Traces.{kept_in}
 use Rattle.vdcp_drive.specs.declared.hooks.Kept.{Kept}
 use Rattle.vdcp_drive.specs.declared.hooks.KeptFault.{KeptFault}
 use Rattle.vdcp_drive.specs.declared.hooks.KeptFault.TheVariants as fault
 use Rattle.vdcp_drive.specs.declared.line.Ran.{Ran}
+use Rattle.vdcp_journal_file.specs.Recorded.{AreKept}
 use Rattle.vdcp_wire.specs.Wires.{Told}
 
 -- A run whose calls are made is one in which calls may be made.
@@ -44,7 +46,7 @@ kept_on adds one more k None new kept chain goes = absurd kept
 kept_on adds one more k (Some l) new kept chain goes =
     let rest = goes l chain in (rest.0, rest.1, (l, kept, rest.2))
 
-all_kept : {J : Type 0} (adds : Kept → J → J → Type 0) (notes : List Kept) (k : J) (new : Option J)
+pub all_kept : {J : Type 0} (adds : Kept → J → J → Type 0) (notes : List Kept) (k : J) (new : Option J)
     → Chain (MayKeep adds) notes (Some k) new → (m : J) × (new ≡ Some m) × Chain adds notes k m
 all_kept adds [] k new chain = (k, chain, refl)
 all_kept adds (one ∷ more) k new chain =
@@ -75,6 +77,17 @@ keeps_by_one {J = J} adds loses told fold plan unit a a' wire wire' answer k old
     let kept = has_kept adds loses answer notes k new
     (subst (λ (o : Option J). HasKept (MayKeep adds) (MayLose loses) answer notes o new) is n.noted) in
     (kept.0, kept.1, record { noted = kept.2; shows = n.shows; sends = n.sends; comes = n.comes })
+
+-- what was kept in steps in which nothing failed to be
+pub notes_happen : {W J : Type 0} (rules : Rules W J) (steps : List Step) (old new : World W J) → AreKept steps
+    → Happens rules steps old new → Chain rules.adds (kept_in steps) old.keep new.keep
+notes_happen {W} {J} rules [] old new kept is = ap (λ (w : World W J). w.keep) is
+notes_happen {W} {J} rules (acts a ∷ later) old new kept (next, (done, is), rest) =
+    subst (λ (j : J). Chain rules.adds (kept_in later) j new.keep) (ap (λ (w : World W J). w.keep) is)
+    (notes_happen rules later next new kept rest)
+notes_happen rules (keeps r ∷ later) old new kept (next, (adds, is), rest) =
+    (next.keep, adds, notes_happen rules later next new kept rest)
+notes_happen rules (misses r ∷ later) old new kept happened = absurd kept
 
 -- Without one, there is none.
 

@@ -8,6 +8,7 @@ use Rattle.vdcp_auto.specs.Turn.{awaited}
 use Rattle.vdcp_auto.specs.declared.exchange.Heard.{Heard}
 use Rattle.vdcp_drive.specs.Auto.{Auto, Event, arrivals}
 use Rattle.vdcp_drive.specs.Ears.{Fold}
+use Rattle.vdcp_drive.specs.Steps.{Step, acts, keeps, misses}
 use Rattle.vdcp_drive.specs.Traces.{bytes_of}
 use Rattle.vdcp_drive.specs.declared.hooks.Kept.{Kept}
 use Rattle.vdcp_drive.specs.declared.hooks.Kept.TheVariants as kept
@@ -125,9 +126,24 @@ IsTornBy (Ok ran) unit last torn = torn ≡ []
 IsTornBy (Err fault.Device) unit last torn = torn ≡ []
 IsTornBy (Err fault.Unkept) unit last torn = IsTorn unit last torn
 
--- a run of any automation gave this answer, in which this happened and these were noted: these rows are safe in the file
--- since, and they have each command of which a byte went out and that does more than ask for the state, but for a PLAY
--- that they announce. It holds wherever a call of the wire or of the file fails, so at each moment
+-- nothing failed to be kept in these steps
+abbrev pub AreKept : List Step → Type 0
+AreKept [] = Unit {0}
+AreKept (acts a ∷ later) = AreKept later
+AreKept (keeps r ∷ later) = AreKept later
+AreKept (misses r ∷ later) = ⊥
+
+-- these rows are safe in the file since, with these bytes behind them, and they have each of these commands that does
+-- more than ask for the state, but for a PLAY that they announce
+pub record HasSafe {F : Type 0} (safe : F → Option (List ℕ)) (old new : Recording F) (commands : List Command)
+    (rows : List Row) (torn : List ℕ) : Type 0 where
+  pub safe_since : Appends (safe old.file) (safe new.file) (rows_text old.unit rows ++ torn)
+  pub left : List Command
+  pub kept : acting (commands_of_rows (rows_left old.pending)) ++ acting commands ≡ acting (commands_of_rows rows) ++ left
+  pub unkept : MayBeLeft (notes_seen (seen_before old.pending) ++ notes_in rows) left
+
+-- a run of any automation gave this answer, in which this happened and these were noted: the rows have each command of
+-- which a byte went out
 pub record IsRecorded {E W F : Type 0} (safe : F → Option (List ℕ)) (told : W → Option Told) (fold : Fold E) (plan : Plan)
     (unit : ℕ) (a a' : Auto E) (wire wire' : W) (answer : Result Ran KeptFault) (old new : Recording F) (events : List Event)
     (notes : List Kept) : Type 0 where
@@ -137,15 +153,12 @@ pub record IsRecorded {E W F : Type 0} (safe : F → Option (List ℕ)) (told : 
   pub last : List Row
   pub few : length last ≤ 4
   pub torn : List ℕ
-  pub safe_since : Appends (safe old.file) (safe new.file) (rows_text old.unit rows ++ torn)
   pub torn_by : IsTornBy answer old.unit last torn
   -- what went out since is the bytes of these commands, or a beginning of them
   pub commands : List Command
   pub sends : (t : Told) → told wire ≡ Some t → IfTold (told wire') (λ u. (unsent : List ℕ)
       × (u.sent ++ unsent ≡ t.sent ++ bytes_of unit commands))
-  pub left : List Command
-  pub kept : acting (commands_of_rows (rows_left old.pending)) ++ acting commands ≡ acting (commands_of_rows rows) ++ left
-  pub unkept : MayBeLeft (notes_seen (seen_before old.pending) ++ notes_in rows) left
+  pub has : HasSafe safe old new commands rows torn
   -- so the next run is recorded, too
   pub waits : MayHold new.pending
   pub comes : (t : Told) → told wire ≡ Some t → has_closed t.came ≡ false

@@ -1,14 +1,15 @@
 //! The laws of what a recorder keeps. What a law says is the contract of its function.
-ghost use Rattle.std.specs.Prelude.{◌≡◌, ℕ, Bool, None, Option, Result, Some};
+ghost use Rattle.std.specs.Prelude.{◌≡◌, ℕ, [], Bool, List, None, Option, Result, Some};
 ghost use Rattle.vdcp_auto.specs.Plan.{Plan};
 ghost use Rattle.vdcp_drive.specs.Auto.{Auto};
 ghost use Rattle.vdcp_drive.specs.Hooked.{MayKeep, MayLose};
 ghost use Rattle.vdcp_drive.specs.Leaves.{HasRun, steps_in};
-ghost use Rattle.vdcp_drive.specs.Steps.{World};
-ghost use Rattle.vdcp_drive.specs.Traces.{kept_in};
+ghost use Rattle.vdcp_drive.specs.Steps.{Happens, Step, World};
+ghost use Rattle.vdcp_drive.specs.Traces.{commands_kept, kept_in};
 ghost use Rattle.vdcp_drive.specs.declared.hooks.KeptFault.{KeptFault};
 ghost use Rattle.vdcp_drive.specs.declared.line.Ran.{Ran};
-ghost use Rattle.vdcp_journal_file.specs.Recorded.{IsRecorded, Loses, MayHold, Notes};
+ghost use Rattle.vdcp_journal.specs.declared.row.Row.{Row};
+ghost use Rattle.vdcp_journal_file.specs.Recorded.{AreKept, HasSafe, IsRecorded, Loses, MayHold, Notes};
 ghost use Rattle.vdcp_journal_file.specs.Recording.{Recording};
 
 use crate::disk::Disk;
@@ -20,8 +21,7 @@ use vdcp_drive::{Ear, Wire, laws};
 /// A run whose hooks keep its commands, ends and calls by a recorder is recorded, whatever its automation and its answer
 /// were. The rows that are safe then have each command of which a byte went out, but for those that ask for the state, and
 /// a PLAY that the rows announce. If nothing was awaited before the run, they are what was kept in it, but for what says
-/// nothing new, and for what waits for a later row. It holds wherever a call of the wire or of the disk fails, so at each
-/// moment. If the hooks had no recorder, they have none after it.
+/// nothing new, and for what waits for a later row. If the hooks had no recorder, they have none after it.
 pub fn a_run_is_recorded<
     'a,
     'r,
@@ -42,6 +42,12 @@ pub fn a_run_is_recorded<
         (old new : World W (Option (Recording F))) (answer : Result Ran KeptFault) → HasRun (record
         { does = W.does; adds = MayKeep (Notes F.safe); loses = MayLose (Loses F.safe); can_call = can }) E.fold plan unit
         count a a' old new answer → old.keep ≡ None → new.keep ≡ None }
+    // at each moment, after whatever steps, the safe rows have each command by then
+    ensures moments { (can : Bool) (some : List Step) (old moment : World W (Option (Recording F))) → Happens (record
+        { does = W.does; adds = MayKeep (Notes F.safe); loses = MayLose (Loses F.safe); can_call = can }) some old moment →
+        AreKept some → (before : Recording F) → old.keep ≡ Some before → MayHold before.pending →
+        (since : Recording F) × (rows : List Row) × (moment.keep ≡ Some since)
+        × HasSafe F.safe before since (commands_kept (kept_in some)) rows [] }
 {
     laws::what_a_run_keeps::<S, E, W, Option<Recorder<'a, 'r, R, F>>>();
 }
