@@ -10,7 +10,7 @@ use Rattle.vdcp_wire.specs.Acts.{Act, brings, fails, sends}
 use Rattle.vdcp_wire.specs.Wires.{Arrival, bytes, silence}
 use Rattle.vdcp_drive.specs.Below.{Below}
 use Rattle.vdcp_drive.specs.ServerEars.{completes, says}
-use Rattle.vdcp_drive.specs.Served.{IsMoment, more_of}
+use Rattle.vdcp_drive.specs.Served.{IsMoment, only}
 use Rattle.vdcp_drive.specs.ServeLeaves.{ServeEnding, by_itself, cut_short}
 use Rattle.vdcp_drive.specs.Serving.{HookStep, IsCutShort, Service, acts_of, at_end, in_answer, in_listen, replies, sending, serves, turn_acts}
 use Rattle.vdcp_drive.specs.Serving as left
@@ -48,26 +48,30 @@ within s what later out (a ∷ some) behind more none parts is =
 
 -- if the wire failed
 cut_moment : (law : Below) (s : Service) (done some behind : List Act) (port : ClockedPort) (aired : Option Item)
-    → (cut : IsCutShort s done port aired) → done ≡ some ++ behind → IsMoment s (more_of cut) some
+    → IsCutShort s done port aired → done ≡ some ++ behind → IsMoment s (only (came_in done)) some
 cut_moment law s done some behind port aired (in_listen is port_is aired_is) parts =
     let all : fails ∷ [] ≡ some ++ behind = sym is ∙ parts in
-    none_yet s [] some
+    none_yet s (only (came_in done)) some
     (no_front (came_in some) (came_in behind) (sym (came_both some behind) ∙ ap came_in (sym all)))
     (no_front (sent_in some) (sent_in behind) (sym (sent_both some behind) ∙ ap sent_in (sym all)))
 cut_moment law s done some behind port aired (in_answer piece ms m others front rest fits messages part is port_is aired_is) parts =
     let out : List Act = sending s.port.state.unit (answers_to s.port ms) ++ sends front ∷ [] in
     let f = front_sent law s.port ms m others front rest part in
-    within s (bytes piece) [] out some behind f.0
-    (came_both (sending s.port.state.unit (answers_to s.port ms)) (sends front ∷ [])
+    let none : came_in out ≡ [] =
+    came_both (sending s.port.state.unit (answers_to s.port ms)) (sends front ∷ [])
     ∙ append-nil (came_in (sending s.port.state.unit (answers_to s.port ms)))
-    ∙ sending_came s.port.state.unit (answers_to s.port ms))
+    ∙ sending_came s.port.state.unit (answers_to s.port ms) in
+    subst (λ (l : List Turn). IsMoment s l some)
+    (sym (ap (λ (d : List Act). only (came_in d)) is ∙ ap (λ (l : List Arrival). listen (bytes piece) ∷ only l) none))
+    (within s (bytes piece) [] out some behind f.0 none
     (sending_sent s.port.state.unit (answers_to s.port (completes s.ear piece))
     ∙ ap (λ (l : List Content). answer_bytes s.port.state.unit (answers_to s.port l)) messages ∙ f.1)
-    (sym is ∙ parts)
+    (sym is ∙ parts))
 cut_moment law s done some behind port aired (at_end front rest part is port_is aired_is) parts =
-    within s silence [] (sends front ∷ []) some behind rest refl
+    subst (λ (l : List Turn). IsMoment s l some) (sym (ap (λ (d : List Act). only (came_in d)) is))
+    (within s silence [] (sends front ∷ []) some behind rest refl
     (sending_sent s.port.state.unit (says s.ear) ∙ part ∙ ap (λ (l : List ℕ). l ++ rest) (sym (append-nil front)))
-    (sym is ∙ parts)
+    (sym is ∙ parts))
 
 -- a turn further
 beyond : (s : Service) (what : Turn) (all : List Turn) (some zs : List Act) → came_in (turn_acts what s) ≡ arrivals (what ∷ [])
@@ -123,18 +127,14 @@ same_behind s (what ∷ later) = same_behind (serves what s) later
 
 pub moments_of : (law : Below) (s : Service) (turns : List Turn) (can : Bool) (count : ℕ) (hearing : Hearing)
     (answer : Result TurnsEnd DriveFault) (done : List Act) (last : List HookStep) (port : ClockedPort) (reader : Progress)
-    → (end : ServeEnding can count turns hearing (left.left_by s turns) answer done last port reader)
+    → ServeEnding can count turns hearing (left.left_by s turns) answer done last port reader
     → (some behind : List Act) → acts_of s turns ++ done ≡ some ++ behind
-    → (more : List Turn) × IsMoment s (turns ++ more) some
-moments_of law s turns can count hearing answer done last port reader (by_itself e is to nothing last_is port_is h) some behind parts = (
-  [],
-  moments s turns [] done some behind
-      (λ zs all. let none : zs ≡ [] = no_front zs behind (sym all ∙ nothing) in
-      none_yet (behind_all s turns) [] zs (ap came_in none) (ap sent_in none)) parts,
-)
-moments_of law s turns can count hearing answer done last port reader (cut_short aired is still cut look) some behind parts = (
-  more_of cut,
-  moments s turns (more_of cut) done some behind
-      (λ zs e. subst (λ (x : Service). IsMoment x (more_of cut) zs) (sym (same_behind s turns))
-      (cut_moment law (left.left_by s turns) done zs behind port aired cut e)) parts,
-)
+    → IsMoment s (turns ++ only (came_in done)) some
+moments_of law s turns can count hearing answer done last port reader (by_itself e is to nothing last_is port_is h) some behind parts =
+    moments s turns (only (came_in done)) done some behind
+    (λ zs all. let none : zs ≡ [] = no_front zs behind (sym all ∙ nothing) in
+    none_yet (behind_all s turns) (only (came_in done)) zs (ap came_in none) (ap sent_in none)) parts
+moments_of law s turns can count hearing answer done last port reader (cut_short aired is still cut look) some behind parts =
+    moments s turns (only (came_in done)) done some behind
+    (λ zs e. subst (λ (x : Service). IsMoment x (only (came_in done)) zs) (sym (same_behind s turns))
+    (cut_moment law (left.left_by s turns) done zs behind port aired cut e)) parts

@@ -89,13 +89,6 @@ pub record HasMore (s : Service) (turns : List Turn) (what : Turn) : Type 0 wher
 
 -- At each moment of a server's turns.
 
--- what came in the turn in which the wire failed
-abbrev pub more_of : {s : Service} {done : List Act} {port : ClockedPort} {aired : Option Item} → IsCutShort s done port aired
-    → List Turn
-more_of (in_listen is port_is aired_is) = []
-more_of (in_answer piece before m others front rest fits messages part is port_is aired_is) = listen (bytes piece) ∷ []
-more_of (at_end front rest part is port_is aired_is) = listen silence ∷ []
-
 -- these acts are of the first of these turns, whose answers begin with what went out
 pub record IsMoment (s : Service) (turns : List Turn) (some : List Act) : Type 0 where
   pub upto : List Turn

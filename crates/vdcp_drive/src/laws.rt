@@ -289,7 +289,7 @@ pub fn what_goes_out_is_answered()
     ensures { (s : Service) (turns : List Turn) (can : Bool) (count : ℕ) (hearing : Hearing) (answer : Result TurnsEnd DriveFault)
         (done : List Act) (last : List HookStep) (port : ClockedPort) (reader : Progress) →
         ServeEnding can count turns hearing (left_by s turns) answer done last port reader → (some behind : List Act) →
-        acts_of s turns ++ done ≡ some ++ behind → (more : List Turn) × IsMoment s (turns ++ more) some }
+        acts_of s turns ++ done ≡ some ++ behind → IsMoment s (turns ++ only (came_in done)) some }
 {
     laws_below();
 }
