@@ -1,20 +1,12 @@
 -- Bytes that begin the spellings of messages, one after another: whole messages, and the beginning of one.
-use Rattle.std.proofs.Common.{ℕ, ◌≡◌, ◌+◌, ◌-◌, ◌<◌, ◌≤◌, Bool, take, if◌then◌else◌, All, List, [], ◌∷◌, ◌++◌, length, refl, sym, ap, ap₂, subst, ◌∙◌}
-use Rattle.std.proofs.Common.{append_assoc, append-nil, length-append, arith}
-use Rattle.std.proofs.Math.Seq.{take-append_seam, take-append-add}
-use Rattle.std.proofs.lemmas.Bool.{lt-ltb}
+use Rattle.std.proofs.Common.{ℕ, ◌≡◌, All, List, [], ◌∷◌, ◌++◌, length, refl, sym, ap, ap₂, subst, ◌∙◌}
+use Rattle.std.proofs.Common.{append_assoc, length-append, arith}
 use Rattle.std.proofs.lemmas.Grind.{flat_map-append}
-use Rattle.std.proofs.lemmas.List.{length-take, take-append-le, take_all}
-use Rattle.std.proofs.lemmas.List.Elements.{All-append, All-take, All-head, All-tail, All-cons, All-nil}
+use Rattle.std.proofs.lemmas.List.Elements.{All-head, All-tail, All-cons, All-nil}
 use Rattle.std.specs.List.{flat_map}
-use Rattle.vdcp_frame.specs.Burst.{messages_of, messages_within, end_of, short_end}
-use Rattle.vdcp_frame.specs.Message.{Content, ack, AreOctets, Fits, Spells, spelling}
-use Rattle.vdcp_frame.specs.Progress.{reading}
-use Rattle.vdcp_frame.specs.Reader.{Follows}
-use Rattle.vdcp_frame.specs.Reading.{AreMessages, End, IsUnfinished, SpellsAll, burst_limit, clean, cut, fault, long_end}
-use Rattle.vdcp_words.specs.declared.reply.Reply.TheVariants.{Nak}
-use Rattle.vdcp_port.specs.Answers.{end_answers}
-use Rattle.vdcp_drive.specs.Reading.{Held, holds, skips, completed, held_after}
+use Rattle.vdcp_frame.specs.Message.{Content, ack, Fits, Spells, spelling}
+use Rattle.vdcp_frame.specs.Reading.{IsUnfinished, SpellsAll}
+use Rattle.vdcp_drive.specs.Reading.{Held, holds, completed, held_after}
 use Rattle.vdcp_laws.specs.Below.{Spelt, Completed}
 
 -- the bytes of messages one after another
@@ -29,10 +21,9 @@ spells_all law [] fits = refl
 spells_all law (m ∷ ms) fits =
     (spelling m, spelt ms, law.spelt m (All-head Fits m ms fits), spells_all law ms (All-tail Fits m ms fits), refl)
 
-pub fits_front : (ms ns : List Content) → All Fits (ms ++ ns) → All Fits ms
-fits_front [] ns fits = All-nil Fits
-fits_front (m ∷ ms) ns fits =
-    All-cons Fits m ms (All-head Fits m (ms ++ ns) fits) (fits_front ms ns (All-tail Fits m (ms ++ ns) fits))
+pub front_all : {X : Type 0} (P : X → Type 0) (xs ys : List X) → All P (xs ++ ys) → All P xs
+front_all P [] ys all = All-nil P
+front_all P (x ∷ xs) ys all = All-cons P x xs (All-head P x (xs ++ ys) all) (front_all P xs ys (All-tail P x (xs ++ ys) all))
 
 pub fits_rest : (ms ns : List Content) → All Fits (ms ++ ns) → All Fits ns
 fits_rest [] ns fits = fits
@@ -144,92 +135,3 @@ completes law reads held piece new held' u fits v is =
           ∙ ap (held_after (holds [])) is
           ∙ reads.held new (spelt new) held' (spells_all law new fits) v,
     )
-
-octets_front : (xs ys : List ℕ) → AreOctets (xs ++ ys) → AreOctets xs
-octets_front xs ys h = subst AreOctets (take-append_seam xs ys) (All-take (λ b. b < 256) (length xs) (xs ++ ys) h)
-
-follows_spelt : (law : Spelt) (ms : List Content) (held : List ℕ) → All Fits ms → IsUnfinished held
-    → length (spelt ms ++ held) ≤ burst_limit
-    → Follows (spelt ms ++ held) ms (reading (length (spelt ms ++ held)) held)
-follows_spelt law ms held fits u small = record {
-  whole = spelt ms;
-  parts = refl;
-  spelt = spells_all law ms fits;
-  unfinished = u;
-  count = refl;
-  limit = small;
-}
-
-octets_spelt : (law : Spelt) (ms : List Content) (held : List ℕ) → All Fits ms → IsUnfinished held
-    → AreOctets (spelt ms ++ held)
-octets_spelt law ms held fits u =
-    All-append (λ b. b < 256) (spelt ms) held (law.octets_all ms (spelt ms) (spells_all law ms fits))
-    (octets_front held u.begins.more (law.octets u.begins.message (held ++ u.begins.more) u.begins.spelt))
-
--- a burst of whole messages and the beginning of one has those messages
-pub messages_spelt : (law : Spelt) (ms : List Content) (held : List ℕ) → All Fits ms → IsUnfinished held
-    → length (spelt ms ++ held) ≤ burst_limit → messages_of (spelt ms ++ held) ≡ ms
-messages_spelt law ms held fits u small =
-    sym (law.messages (spelt ms ++ held) ms (reading (length (spelt ms ++ held)) held)
-    (octets_spelt law ms held fits u) (follows_spelt law ms held fits u small))
-
--- and if all are whole it ends clean
-pub clean_spelt : (law : Spelt) (ms : List Content) → All Fits ms → length (spelt ms ++ []) ≤ burst_limit
-    → end_of (spelt ms ++ []) ≡ clean
-clean_spelt law ms fits small =
-    law.end (spelt ms ++ []) ms (reading (length (spelt ms ++ [])) [])
-    (octets_spelt law ms [] fits (nothing_unfinished law))
-    (follows_spelt law ms [] fits (nothing_unfinished law) small)
-
-abbrev held_in : Held → List ℕ
-held_in (holds held) = held
-held_in skips = []
-
--- bytes that are whole messages hold no beginning of another one
-pub whole_spelt : (law : Spelt) (reads : Completed) (ms : List Content) (held : List ℕ) → All Fits ms
-    → IsUnfinished held → AreMessages (spelt ms ++ held) → held ≡ []
-whole_spelt law reads ms held fits u (ns, s) =
-    let one : held_after (holds []) (spelt ms ++ held) ≡ holds held =
-    reads.held ms (spelt ms) held (spells_all law ms fits) u in
-    let other : held_after (holds []) ((spelt ms ++ held) ++ []) ≡ holds [] =
-    reads.held ns (spelt ms ++ held) [] s (nothing_unfinished law) in
-    ap held_in (sym one ∙ ap (held_after (holds [])) (sym (append-nil (spelt ms ++ held))) ∙ other)
-
--- Bytes past the limit.
-
--- what is read of a burst stands in its first bytes
-same_front : (a b : List ℕ) → take burst_limit a ≡ take burst_limit b → messages_of a ≡ messages_of b
-same_front a b is = ap (λ (l : List ℕ). messages_within (length l) l) is
-
-pub messages_past : (burst more : List ℕ) → burst_limit ≤ length burst → messages_of (burst ++ more) ≡ messages_of burst
-messages_past burst more past = same_front (burst ++ more) burst (take-append-le burst_limit burst more past)
-
--- the bytes of a piece that stand within the limit
-abbrev pub within_limit : List ℕ → ℕ
-within_limit burst = burst_limit - length burst
-
-pub front_small : (burst piece : List ℕ) → length burst ≤ burst_limit
-    → length (burst ++ take (within_limit burst) piece) ≤ burst_limit
-front_small burst piece small =
-    omega (arith, length-append burst (take (within_limit burst) piece), length-take (within_limit burst) piece)
-
-pub messages_within_limit : (burst piece : List ℕ) → length burst ≤ burst_limit
-    → messages_of (burst ++ piece) ≡ messages_of (burst ++ take (within_limit burst) piece)
-messages_within_limit burst piece small =
-    let k : ℕ = within_limit burst in
-    let all : burst_limit ≡ length burst + k = omega arith in
-    same_front (burst ++ piece) (burst ++ take k piece)
-    (ap (λ (n : ℕ). take n (burst ++ piece)) all ∙ take-append-add burst piece k
-    ∙ sym (take_all burst_limit (burst ++ take k piece) (front_small burst piece small)))
-
-long_by : (short : End) → end_answers (long_end burst_limit short) ≡ Nak 0x04 ∷ []
-long_by clean = refl
-long_by (cut count) = refl
-long_by (fault which place) = refl
-
--- and a burst that is longer ends with a fault
-pub end_past : (burst : List ℕ) → burst_limit < length burst → end_answers (end_of burst) ≡ Nak 0x04 ∷ []
-end_past burst past =
-    let short : End = short_end (take burst_limit burst) in
-    ap (λ (b : Bool). end_answers (if b then long_end burst_limit short else short))
-    (lt-ltb burst_limit (length burst) past) ∙ long_by short

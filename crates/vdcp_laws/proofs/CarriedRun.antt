@@ -9,12 +9,14 @@ use Rattle.vdcp_auto.specs.Turn.{ticked}
 use Rattle.vdcp_auto.specs.declared.exchange.Exchange.{Exchange}
 use Rattle.vdcp_wire.specs.Acts.{Act}
 use Rattle.vdcp_wire.specs.Wires.{Arrival}
+use Rattle.vdcp_drive.specs.Serving.{begins, items_in, hook_steps}
+use Rattle.vdcp_drive.specs.Turns.{Turn}
+use Rattle.vdcp_drive.specs.declared.hearing.Hearing.TheVariants.{AtOnce}
 use Rattle.vdcp_drive.specs.Auto.{Auto, after, log_of}
 use Rattle.vdcp_drive.specs.Auto as auto
 use Rattle.vdcp_drive.specs.Hearing.{at_once}
 use Rattle.vdcp_drive.specs.Leaves.{Ending, by_itself, in_keep, in_drop, in_send, in_listen, IsRun, steps_in}
 use Rattle.vdcp_drive.specs.Reading.{Held}
-use Rattle.vdcp_drive.specs.Served.{items_served}
 use Rattle.vdcp_drive.specs.Steps.{Step}
 use Rattle.vdcp_drive.specs.Traces.{acts_in, came_in}
 use Rattle.vdcp_drive.specs.declared.hooks.KeptFault.{KeptFault}
@@ -23,8 +25,9 @@ use Rattle.vdcp_laws.specs.Automation.{Prompt, led}
 use Rattle.vdcp_laws.specs.Carried.{AreCarried, driver_of}
 use Rattle.vdcp_laws.specs.EndsHeadline.{EndsHeadline}
 use Rattle.vdcp_laws.specs.OneConnection.{ends_at, ends_by}
-use Rattle.vdcp_laws.specs.TwoEnds.{AreJoined, CanJoin, Ends, log_now, new_ends}
-use Rattle.vdcp_laws.proofs.Carrying.{SendsServed, run_led}
+use Rattle.vdcp_laws.specs.TwoEnds.{AreJoined, CanJoin, Ends, aired_now, log_now, new_ends}
+use Rattle.vdcp_laws.proofs.Fronts.{came_of}
+use Rattle.vdcp_laws.proofs.Leading.{SendsAnswers, arrival_at, run_led}
 use Rattle.vdcp_laws.proofs.Headline.{Laws, before_tick, of_ends}
 use Rattle.vdcp_laws.proofs.OneRun.{goes, led_on}
 use Rattle.vdcp_laws.proofs.Same.{led_log, led_so}
@@ -39,59 +42,61 @@ left_at plan unit count came a a' answer more (in_listen is m left) = inr left
 
 -- where a run's ends are
 pub joined : (can : Bool) (plan : Plan) (port : ClockedPort) (asked : List Command) (e : Ends) (count : ℕ)
-    (answer : Result Ran KeptFault) (a' : Auto Held) (servers : List Act)
+    (answer : Result Ran KeptFault) (a' : Auto Held) (turns : List Turn) (below : List Act)
     → AreJoined plan port asked e
     → (run : IsRun can at_once plan port.state.unit count (driver_of e.automation) a' answer)
-    → SendsServed e servers → AreCarried plan port.state.unit e (acts_in (steps_in run)) servers
-    → AreJoined plan port asked (ends_at plan port.state.unit e run.events (e.downs ++ came_in servers))
-joined can plan port asked e count answer a' servers j run serves c =
+    → came_in below ≡ came_of arrival_at turns → SendsAnswers e turns below
+    → AreCarried plan port.state.unit e (acts_in (steps_in run)) below
+    → AreJoined plan port asked (ends_at plan port.state.unit e run.events (e.downs ++ turns))
+joined can plan port asked e count answer a' turns below j run whole answers c =
     led_on plan port.state.unit (new_ends port asked) e _ j
-    (run_led can plan port.state.unit count e answer a' servers run serves c)
+    (run_led can plan port.state.unit count e answer a' turns below run whole answers c)
 
 -- with the next command given
 with_next : (law : Laws) (can : Bool) (plan : Plan) (port : ClockedPort) (asked : List Command) (e : Ends) (count : ℕ)
-    (answer : Result Ran KeptFault) (a' : Auto Held) (servers : List Act)
+    (answer : Result Ran KeptFault) (a' : Auto Held) (turns : List Turn) (below : List Act)
     → CanJoin plan port asked → AreJoined plan port asked e
     → (run : IsRun can at_once plan port.state.unit count (driver_of e.automation) a' answer)
-    → SendsServed e servers → AreCarried plan port.state.unit e (acts_in (steps_in run)) servers
+    → came_in below ≡ came_of arrival_at turns → SendsAnswers e turns below
+    → AreCarried plan port.state.unit e (acts_in (steps_in run)) below
     → EndsHeadline plan port.clips (ticked (after at_once plan port.state.unit (driver_of e.automation) run.events).state)
     (log_now e ++ log_of at_once plan port.state.unit (driver_of e.automation) run.events)
-    (e.aired_before ++ items_served e.port (e.downs ++ came_in servers))
-with_next law can plan port asked e count answer a' servers start j run serves c =
+    (aired_now (record e { downs = e.downs ++ turns }))
+with_next law can plan port asked e count answer a' turns below start j run whole answers c =
     let unit : ℕ = port.state.unit in
     let now : Ends = ends_by plan unit e run.events in
     let p : Prompt = led plan unit e.automation run.events in
     let more : List Exchange = log_of at_once plan unit (driver_of e.automation) run.events in
     let g = goes plan unit e run.events in
-    let downs : List Arrival = e.downs ++ came_in servers in
+    let downs : List Turn = e.downs ++ turns in
+    let aired : List Item = aired_now (record e { downs = downs }) in
     let log_is : now.log_before ++ now.automation.log ≡ log_now e ++ more =
     ap₂ (λ (l : List Exchange) (q : Prompt). l ++ q.log) g.log_before g.automation
     ∙ ap (λ (l : List Exchange). e.log_before ++ l) (led_log plan unit e.automation run.events)
     ∙ sym (append_assoc e.log_before e.automation.log more) in
-    let aired_is : now.aired_before ++ items_served now.port downs ≡ e.aired_before ++ items_served e.port downs =
-    ap₂ (λ (l : List Item) (q : ClockedPort). l ++ items_served q downs) g.aired_before g.port in
+    let aired_is : aired_now (record now { downs = downs }) ≡ aired =
+    ap₂ (λ (l : List Item) (q : ClockedPort). l ++ items_in (hook_steps (begins AtOnce q) downs)) g.aired_before g.port in
     let state_is : driver_of now.automation ≡ after at_once plan unit (driver_of e.automation) run.events =
     ap driver_of g.automation ∙ led_so plan unit e.automation run.events in
-    subst (λ (x : Auto Held). EndsHeadline plan port.clips (ticked x.state) (log_now e ++ more)
-    (e.aired_before ++ items_served e.port downs)) state_is
-    (subst (λ (l : List Exchange). EndsHeadline plan port.clips (ticked now.automation.state) l
-    (e.aired_before ++ items_served e.port downs)) log_is
+    subst (λ (x : Auto Held). EndsHeadline plan port.clips (ticked x.state) (log_now e ++ more) aired) state_is
+    (subst (λ (l : List Exchange). EndsHeadline plan port.clips (ticked now.automation.state) l aired) log_is
     (subst (EndsHeadline plan port.clips (ticked now.automation.state) (now.log_before ++ now.automation.log)) aired_is
     (of_ends law plan port asked (ends_at plan unit e run.events downs) start
-    (joined can plan port asked e count answer a' servers j run serves c))))
+    (joined can plan port asked e count answer a' turns below j run whole answers c))))
 
 pub of_carried : (law : Laws) (can : Bool) (plan : Plan) (port : ClockedPort) (asked : List Command) (e : Ends) (count : ℕ)
-    (answer : Result Ran KeptFault) (a' : Auto Held) (servers : List Act)
+    (answer : Result Ran KeptFault) (a' : Auto Held) (turns : List Turn) (below : List Act)
     → CanJoin plan port asked → AreJoined plan port asked e
     → (run : IsRun can at_once plan port.state.unit count (driver_of e.automation) a' answer)
-    → SendsServed e servers → AreCarried plan port.state.unit e (acts_in (steps_in run)) servers
+    → came_in below ≡ came_of arrival_at turns → SendsAnswers e turns below
+    → AreCarried plan port.state.unit e (acts_in (steps_in run)) below
     → EndsHeadline plan port.clips a'.state
     (log_now e ++ log_of at_once plan port.state.unit (driver_of e.automation) run.events)
-    (e.aired_before ++ items_served e.port (e.downs ++ came_in servers))
-of_carried law can plan port asked e count answer a' servers start j run serves c =
+    (aired_now (record e { downs = e.downs ++ turns }))
+of_carried law can plan port asked e count answer a' turns below start j run whole answers c =
     by (left_at plan port.state.unit count _
     (after at_once plan port.state.unit (driver_of e.automation) run.events) a' answer run.more run.ending)
-    (with_next law can plan port asked e count answer a' servers start j run serves c) where
+    (with_next law can plan port asked e count answer a' turns below start j run whole answers c) where
       by : {b : Auto Held} {log : List Exchange} {aired : List Item} → (a' ≡ b) ⊎ (a' ≡ auto.gives b)
           → EndsHeadline plan port.clips (ticked b.state) log aired → EndsHeadline plan port.clips a'.state log aired
       by {b} {log} {aired} (inl left) h =

@@ -1,5 +1,5 @@
 -- By each act of its wire a driver has sent its automation's commands until then.
-use Rattle.std.proofs.Common.{ℕ, ◌≡◌, Bool, false, List, [], ◌∷◌, ◌++◌, map, refl, sym, ap, ap₂, subst, ◌∙◌, append_assoc, append-nil, arith, length}
+use Rattle.std.proofs.Common.{ℕ, ◌≡◌, false, List, [], ◌∷◌, ◌++◌, map, refl, sym, ap, subst, ◌∙◌, append_assoc, append-nil, arith, length}
 use Rattle.std.proofs.lemmas.Grind.{flat_map-append}
 use Rattle.std.specs.Option.{option_to_list}
 use Rattle.std.specs.Prelude.{Option, None, Some, Result}
@@ -8,12 +8,12 @@ use Rattle.vdcp_auto.specs.Plan.{Plan}
 use Rattle.vdcp_auto.specs.State.{State}
 use Rattle.vdcp_auto.specs.Turn.{given, ticked}
 use Rattle.vdcp_wire.specs.Acts.{Act, sends, brings, drops, fails}
-use Rattle.vdcp_wire.specs.Wires.{Arrival, bytes, silence, close}
-use Rattle.vdcp_drive.specs.Auto.{AreMade, Auto, Event, after, arrivals, arrives, calls, ended}
+use Rattle.vdcp_wire.specs.Wires.{Arrival}
+use Rattle.vdcp_drive.specs.Auto.{Auto, Event, after, arrivals, arrives, calls, ended}
 use Rattle.vdcp_drive.specs.Auto as auto
 use Rattle.vdcp_drive.specs.Ears.{inputs}
 use Rattle.vdcp_drive.specs.Hearing.{at_once}
-use Rattle.vdcp_drive.specs.Leaves.{Ending, by_itself, in_keep, in_drop, in_send, in_listen, IsRun, steps_in}
+use Rattle.vdcp_drive.specs.Leaves.{Ending, by_itself, in_keep, in_drop, in_send, in_listen}
 use Rattle.vdcp_drive.specs.Reading.{Held}
 use Rattle.vdcp_drive.specs.Steps.{Step, acts, keeps, misses, command_bytes, ended_notes, given_notes, opening, round, sending, steps_of}
 use Rattle.vdcp_drive.specs.Traces.{acts_in, bytes_of, came_in, sent_in}
@@ -23,16 +23,11 @@ use Rattle.vdcp_drive.specs.declared.hooks.Kept.{Kept}
 use Rattle.vdcp_drive.specs.declared.hooks.KeptFault.{KeptFault}
 use Rattle.vdcp_drive.specs.declared.line.Ran.{Ran}
 use Rattle.vdcp_laws.specs.Automation.{Prompt, commands_in, gives, heeds, led, listens}
-use Rattle.vdcp_laws.specs.Carried.{AreCarried, driver_of}
-use Rattle.vdcp_laws.specs.Carried as carried
-use Rattle.vdcp_laws.specs.OneConnection.{ends_at, ends_by, hears_in}
-use Rattle.vdcp_laws.specs.TwoEnds as two
-use Rattle.vdcp_drive.specs.Served.{served}
-use Rattle.vdcp_laws.specs.TwoEnds.{AreLed, Ends, bytes_in, sent_down, sent_up, with_command, with_down}
+use Rattle.vdcp_laws.specs.Carried.{driver_of}
 use Rattle.vdcp_laws.proofs.Commands.{commands_gives, commands_listens}
-use Rattle.vdcp_laws.proofs.OneRun.{calls_on, goes, listened, upto, upto_all, upto_came}
+use Rattle.vdcp_laws.proofs.Fronts.{upto}
+use Rattle.vdcp_laws.proofs.OneRun.{arrival_in}
 use Rattle.vdcp_laws.proofs.Same.{listens_so}
-use Rattle.vdcp_port.specs.Clock.{ClockedPort}
 
 -- Acts and steps, one after another.
 
@@ -42,14 +37,14 @@ acts_both (acts a ∷ xs) ys = ap (λ (l : List Act). a ∷ l) (acts_both xs ys)
 acts_both (keeps r ∷ xs) ys = acts_both xs ys
 acts_both (misses c ∷ xs) ys = acts_both xs ys
 
-came_both : (xs ys : List Act) → came_in (xs ++ ys) ≡ came_in xs ++ came_in ys
+pub came_both : (xs ys : List Act) → came_in (xs ++ ys) ≡ came_in xs ++ came_in ys
 came_both [] ys = refl
 came_both (sends b ∷ xs) ys = came_both xs ys
 came_both (brings what ∷ xs) ys = ap (λ (l : List Arrival). what ∷ l) (came_both xs ys)
 came_both (drops ∷ xs) ys = came_both xs ys
 came_both (fails ∷ xs) ys = came_both xs ys
 
-sent_both : (xs ys : List Act) → sent_in (xs ++ ys) ≡ sent_in xs ++ sent_in ys
+pub sent_both : (xs ys : List Act) → sent_in (xs ++ ys) ≡ sent_in xs ++ sent_in ys
 sent_both [] ys = refl
 sent_both (sends b ∷ xs) ys =
     ap (λ (l : List ℕ). b ++ l) (sent_both xs ys) ∙ sym (append_assoc b (sent_in xs) (sent_in ys))
@@ -92,9 +87,9 @@ first_brings_none unit (Some c) = refl
 
 -- What the acts so far have sent.
 
-record Sends (plan : Plan) (unit : ℕ) (p : Prompt) (events : List Event) (so_far : List Act) : Type 0 where
-  more : List ℕ
-  is : bytes_of unit (commands_in plan (gives (led plan unit p (upto events (came_in so_far)))))
+pub record Sends (plan : Plan) (unit : ℕ) (p : Prompt) (events : List Event) (so_far : List Act) : Type 0 where
+  pub more : List ℕ
+  pub is : bytes_of unit (commands_in plan (gives (led plan unit p (upto arrival_in events (came_in so_far)))))
       ≡ bytes_of unit (commands_in plan p) ++ (sent_in so_far ++ more)
 
 -- with the next command given
@@ -105,7 +100,7 @@ given_bytes plan unit p = ap (bytes_of unit) (commands_gives plan p)
 
 -- nothing happened, and of the command that is given next these bytes went out
 sends_first : (plan : Plan) (unit : ℕ) (p : Prompt) (events : List Event) (so_far : List Act) (more : List ℕ)
-    → upto events (came_in so_far) ≡ []
+    → upto arrival_in events (came_in so_far) ≡ []
     → bytes_of unit (option_to_list (given plan p.state)) ≡ sent_in so_far ++ more → Sends plan unit p events so_far
 sends_first plan unit p events so_far more none part = record {
   more = more;
@@ -194,7 +189,7 @@ tail_of (x ∷ xs) = xs
 -- a listen more
 sends_on : (plan : Plan) (unit : ℕ) (p : Prompt) (what : Arrival) (later : List Event) (so_far : List Act)
     → (s : Sends plan unit (listens plan unit what (gives p)) later so_far)
-    → bytes_of unit (commands_in plan (gives (led plan unit p (arrives what ∷ upto later (came_in so_far)))))
+    → bytes_of unit (commands_in plan (gives (led plan unit p (arrives what ∷ upto arrival_in later (came_in so_far)))))
     ≡ bytes_of unit (commands_in plan p) ++ (bytes_of unit (option_to_list (given plan p.state))
     ++ (sent_in so_far ++ s.more))
 sends_on plan unit p what later so_far s =
@@ -246,7 +241,7 @@ call_commands : (plan : Plan) (c : Call) (p : Prompt) → commands_in plan (heed
 call_commands plan call.Take p = refl
 call_commands plan call.Stop p = refl
 
-sends_by : (plan : Plan) (unit count : ℕ) (all : List Arrival) (events : List Event) (p : Prompt)
+pub sends_by : (plan : Plan) (unit count : ℕ) (all : List Arrival) (events : List Event) (p : Prompt)
     (answer : Result Ran KeptFault) (more : List Step) (a' : Auto Held)
     → Ending at_once plan unit count all (after at_once plan unit (driver_of p) events) answer more a'
     → (so_far behind : List Act) → acts_in (steps_of at_once plan unit (driver_of p) events ++ more) ≡ so_far ++ behind
@@ -272,178 +267,3 @@ sends_by plan unit count all (arrives what ∷ later) p answer more a' e so_far 
     (subst (λ (y : Auto Held). Ending at_once plan unit count all (after at_once plan unit y later) answer more a')
     (sym same) e) rest behind
     (ap (λ (y : Auto Held). acts_in (steps_of at_once plan unit y later ++ more)) same ∙ split))
-
--- So what is carried leads both ends on.
-
-sent_enough : (plan : Plan) (unit : ℕ) (e : Ends) (events : List Event) (so_far : List Act) (came : List ℕ)
-    (piece rest : List ℕ) → Sends plan unit e.automation events so_far
-    → sent_down plan unit e ++ sent_in so_far ≡ came ++ (piece ++ rest)
-    → (left : List ℕ) × (bytes_of unit (e.asked ++ commands_in plan
-    (gives (led plan unit e.automation (upto events (came_in so_far))))) ≡ came ++ (piece ++ left))
-sent_enough plan unit e events so_far came piece rest s is =
-    let now : List Command = commands_in plan (gives (led plan unit e.automation (upto events (came_in so_far)))) in
-    let own : List Command = commands_in plan e.automation in
-    let asked : List ℕ = bytes_of unit e.asked in (
-      rest ++ s.more,
-      flat_map-append (command_bytes unit) e.asked now
-          ∙ ap (λ (l : List ℕ). asked ++ l) s.is
-          ∙ sym (append_assoc asked (bytes_of unit own) (sent_in so_far ++ s.more))
-          ∙ ap (λ (l : List ℕ). l ++ (sent_in so_far ++ s.more)) (sym (flat_map-append (command_bytes unit) e.asked own))
-          ∙ sym (append_assoc (sent_down plan unit e) (sent_in so_far) s.more)
-          ∙ ap (λ (l : List ℕ). l ++ s.more) is
-          ∙ append_assoc came (piece ++ rest) s.more
-          ∙ ap (λ (l : List ℕ). came ++ l) (append_assoc piece rest s.more),
-    )
-
--- a front without its last act
-abbrev IsFront : List Act → List Act → Type 0
-IsFront list so_far = (behind : List Act) × (list ≡ so_far ++ behind)
-
-without : (list so_far : List Act) (act : Act) → IsFront list (so_far ++ act ∷ []) → IsFront list so_far
-without list so_far act (behind, is) = (act ∷ behind, is ∙ append_assoc so_far (act ∷ []) behind)
-
-same_came : (so_far : List Act) (act : Act) → came_in (act ∷ []) ≡ [] → came_in (so_far ++ act ∷ []) ≡ came_in so_far
-same_came so_far act none =
-    came_both so_far (act ∷ []) ∙ ap (λ (l : List Arrival). came_in so_far ++ l) none ∙ append-nil (came_in so_far)
-
--- what a server has sent by any act of its wire is of what is served for what came by then
-abbrev pub SendsServed : Ends → List Act → Type 0
-SendsServed e list = (some behind : List Act) → list ≡ some ++ behind → (rest : List ℕ)
-    × (served e.port (e.downs ++ came_in some) ≡ sent_up e ++ (sent_in some ++ rest))
-
-served_enough : (e : Ends) (list some : List Act) (came piece rest : List ℕ) → SendsServed e list → IsFront list some
-    → sent_up e ++ sent_in some ≡ came ++ (piece ++ rest)
-    → (left : List ℕ) × (served e.port (e.downs ++ came_in some) ≡ came ++ (piece ++ left))
-served_enough e list some came piece rest law front is =
-    let s = law some front.0 front.1 in (
-      rest ++ s.0,
-      s.1 ∙ sym (append_assoc (sent_up e) (sent_in some) s.0) ∙ ap (λ (l : List ℕ). l ++ s.0) is
-          ∙ append_assoc came (piece ++ rest) s.0 ∙ ap (λ (l : List ℕ). came ++ l) (append_assoc piece rest s.0),
-    )
-
--- where both ends are then
-abbrev IsThere : Plan → ℕ → Ends → List Event → List Act → List Act → Type 0
-IsThere plan unit e events autos servers =
-    AreLed plan unit e (ends_at plan unit e (upto events (came_in autos)) (e.downs ++ came_in servers))
-
-silent : (plan : Plan) (unit : ℕ) (e : Ends) (events : List Event) (autos : List Act) (act : Act) (servers : List Act)
-    → came_in (act ∷ []) ≡ [] → IsThere plan unit e events autos servers
-    → IsThere plan unit e events (autos ++ act ∷ []) servers
-silent plan unit e events autos act servers none h =
-    subst (λ (l : List Arrival). AreLed plan unit e (ends_at plan unit e (upto events l) (e.downs ++ came_in servers)))
-    (sym (same_came autos act none)) h
-
-silent_below : (plan : Plan) (unit : ℕ) (e : Ends) (events : List Event) (autos servers : List Act) (act : Act)
-    → came_in (act ∷ []) ≡ [] → IsThere plan unit e events autos servers
-    → IsThere plan unit e events autos (servers ++ act ∷ [])
-silent_below plan unit e events autos servers act none h =
-    subst (λ (l : List Arrival). AreLed plan unit e (ends_at plan unit e (upto events (came_in autos)) (e.downs ++ l)))
-    (sym (same_came servers act none)) h
-
--- something comes down
-lower : (plan : Plan) (unit : ℕ) (e : Ends) (events : List Event) (autos servers : List Act) (what : Arrival)
-    → AreLed plan unit e
-    (with_down what (ends_at plan unit e (upto events (came_in autos)) (e.downs ++ came_in servers)))
-    → IsThere plan unit e events autos (servers ++ brings what ∷ [])
-lower plan unit e events autos servers what h =
-    subst (λ (l : List Arrival). AreLed plan unit e (ends_at plan unit e (upto events (came_in autos)) l))
-    (append_assoc e.downs (came_in servers) (what ∷ [])
-    ∙ ap (λ (l : List Arrival). e.downs ++ l) (sym (came_both servers (brings what ∷ [])))) h
-
--- something comes up
-higher : (can : Bool) (plan : Plan) (unit : ℕ) (e : Ends) (events : List Event) (list autos servers : List Act)
-    (what : Arrival) → came_in list ≡ arrivals events → AreMade can at_once plan unit (driver_of e.automation) events
-    → IsFront list (autos ++ brings what ∷ [])
-    → AreLed plan unit e (record (hears_in plan unit what
-    (with_command plan (ends_by plan unit e (upto events (came_in autos))))) { downs = e.downs ++ came_in servers })
-    → IsThere plan unit e events (autos ++ brings what ∷ []) servers
-higher can plan unit e events list autos servers what whole made front j =
-    let rest : List Arrival = came_in front.0 in
-    let is : arrivals events ≡ came_in autos ++ what ∷ rest =
-    sym whole ∙ ap came_in front.1 ∙ came_both (autos ++ brings what ∷ []) front.0
-    ∙ ap (λ (l : List Arrival). l ++ rest) (came_both autos (brings what ∷ []))
-    ∙ append_assoc (came_in autos) (what ∷ []) rest in
-    subst (λ (l : List Arrival). AreLed plan unit e (ends_at plan unit e (upto events l) (e.downs ++ came_in servers)))
-    (sym (came_both autos (brings what ∷ [])))
-    (listened can plan unit e events (came_in autos) rest what (e.downs ++ came_in servers) is made j)
-
--- what came up to the automation by then
-ups_so : (plan : Plan) (unit : ℕ) (e : Ends) (events : List Event) (list autos : List Act)
-    → came_in list ≡ arrivals events → IsFront list autos
-    → (ends_by plan unit e (upto events (came_in autos))).ups ≡ e.ups ++ bytes_in (came_in autos)
-ups_so plan unit e events list autos whole front =
-    (goes plan unit e (upto events (came_in autos))).ups
-    ∙ ap (λ (l : List Arrival). e.ups ++ bytes_in l) (upto_came events (came_in autos) (came_in front.0)
-    (sym whole ∙ ap came_in front.1 ∙ came_both autos front.0))
-
-come : (can : Bool) (plan : Plan) (unit : ℕ) (e : Ends) (events : List Event) (list served_list autos servers : List Act)
-    → came_in list ≡ arrivals events → AreMade can at_once plan unit (driver_of e.automation) events
-    → ((some behind : List Act) → list ≡ some ++ behind → Sends plan unit e.automation events some)
-    → SendsServed e served_list → AreCarried plan unit e autos servers → IsFront list autos → IsFront served_list servers
-    → IsThere plan unit e events autos servers
-come can plan unit e events list below _ _ whole made law serves carried.begun front back =
-    subst (λ (l : List Arrival). AreLed plan unit e (ends_at plan unit e (upto events []) l)) (sym (append-nil e.downs))
-    (two.went_on (calls_on can plan unit e e e.downs events two.begun made) two.gave)
-come can plan unit e events list below _ _ whole made law serves (carried.sent {autos} {servers} h b) front back =
-    silent plan unit e events autos (sends b) servers refl
-    (come can plan unit e events list below autos servers whole made law serves h (without list autos (sends b) front) back)
-come can plan unit e events list below _ _ whole made law serves (carried.up {autos} {servers} h piece rest is) front back =
-    let enough = served_enough e below servers (e.ups ++ bytes_in (came_in autos)) piece rest serves back is in
-    let before = without list autos (brings (bytes piece)) front in
-    let now : Ends = ends_by plan unit e (upto events (came_in autos)) in
-    higher can plan unit e events list autos servers (bytes piece) whole made front
-    (two.went_on (come can plan unit e events list below autos servers whole made law serves h before back)
-    (two.came_up piece enough.0
-    (ap (λ (p : ClockedPort). served p (e.downs ++ came_in servers)) (goes plan unit e (upto events (came_in autos))).port
-    ∙ enough.1
-    ∙ ap (λ (l : List ℕ). l ++ (piece ++ enough.0)) (sym (ups_so plan unit e events list autos whole before)))))
-come can plan unit e events list below _ _ whole made law serves (carried.waited {autos} {servers} h) front back =
-    higher can plan unit e events list autos servers silence whole made front
-    (two.went_on (come can plan unit e events list below autos servers whole made law serves h
-    (without list autos (brings silence) front) back) two.waited)
-come can plan unit e events list below _ _ whole made law serves (carried.hung_up {autos} {servers} h) front back =
-    higher can plan unit e events list autos servers close whole made front
-    (two.went_on (come can plan unit e events list below autos servers whole made law serves h
-    (without list autos (brings close) front) back) two.hung_up)
-come can plan unit e events list below _ _ whole made law serves (carried.failed {autos} {servers} h) front back =
-    silent plan unit e events autos fails servers refl
-    (come can plan unit e events list below autos servers whole made law serves h (without list autos fails front) back)
-come can plan unit e events list below _ _ whole made law serves (carried.answered {autos} {servers} h b) front back =
-    silent_below plan unit e events autos servers (sends b) refl
-    (come can plan unit e events list below autos servers whole made law serves h front (without below servers (sends b) back))
-come can plan unit e events list below _ _ whole made law serves (carried.down {autos} {servers} h piece rest is no_close) front back =
-    let enough = sent_enough plan unit e events autos (bytes_in (e.downs ++ came_in servers)) piece rest
-    (law autos front.0 front.1) is in
-    let g = goes plan unit e (upto events (came_in autos)) in
-    lower plan unit e events autos servers (bytes piece)
-    (two.went_on (come can plan unit e events list below autos servers whole made law serves h front
-    (without below servers (brings (bytes piece)) back))
-    (two.came_down piece enough.0
-    (ap₂ (λ (l : List Command) (p : Prompt). bytes_of unit (l ++ commands_in plan (gives p))) g.asked g.automation
-    ∙ enough.1) no_close))
-come can plan unit e events list below _ _ whole made law serves (carried.frame {autos} {servers} h no_close all) front back =
-    lower plan unit e events autos servers silence
-    (two.went_on (come can plan unit e events list below autos servers whole made law serves h front
-    (without below servers (brings silence) back)) (two.frame no_close all))
-come can plan unit e events list below _ _ whole made law serves (carried.shut {autos} {servers} h) front back =
-    lower plan unit e events autos servers close
-    (two.went_on (come can plan unit e events list below autos servers whole made law serves h front
-    (without below servers (brings close) back)) two.shut)
-come can plan unit e events list below _ _ whole made law serves (carried.broke {autos} {servers} h) front back =
-    silent_below plan unit e events autos servers fails refl
-    (come can plan unit e events list below autos servers whole made law serves h front (without below servers fails back))
-
--- of a whole run
-pub run_led : (can : Bool) (plan : Plan) (unit count : ℕ) (e : Ends) (answer : Result Ran KeptFault) (a' : Auto Held)
-    (servers : List Act) → (run : IsRun can at_once plan unit count (driver_of e.automation) a' answer)
-    → SendsServed e servers → AreCarried plan unit e (acts_in (steps_in run)) servers
-    → AreLed plan unit e (ends_at plan unit e run.events (e.downs ++ came_in servers))
-run_led can plan unit count e answer a' servers run serves c =
-    let list : List Act = acts_in (steps_in run) in
-    let whole : came_in list ≡ arrivals run.events =
-    came_whole plan unit count (arrivals run.events) run.events (driver_of e.automation) answer run.more a' run.ending in
-    subst (λ (l : List Event). AreLed plan unit e (ends_at plan unit e l (e.downs ++ came_in servers)))
-    (ap (upto run.events) whole ∙ upto_all run.events)
-    (come can plan unit e run.events list servers list servers whole run.made
-    (sends_by plan unit count (arrivals run.events) run.events e.automation answer run.more a' run.ending) serves c
-    ([], sym (append-nil list)) ([], sym (append-nil servers)))

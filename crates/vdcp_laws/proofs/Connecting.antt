@@ -1,11 +1,9 @@
 -- The two ends, over one connection after another and over kills, and the late channel beside them.
-use Rattle.std.proofs.Common.{ℕ, ◌≡◌, ◌<◌, ◌≤◌, inl, inr, All, List, [], ◌∷◌, ◌++◌, length, map, refl, sym, ap, ap₂, subst, ◌∙◌, append-nil, lit<}
-use Rattle.std.proofs.lemmas.Bool.{cases_lt}
+use Rattle.std.proofs.Common.{ℕ, ◌≡◌, ◌<◌, ◌≤◌, inl, inr, All, List, [], ◌∷◌, ◌++◌, map, refl, sym, ap, ap₂, subst, ◌∙◌, append-nil, lit<}
 use Rattle.std.proofs.lemmas.List.Elements.{All-cons, All-head, All-nil, All-tail}
 use Rattle.std.specs.Option.{option_to_list}
 use Rattle.std.specs.Prelude.{Option, Some, None, is_some}
 use Rattle.vdcp_frame.specs.Message.{Content, Fits, spelling}
-use Rattle.vdcp_frame.specs.Reading.{burst_limit}
 use Rattle.vdcp_words.specs.Commands.{command_message, IsWritableCommand}
 use Rattle.vdcp_words.specs.declared.command.Command.{Command}
 use Rattle.vdcp_words.specs.declared.command.Command.TheVariants as command
@@ -18,54 +16,31 @@ use Rattle.vdcp_auto.specs.declared.exchange.Exchange.{Exchange}
 use Rattle.vdcp_auto.specs.declared.exchange.Heard.{Heard}
 use Rattle.vdcp_journal.specs.declared.row.Note.{Note}
 use Rattle.vdcp_journal.specs.declared.row.Note.TheVariants as note
-use Rattle.vdcp_wire.specs.Wires.{Arrival, silence, close}
-use Rattle.vdcp_drive.specs.Bursts.{open_burst}
+use Rattle.vdcp_drive.specs.Serving.{Service}
 use Rattle.vdcp_laws.specs.Announced.{Announces, came_again}
+use Rattle.vdcp_laws.specs.Automation.{commands_in}
 use Rattle.vdcp_laws.specs.Kills as kills
 use Rattle.vdcp_laws.specs.Kills.{IsRun, happened, silence_notes}
-use Rattle.vdcp_drive.specs.Reading.{held_after_silence}
+use Rattle.vdcp_drive.specs.Reading.{holds}
+use Rattle.vdcp_drive.specs.Traces.{bytes_of}
+use Rattle.vdcp_drive.specs.ServerEars.{in_stream}
 use Rattle.vdcp_world.specs.LateLine.LateChannel.{AsksOnly, LateChannel, IsQuestion, after_late_event, command_bursts, made_anew, new_late_channel}
 use Rattle.vdcp_world.specs.LateLine.LateEvent as event
-use Rattle.vdcp_laws.specs.TwoEnds.{AreJoined, begun, went_on, gave, came_up, came_down, waited, hung_up, frame, shut, took, halted, resumed, restarted}
+use Rattle.vdcp_laws.specs.TwoEnds.{AreJoined, begun, went_on, gave, came_up, came_down, waited, passed, paused, shut, took, halted, resumed, restarted}
 use Rattle.vdcp_laws.specs.TwoEnds.{GoesOn, as_announced, as_noted}
-use Rattle.vdcp_laws.specs.TwoEnds.{CanJoin, Ends, IsLateChannel, aired_now, bytes_in, commands_sent, connected_anew, log_now, new_ends, port_now, with_command, with_take, heard_again}
-use Rattle.vdcp_laws.specs.Below.{Spelt}
+use Rattle.vdcp_laws.specs.TwoEnds.{CanJoin, Ends, IsLateChannel, aired_now, commands_sent, connected_anew, log_now, new_ends, port_now, with_command, with_take, heard_again}
 use Rattle.vdcp_laws.proofs.Bytes.{nothing_unfinished}
 use Rattle.vdcp_laws.proofs.Commands.{commands_receives, timed_out}
 use Rattle.vdcp_laws.proofs.Noting.{are_reached}
-use Rattle.vdcp_laws.proofs.Queues.{IsOnWay, bytes_to, comes_on, logged_behind, loses_down, loses_up, messages_to, with_queues}
+use Rattle.vdcp_laws.proofs.Queues.{Takes, bytes_to, logged_behind, loses_down, loses_up, messages_to, nothing_taken, with_queues}
 use Rattle.vdcp_laws.proofs.Announced.{again_of, plays_so, sent_of}
 use Rattle.vdcp_laws.proofs.Held.{ahead}
 use Rattle.vdcp_laws.proofs.Journaled.{run_reached}
 use Rattle.vdcp_laws.proofs.Killed.{again_noted, gives_ready}
 use Rattle.vdcp_laws.proofs.Running.{loses_down_so, loses_up_so, no_notes, silent_so}
-use Rattle.vdcp_laws.proofs.Joining.{AreBeside, IsBeside, IsDown, IsUp, Laws, comes_down, comes_up, gives_next, passes, same_down, shuts, times_out, wishes}
+use Rattle.vdcp_laws.proofs.Joining.{AreBeside, IsBeside, Laws, comes_down, comes_up, gives_next, passes, pauses, same_down, shuts, times_out, wishes}
 
 -- Connections.
-
-nothing_on_way : (law : Spelt) → IsOnWay [] [] [] []
-nothing_on_way law = record {
-  fits = All-nil Fits;
-  done = [];
-  left = [];
-  all_is = refl;
-  came_is = refl;
-  unfinished = nothing_unfinished law;
-  queue_is = refl;
-}
-
--- nothing is on its way, and the automation awaits nothing
-nothing_down : (law : Spelt) (plan : Plan) (unit : ℕ) (e : Ends) → e.downs ≡ [] → commands_sent plan e ≡ []
-    → IsDown plan unit e []
-nothing_down law plan unit e none no_commands = record {
-  held = [];
-  on_way = subst (λ (l : List Arrival). IsOnWay (messages_to unit (commands_sent plan e)) (bytes_in l) [] [])
-      (sym none) (subst (λ (l : List Command). IsOnWay (messages_to unit l) [] [] []) (sym no_commands)
-      (nothing_on_way law));
-  whole = [];
-  fits = All-nil Fits;
-  open_is = ap open_burst none;
-}
 
 -- what is asked can be written, and is all that may be on its way at the start
 pub record AreAsked (plan : Plan) (unit : ℕ) (asked : List Command) : Type 0 where
@@ -118,24 +93,21 @@ begins law plan port asked can =
         clips_are = refl;
         state_is = refl;
         log_is = refl;
-        port_is = refl;
         aired_is = refl;
+        held = holds [];
+        server_is = refl;
         downwards = record {
+          done = [];
+          left = messages_to unit sent;
           held = [];
-          on_way = record {
-            fits = q.fits;
-            done = [];
-            left = messages_to unit sent;
-            all_is = refl;
-            came_is = refl;
-            unfinished = nothing_unfinished law.spelt;
-            queue_is = refl;
-          };
-          whole = [];
-          fits = All-nil Fits;
-          open_is = refl;
+          fits = q.fits;
+          sent_is = bytes_to unit sent;
+          came_is = refl;
+          at_is = refl;
+          unfinished = nothing_unfinished law.spelt;
+          queue_is = refl;
         };
-        upwards = record { said = []; said_is = refl; held = []; on_way = nothing_on_way law.spelt; held_is = refl };
+        upwards = nothing_taken law.spelt;
       };
     }
 
@@ -170,22 +142,22 @@ connects law plan port e c d q b run same is unit clips =
       clips_are = clips;
       state_is = ap (λ (x : LateChannel). x.state) same ∙ time;
       log_is = ap (λ (x : LateChannel). x.log) same ∙ ended;
-      port_is = is;
       aired_is = ap (λ (x : LateChannel). x.aired) same ∙ b.aired_is ∙ sym (append-nil (aired_now e));
-      downwards = subst (IsDown plan port.state.unit anew) (sym (ap (λ (x : LateChannel). x.down) same))
-          (nothing_down law.spelt plan port.state.unit anew refl
-          (ap (λ (x : Option Command). option_to_list x) (timed_out plan s)));
-      upwards = subst (IsUp anew) (sym (ap (λ (x : LateChannel). x.up) same))
-          (record { said = []; said_is = refl; held = []; on_way = nothing_on_way law.spelt; held_is = refl });
+      held = holds [];
+      server_is = ap (λ (p : ClockedPort). record { port = p; ear = in_stream (holds []) }) (sym is);
+      downwards = subst (λ (l : List Command). Takes (bytes_of port.state.unit l) [] (holds []) d.down)
+          (sym (ap (λ (x : Option Command). option_to_list x) (timed_out plan s)))
+          (subst (Takes [] [] (holds [])) (sym (ap (λ (x : LateChannel). x.down) same)) (nothing_taken law.spelt));
+      upwards = subst (Takes [] [] (holds [])) (sym (ap (λ (x : LateChannel). x.up) same)) (nothing_taken law.spelt);
     }
 
 -- What an automation goes on as that is killed.
 
-takes : (law : Laws) (plan : Plan) (port : ClockedPort) (e : Ends) (c : LateChannel)
+takes : (plan : Plan) (port : ClockedPort) (e : Ends) (c : LateChannel)
     → outcome_of e.automation.state.stage ≡ None → IsBeside plan port e c
     → IsBeside plan port (with_take e) (after_late_event c event.Take)
-takes law plan port e c on b =
-    wishes law plan port e c event.Take (taken e.automation.state) (note.Take ∷ []) b refl (ap taken b.state_is) refl
+takes plan port e c on b =
+    wishes plan port e c (taken c.state) (taken e.automation.state) (note.Take ∷ []) b (ap taken b.state_is) refl
     (happened b.run event.Take (ap (λ (s : State). outcome_of s.stage) b.state_is ∙ on))
 
 -- what was heard last is heard once more, after a take
@@ -216,18 +188,12 @@ hears_again law plan port asked e c h can ready a b =
         log_is = ap₂ (λ (q : Plan) (x : State). logged c.log (ended_by q (Some h) (taken (ticked x)))) b.plan_is b.state_is
             ∙ ap (λ (l : List Exchange). logged l (ended_by plan (Some h) (taken (ticked s)))) b.log_is
             ∙ logged_behind e.log_before e.automation.log (ended_by plan (Some h) (taken (ticked s)));
-        port_is = b.port_is;
         aired_is = b.aired_is;
-        downwards = same_down plan unit (with_command plan e) (heard_again plan h e) d.down d.down g.downwards refl
-            (ap (λ (l : List Command). e.asked ++ l)
-            (commands_receives plan (Some h) (with_take (with_command plan e)).automation)) refl;
-        upwards = record {
-          said = b.upwards.said;
-          said_is = b.upwards.said_is;
-          held = b.upwards.held;
-          on_way = b.upwards.on_way;
-          held_is = b.upwards.held_is;
-        };
+        held = g.held;
+        server_is = g.server_is;
+        downwards = same_down plan unit (with_command plan e) (commands_in plan (heard_again plan h e).automation) g.held
+            d.down (commands_receives plan (Some h) (with_take (with_command plan e)).automation) g.downwards;
+        upwards = b.upwards;
       };
     }
 
@@ -259,37 +225,25 @@ beside law plan port asked _ can (went_on {e} j gave) =
     record { channel = _; beside = gives_next law plan port asked e r.channel can (ready law plan port asked e can j) r.beside }
 beside law plan port asked _ can (went_on {e} j (came_up piece rest is)) =
     let r = beside law plan port asked e can j in
-    let u = r.beside.upwards in
-    let on = comes_on law.spelt u.said e.ups u.held r.channel.up u.on_way piece rest (sym u.said_is ∙ is) in
-    record { channel = _; beside = comes_up law plan port e piece r.channel r.beside on }
-beside law plan port asked _ can (went_on {e} j (came_down piece rest is no_close)) =
+    comes_up law plan port e piece rest r.channel r.beside is
+beside law plan port asked _ can (went_on {e} j (came_down piece rest is)) =
     let r = beside law plan port asked e can j in
-    comes_down law plan port asked e piece r.channel can r.beside no_close rest
-    (sym (bytes_to port.state.unit (commands_sent plan e)) ∙ is) (cases_lt burst_limit (length (open_burst e.downs)))
+    comes_down law plan port asked e piece rest r.channel can r.beside is
 beside law plan port asked _ can (went_on {e} j waited) =
-    let r = beside law plan port asked e can j in record {
-      channel = _;
-      beside = times_out law plan port e r.channel silence r.beside refl refl
-          (ap held_after_silence r.beside.upwards.held_is);
-    }
-beside law plan port asked _ can (went_on {e} j hung_up) =
-    let r = beside law plan port asked e can j in record {
-      channel = _;
-      beside = times_out law plan port e r.channel close r.beside refl refl
-          (ap held_after_silence r.beside.upwards.held_is);
-    }
-beside law plan port asked _ can (went_on {e} j (frame no_close all)) =
-    let r = beside law plan port asked e can j in
-    passes law plan port e r.channel r.beside no_close all (cases_lt burst_limit (length (open_burst e.downs)))
+    let r = beside law plan port asked e can j in record { channel = _; beside = times_out plan port e r.channel r.beside }
+beside law plan port asked _ can (went_on {e} j passed) =
+    let r = beside law plan port asked e can j in record { channel = _; beside = passes law plan port e r.channel r.beside }
+beside law plan port asked _ can (went_on {e} j paused) =
+    let r = beside law plan port asked e can j in record { channel = r.channel; beside = pauses law plan port e r.channel r.beside }
 beside law plan port asked _ can (went_on {e} j shut) =
     let r = beside law plan port asked e can j in
     record { channel = r.channel; beside = shuts law plan port e r.channel r.beside }
 beside law plan port asked _ can (went_on {e} j (took on)) =
-    let r = beside law plan port asked e can j in record { channel = _; beside = takes law plan port e r.channel on r.beside }
+    let r = beside law plan port asked e can j in record { channel = _; beside = takes plan port e r.channel on r.beside }
 beside law plan port asked _ can (went_on {e} j (halted on)) =
     let r = beside law plan port asked e can j in record {
       channel = _;
-      beside = wishes law plan port e r.channel event.Stop (stopped e.automation.state) (note.Stop ∷ []) r.beside refl
+      beside = wishes plan port e r.channel (stopped r.channel.state) (stopped e.automation.state) (note.Stop ∷ []) r.beside
           (ap stopped r.beside.state_is) refl
           (happened r.beside.run event.Stop (ap (λ (s : State). outcome_of s.stage) r.beside.state_is ∙ on));
     }
@@ -299,7 +253,7 @@ beside law plan port asked _ can (went_on {e} j (resumed {on} goes)) =
     let c : LateChannel = g.channel in record {
       channel = lost c;
       beside = connects law plan port on c (lost c) (port_now on) g.beside (lost_so c on.notes g.beside.run) refl
-          g.beside.port_is g.beside.unit_is g.beside.clips_are;
+          (sym (ap (λ (x : Service). x.port) g.beside.server_is)) g.beside.unit_is g.beside.clips_are;
     }
 beside law plan port asked _ can (went_on {e} j (restarted {on} goes)) =
     let r = beside law plan port asked e can j in
@@ -308,7 +262,7 @@ beside law plan port asked _ can (went_on {e} j (restarted {on} goes)) =
       channel = after_late_event (lost c) event.ServerAnew;
       beside = connects law plan port on c (after_late_event (lost c) event.ServerAnew) (made_anew (port_now on)) g.beside
           (no_notes (happened (lost_so c on.notes g.beside.run) event.ServerAnew tt)) refl
-          (ap made_anew g.beside.port_is) g.beside.unit_is g.beside.clips_are;
+          (ap made_anew (sym (ap (λ (x : Service). x.port) g.beside.server_is))) g.beside.unit_is g.beside.clips_are;
     }
 
 pub are_late_channel : (law : Laws) (plan : Plan) (port : ClockedPort) (asked : List Command) (e : Ends) → CanJoin plan port asked
@@ -321,7 +275,7 @@ are_late_channel law plan port asked e can j =
       plan_is = r.beside.plan_is;
       state_is = r.beside.state_is;
       log_is = r.beside.log_is;
-      port_is = r.beside.port_is;
+      port_is = sym (ap (λ (x : Service). x.port) r.beside.server_is);
       clips_are = r.beside.clips_are;
       aired_is = r.beside.aired_is;
     }

@@ -13,7 +13,7 @@ use Rattle.vdcp_laws.specs.Automation.{Prompt, hears, hears_all}
 use Rattle.vdcp_drive.specs.Reading.{completed}
 use Rattle.vdcp_world.specs.LateLine.LateHeadline.{is_late_complete}
 use Rattle.vdcp_laws.specs.TwoEnds.{AreJoined, AreLed, CanJoin, Ends, GoesOn, Step, aired_now, as_announced, as_noted, begun, went_on}
-use Rattle.vdcp_laws.specs.TwoEnds.{gave, came_up, came_down, waited, hung_up, frame, shut, took, halted, resumed, restarted}
+use Rattle.vdcp_laws.specs.TwoEnds.{gave, came_up, came_down, waited, passed, paused, shut, took, halted, resumed, restarted}
 use Rattle.vdcp_laws.proofs.Commands.{hears_comes, still}
 use Rattle.vdcp_laws.proofs.Headline.{Laws, of_ends}
 
@@ -67,12 +67,11 @@ step_rests plan unit e _ o gave is =
 step_rests plan unit e _ o (came_up piece rest sent) is =
     rests o e.automation.state (hears_all plan unit (completed e.automation.held piece) e.automation).state is
     (still_heard plan unit (completed e.automation.held piece) e.automation o is)
-step_rests plan unit e _ o (came_down piece rest sent no_close) is = (is, refl)
+step_rests plan unit e _ o (came_down piece rest sent) is = (is, refl)
 step_rests plan unit e _ o waited is =
     rests o e.automation.state (came_to plan None e.automation.state) is (still plan None e.automation.state o is)
-step_rests plan unit e _ o hung_up is =
-    rests o e.automation.state (came_to plan None e.automation.state) is (still plan None e.automation.state o is)
-step_rests plan unit e _ o (frame no_close all) is = (is, refl)
+step_rests plan unit e _ o passed is = (is, refl)
+step_rests plan unit e _ o paused is = (is, refl)
 step_rests plan unit e _ o shut is = (is, refl)
 step_rests plan unit e _ o (took on) is = (is, refl)
 step_rests plan unit e _ o (halted on) is = (is, refl)

@@ -1,15 +1,12 @@
--- Two ends with their bytes, computed: a run that the laws speak of; and for three premises what happens without them.
-use Rattle.std.proofs.Common.{◌≡◌, ◌<◌, ◌+◌, ℕ, zero, suc, true, false, List, [], ◌∷◌, ◌++◌, max, refl, ap, arith, lit<, lit≤, take, map}
-use Rattle.std.proofs.lemmas.List.Elements.{All-cons, All-nil}
-use Rattle.std.specs.Simd.Lanes.{all_below}
+-- Two ends with their bytes, computed: a run that the laws speak of; and for some premises what happens without them.
+use Rattle.std.proofs.Common.{◌≡◌, ◌+◌, ℕ, zero, suc, true, false, List, [], ◌∷◌, ◌++◌, max, refl, ap, arith, take, map}
 use Rattle.std.specs.Prelude.{None, Some}
 use Rattle.vdcp_value.specs.Timecodes.{bcd_of, frames_of}
 use Rattle.vdcp_value.specs.declared.clip_id.ClipId.{ClipId}
 use Rattle.vdcp_value.specs.declared.part.Item.{Item}
 use Rattle.vdcp_value.specs.declared.rate.Rate.TheVariants.{F25}
 use Rattle.vdcp_value.specs.declared.timecode.Timecode.{Timecode}
-use Rattle.vdcp_frame.specs.Message.{Content, AreOctets, Spells, spelling}
-use Rattle.vdcp_frame.specs.Reading.{AreMessages}
+use Rattle.vdcp_frame.specs.Message.{spelling}
 use Rattle.vdcp_words.specs.Commands.{command_message}
 use Rattle.vdcp_words.specs.declared.command.Command.{Command}
 use Rattle.vdcp_words.specs.declared.command.Command.TheVariants as command
@@ -27,12 +24,15 @@ use Rattle.vdcp_auto.specs.State.{Ready, State}
 use Rattle.vdcp_auto.specs.Turn.{came_to, given, ticked}
 use Rattle.vdcp_auto.specs.declared.phase.Mode.TheVariants.{Confirming, Plain}
 use Rattle.vdcp_auto.specs.declared.phase.Phase.TheVariants as phase
-use Rattle.vdcp_wire.specs.Wires.{Arrival, bytes, silence}
+use Rattle.vdcp_wire.specs.Wires.{Arrival, bytes, close, silence}
 use Rattle.vdcp_drive.specs.Traces.{bytes_of}
 use Rattle.vdcp_laws.specs.Announced.{Announces, came_again}
 use Rattle.vdcp_laws.specs.Automation.{Prompt, commands_in, gives, new_prompt, led, prompted}
 use Rattle.vdcp_drive.specs.Reading.{holds}
 use Rattle.vdcp_drive.specs.Served.{items_served, served}
+use Rattle.vdcp_drive.specs.Serving.{begins, items_in, hook_steps}
+use Rattle.vdcp_drive.specs.Turns.{Turn, frame, listen}
+use Rattle.vdcp_drive.specs.declared.hearing.Hearing.TheVariants.{AtOnce}
 use Rattle.vdcp_drive.specs.Auto.{Event, arrives, calls}
 use Rattle.vdcp_drive.specs.declared.hooks.Call.TheVariants as call
 use Rattle.vdcp_laws.specs.OneConnection.{ends_at}
@@ -108,105 +108,23 @@ the_rest_of_a_plain_row_is_one_too :
     ≡ (0x02 ∷ 0x12 ∷ 0x20 ∷ 0x25 ∷ clip_1.bytes ++ 0x20 ∷ 0x59 ∷ 0x55 ∷ 0x00 ∷ []) ++ play_bytes
 the_rest_of_a_plain_row_is_one_too = refl
 
--- With the premise.
-
-octets : (list : List ℕ) → all_below 256 list ≡ true → AreOctets list
-octets [] h = All-nil (λ b. b < 256)
-octets (b ∷ more) h = All-cons (λ b. b < 256) b more (grind (arith, h)) (octets more (grind (arith, h)))
-
--- whole messages, with one more before them
-with_message : (m : Content) (first rest : List ℕ) → Spells m first → AreMessages rest → AreMessages (first ++ rest)
-with_message m first rest s (ms, t) = (m ∷ ms, (first, rest, s, t, refl))
-
-opens : Spells (command_message 0 (command.Open 1 1)) open_bytes
-opens = record {
-  fits = record {
-    kind_fits = lit< tt;
-    unit_fits = lit< tt;
-    code_fits = lit< tt;
-    rest_fits = octets (1 ∷ 1 ∷ []) refl;
-    rest_size = lit≤ tt;
-  };
-  check = 0xCD;
-  byte = lit< tt;
-  adds_up = refl;
-  spelt = refl;
-}
-
-selects : Spells (command_message 0 (command.Select 1)) select_bytes
-selects = record {
-  fits = record {
-    kind_fits = lit< tt;
-    unit_fits = lit< tt;
-    code_fits = lit< tt;
-    rest_fits = octets (1 ∷ []) refl;
-    rest_size = lit≤ tt;
-  };
-  check = 0xBD;
-  byte = lit< tt;
-  adds_up = refl;
-  spelt = refl;
-}
-
-asks : Spells (command_message 0 (command.IdRequest clip)) exists_bytes
-asks = record {
-  fits = record {
-    kind_fits = lit< tt;
-    unit_fits = lit< tt;
-    code_fits = lit< tt;
-    rest_fits = octets clip.bytes refl;
-    rest_size = lit≤ tt;
-  };
-  check = 0xED;
-  byte = lit< tt;
-  adds_up = refl;
-  spelt = refl;
-}
-
-cues : Spells (command_message 0 (command.PlayCue clip)) (cue_front ++ cue_rest)
-cues = record {
-  fits = record {
-    kind_fits = lit< tt;
-    unit_fits = lit< tt;
-    code_fits = lit< tt;
-    rest_fits = octets clip.bytes refl;
-    rest_size = lit≤ tt;
-  };
-  check = 0xEF;
-  byte = lit< tt;
-  adds_up = refl;
-  spelt = refl;
-}
+-- A run.
 
 -- The time is up while the answer to OPEN is half here; OPEN goes out again, and its answer is heard for the SELECT,
--- which goes out again too. Pieces are cut amid messages. Then the event is cued, a frame passes, and it airs.
+-- which goes out again too. Pieces are cut amid messages, and a frame passes and the line is silent within the cue. A frame
+-- later the event airs.
 
 abbrev late_in : List Arrival
 late_in = bytes (0x02 ∷ 0x03 ∷ []) ∷ silence ∷ bytes (0x30 ∷ 0x81 ∷ 0x01 ∷ 0x4E ∷ []) ∷ bytes (granted_bytes ++ 0x04 ∷ [])
     ∷ bytes (0x04 ∷ []) ∷ bytes present_bytes ∷ bytes (0x04 ∷ []) ∷ bytes done_bytes ∷ bytes (0x04 ∷ []) ∷ []
 
-abbrev cut_downs : List Arrival
-cut_downs = bytes open_bytes ∷ bytes (open_bytes ++ 0x02 ∷ []) ∷ bytes (0x03 ∷ 0x20 ∷ 0x22 ∷ 0x01 ∷ 0xBD ∷ [])
-    ∷ bytes select_bytes ∷ bytes exists_bytes ∷ bytes cue_front ∷ bytes cue_rest ∷ silence ∷ bytes status_bytes
-    ∷ bytes play_bytes ∷ []
+abbrev cut_downs : List Turn
+cut_downs = listen (bytes open_bytes) ∷ listen (bytes (open_bytes ++ 0x02 ∷ []))
+    ∷ listen (bytes (0x03 ∷ 0x20 ∷ 0x22 ∷ 0x01 ∷ 0xBD ∷ [])) ∷ listen (bytes select_bytes) ∷ listen (bytes exists_bytes)
+    ∷ listen (bytes cue_front) ∷ frame ∷ listen silence ∷ listen (bytes cue_rest) ∷ frame ∷ listen (bytes status_bytes)
+    ∷ listen (bytes play_bytes) ∷ []
 
--- before the frame only whole messages came
-all_whole : AreMessages (open_bytes ++ open_bytes ++ select_bytes ++ select_bytes ++ exists_bytes ++ cue_front ++ cue_rest)
-all_whole =
-    let cue : List ℕ = cue_front ++ cue_rest in
-    let one : AreMessages cue = with_message (command_message 0 (command.PlayCue clip)) cue [] cues ([], refl) in
-    let two : AreMessages (exists_bytes ++ cue) =
-    with_message (command_message 0 (command.IdRequest clip)) exists_bytes cue asks one in
-    let select : Content = command_message 0 (command.Select 1) in
-    let three : AreMessages (select_bytes ++ exists_bytes ++ cue) =
-    with_message select select_bytes (exists_bytes ++ cue) selects two in
-    let four : AreMessages (select_bytes ++ select_bytes ++ exists_bytes ++ cue) =
-    with_message select select_bytes (select_bytes ++ exists_bytes ++ cue) selects three in
-    let opening : Content = command_message 0 (command.Open 1 1) in
-    with_message opening open_bytes (open_bytes ++ select_bytes ++ select_bytes ++ exists_bytes ++ cue) opens
-    (with_message opening open_bytes (select_bytes ++ select_bytes ++ exists_bytes ++ cue) opens four)
-
-abbrev ComesTo : Timecode → List Event → List Arrival → Type 0
+abbrev ComesTo : Timecode → List Event → List Turn → Type 0
 ComesTo length ups downs = ends.AreLed plan 0 (new_ends (port length) []) (ends_at plan 0 (new_ends (port length) []) ups downs)
 
 -- what comes up is in order, and then the next command is given
@@ -216,45 +134,46 @@ up_to n = map arrives (take n late_in)
 a_run : (length : Timecode) → ComesTo length (map arrives late_in) cut_downs
 a_run length =
     let none : ComesTo length [] [] = ends.went_on ends.begun ends.gave in
-    let one : ComesTo length [] (bytes open_bytes ∷ []) = ends.went_on none (ends.came_down open_bytes [] refl refl) in
-    let two : ComesTo length (up_to 1) (bytes open_bytes ∷ []) =
+    let one : ComesTo length [] (take 1 cut_downs) = ends.went_on none (ends.came_down open_bytes [] refl) in
+    let two : ComesTo length (up_to 1) (take 1 cut_downs) =
     ends.went_on (ends.went_on one (ends.came_up (0x02 ∷ 0x03 ∷ []) (0x30 ∷ 0x81 ∷ 0x01 ∷ 0x4E ∷ []) refl)) ends.gave in
-    let late : ComesTo length (up_to 2) (bytes open_bytes ∷ []) = ends.went_on (ends.went_on two ends.waited) ends.gave in
-    let three : ComesTo length (up_to 3) (bytes open_bytes ∷ []) =
+    let late : ComesTo length (up_to 2) (take 1 cut_downs) = ends.went_on (ends.went_on two ends.waited) ends.gave in
+    let three : ComesTo length (up_to 3) (take 1 cut_downs) =
     ends.went_on (ends.went_on late (ends.came_up (0x30 ∷ 0x81 ∷ 0x01 ∷ 0x4E ∷ []) [] refl)) ends.gave in
     let four : ComesTo length (up_to 3) (take 2 cut_downs) =
-    ends.went_on three (ends.came_down (open_bytes ++ 0x02 ∷ []) (0x03 ∷ 0x20 ∷ 0x22 ∷ 0x01 ∷ 0xBD ∷ []) refl refl) in
+    ends.went_on three (ends.came_down (open_bytes ++ 0x02 ∷ []) (0x03 ∷ 0x20 ∷ 0x22 ∷ 0x01 ∷ 0xBD ∷ []) refl) in
     let five : ComesTo length (up_to 3) (take 3 cut_downs) =
-    ends.went_on four (ends.came_down (0x03 ∷ 0x20 ∷ 0x22 ∷ 0x01 ∷ 0xBD ∷ []) [] refl refl) in
+    ends.went_on four (ends.came_down (0x03 ∷ 0x20 ∷ 0x22 ∷ 0x01 ∷ 0xBD ∷ []) [] refl) in
     let six : ComesTo length (up_to 4) (take 3 cut_downs) =
     ends.went_on (ends.went_on five (ends.came_up (granted_bytes ++ 0x04 ∷ []) [] refl)) ends.gave in
-    let seven : ComesTo length (up_to 4) (take 4 cut_downs) = ends.went_on six (ends.came_down select_bytes [] refl refl) in
+    let seven : ComesTo length (up_to 4) (take 4 cut_downs) = ends.went_on six (ends.came_down select_bytes [] refl) in
     let eight : ComesTo length (up_to 5) (take 4 cut_downs) =
     ends.went_on (ends.went_on seven (ends.came_up (0x04 ∷ []) [] refl)) ends.gave in
-    let nine : ComesTo length (up_to 5) (take 5 cut_downs) = ends.went_on eight (ends.came_down exists_bytes [] refl refl) in
+    let nine : ComesTo length (up_to 5) (take 5 cut_downs) = ends.went_on eight (ends.came_down exists_bytes [] refl) in
     let ten : ComesTo length (up_to 6) (take 5 cut_downs) =
     ends.went_on (ends.went_on nine (ends.came_up present_bytes [] refl)) ends.gave in
-    let eleven : ComesTo length (up_to 6) (take 6 cut_downs) = ends.went_on ten (ends.came_down cue_front cue_rest refl refl) in
-    let twelve : ComesTo length (up_to 6) (take 7 cut_downs) = ends.went_on eleven (ends.came_down cue_rest [] refl refl) in
-    let cued : ComesTo length (up_to 7) (take 7 cut_downs) =
-    ends.went_on (ends.went_on twelve (ends.came_up (0x04 ∷ []) [] refl)) ends.gave in
-    let done : ComesTo length (up_to 7) (take 8 cut_downs) = ends.went_on cued (ends.frame refl all_whole) in
-    let asked : ComesTo length (up_to 7) (take 9 cut_downs) = ends.went_on done (ends.came_down status_bytes [] refl refl) in
-    let shown : ComesTo length (up_to 8) (take 9 cut_downs) =
+    let half : ComesTo length (up_to 6) (take 8 cut_downs) =
+    ends.went_on (ends.went_on (ends.went_on ten (ends.came_down cue_front cue_rest refl)) ends.passed) ends.paused in
+    let whole : ComesTo length (up_to 6) (take 9 cut_downs) = ends.went_on half (ends.came_down cue_rest [] refl) in
+    let cued : ComesTo length (up_to 7) (take 9 cut_downs) =
+    ends.went_on (ends.went_on whole (ends.came_up (0x04 ∷ []) [] refl)) ends.gave in
+    let asked : ComesTo length (up_to 7) (take 11 cut_downs) =
+    ends.went_on (ends.went_on cued ends.passed) (ends.came_down status_bytes [] refl) in
+    let shown : ComesTo length (up_to 8) (take 11 cut_downs) =
     ends.went_on (ends.went_on asked (ends.came_up done_bytes [] refl)) ends.gave in
-    let played : ComesTo length (up_to 8) cut_downs = ends.went_on shown (ends.came_down play_bytes [] refl refl) in
+    let played : ComesTo length (up_to 8) cut_downs = ends.went_on shown (ends.came_down play_bytes [] refl) in
     ends.went_on (ends.went_on played (ends.came_up (0x04 ∷ []) [] refl)) ends.gave
 
 -- the operator takes and stops before a command goes out: then STOP goes out first
 abbrev stop_bytes : List ℕ
 stop_bytes = 0x02 ∷ 0x02 ∷ 0x10 ∷ 0x00 ∷ 0xF0 ∷ []
 
-a_run_with_calls : (length : Timecode) → ComesTo length (calls call.Take ∷ calls call.Stop ∷ []) (bytes stop_bytes ∷ [])
+a_run_with_calls : (length : Timecode) → ComesTo length (calls call.Take ∷ calls call.Stop ∷ []) (listen (bytes stop_bytes) ∷ [])
 a_run_with_calls length =
     ends.went_on (ends.went_on (ends.went_on (ends.went_on ends.begun (ends.took refl)) (ends.halted refl)) ends.gave)
-    (ends.came_down stop_bytes [] refl refl)
+    (ends.came_down stop_bytes [] refl)
 
-it_airs : (length : Timecode) → items_served (port length) cut_downs ≡ whole clip ∷ []
+it_airs : (length : Timecode) → items_in (hook_steps (begins AtOnce (port length)) cut_downs) ≡ whole clip ∷ []
 it_airs length = refl
 
 and_is_reported : (prompted plan 0 late_in).state.settled ≡ 1
@@ -264,9 +183,9 @@ and_is_reported = refl
 abbrev sent_by : Prompt → List Arrival → List ℕ
 sent_by p ups = bytes_of 0 (commands_in plan (gives (led plan 0 p (map arrives ups))))
 
--- A frame within a command.
+-- A silence within a command, at a server that hears at silences: then a frame passes.
 
--- The cue is sent three times, since its ACK is late, and a frame falls within the second one.
+-- The cue is sent three times, since its ACK is late, and a silence falls within the second one.
 
 abbrev torn_downs : List Arrival
 torn_downs = bytes open_bytes ∷ bytes select_bytes ∷ bytes exists_bytes ∷ bytes (cue_front ++ cue_rest) ∷ silence
@@ -309,6 +228,20 @@ torn_command_airs_twice length one = ap (aired_then length) one
 
 -- A command whose row isn't safe.
 
+-- a server that hears at once, at which a frame passes after each silence
+
+abbrev turns_of : List Arrival → List Turn
+turns_of [] = []
+turns_of (bytes piece ∷ later) = listen (bytes piece) ∷ turns_of later
+turns_of (silence ∷ later) = listen silence ∷ frame ∷ turns_of later
+turns_of (close ∷ later) = listen close ∷ turns_of later
+
+abbrev airs : ClockedPort → List Arrival → List Item
+airs p came = items_in (hook_steps (begins AtOnce p) (turns_of came))
+
+abbrev airs_then : Timecode → ℕ → List Item
+airs_then length n = whole clip ∷ airs (playing_for length n) then_downs
+
 -- The automation puts the event to air and is killed, and its journal ends with the cue: it goes on by cueing again.
 
 abbrev first_ups : List Arrival
@@ -330,11 +263,11 @@ both_send = (refl, refl)
 
 -- and the event airs twice
 unsafe_command_airs_twice : (length : Timecode) → frames_of length ≡ 1
-    → items_served (port length)
+    → airs (port length)
     (bytes open_bytes ∷ bytes select_bytes ∷ bytes exists_bytes ∷ bytes (cue_front ++ cue_rest) ∷ silence
     ∷ bytes status_bytes ∷ bytes play_bytes ∷ then_downs)
     ≡ whole clip ∷ whole clip ∷ []
-unsafe_command_airs_twice length one = ap (aired_then length) one
+unsafe_command_airs_twice length one = ap (airs_then length) one
 
 -- A PLAY that was announced.
 
@@ -379,10 +312,10 @@ abbrev forgetting_downs : List Arrival
 forgetting_downs = bytes status_bytes ∷ bytes (cue_front ++ cue_rest) ∷ silence ∷ bytes status_bytes ∷ bytes play_bytes ∷ []
 
 abbrev forgetting_airs : Timecode → ℕ → List Item
-forgetting_airs length n = whole clip ∷ items_served (playing_for length n) forgetting_downs
+forgetting_airs length n = whole clip ∷ airs (playing_for length n) forgetting_downs
 
 forgotten_play_airs_twice : (length : Timecode) → frames_of length ≡ 1
-    → items_served (next_cued length) (silence ∷ bytes status_bytes ∷ bytes play_bytes ∷ forgetting_downs)
+    → airs (next_cued length) (silence ∷ bytes status_bytes ∷ bytes play_bytes ∷ forgetting_downs)
     ≡ whole clip ∷ whole clip ∷ []
 forgotten_play_airs_twice length one = ap (forgetting_airs length) one
 
@@ -397,7 +330,7 @@ old_answers_report_an_event = refl
 
 -- Its PLAY airs what is cued, which isn't the list's.
 old_play_airs_another : (length : Timecode)
-    → items_served (record (port length) {
+    → airs (record (port length) {
       state = record { unit = 0; number = 1; access = Selected; cued = done (whole clip_1); playing = None };
     })
     (bytes play_bytes ∷ [])
@@ -415,11 +348,11 @@ an_asked_run length = (
   _,
   ends.went_on
       (ends.went_on
-      (ends.went_on (ends.went_on (ends.went_on ends.begun (ends.came_down open_bytes (select_bytes ++ status_bytes) refl refl))
+      (ends.went_on (ends.went_on (ends.went_on ends.begun (ends.came_down open_bytes (select_bytes ++ status_bytes) refl))
       ends.gave)
       (ends.came_up granted_bytes [] refl))
       ends.gave)
-      (ends.came_down (select_bytes ++ status_bytes ++ open_bytes) select_bytes refl refl),
+      (ends.came_down (select_bytes ++ status_bytes ++ open_bytes) select_bytes refl),
 )
 
 its_commands : (length : Timecode) → (an_asked_run length).0.notes
@@ -435,9 +368,9 @@ a_kill length = (
   ends.went_on
       (ends.went_on
       (ends.went_on
-      (ends.went_on (ends.went_on (ends.went_on ends.begun ends.gave) (ends.came_down open_bytes [] refl refl)) (ends.resumed ends.as_noted))
+      (ends.went_on (ends.went_on (ends.went_on ends.begun ends.gave) (ends.came_down open_bytes [] refl)) (ends.resumed ends.as_noted))
       ends.gave)
-      (ends.came_down open_bytes [] refl refl))
+      (ends.came_down open_bytes [] refl))
       (ends.came_up granted_bytes [] refl),
 )
 
@@ -452,6 +385,6 @@ as_many_exchanges zero e = (e, undisturbed.none)
 as_many_exchanges (suc n) e =
     let cue : ℕ = (port_now e).counts.cue in
     let playing : ℕ = (port_now e).counts.playing in
-    let frames : ℕ = 1 + cue + playing in
+    let frames : ℕ = cue + playing in
     let r = as_many_exchanges n (exchanged plan 0 frames e) in
-    (r.0, undisturbed.first frames (omega arith) (omega arith) (omega arith) r.1)
+    (r.0, undisturbed.first frames (omega arith) (omega arith) r.1)

@@ -1,20 +1,17 @@
 -- Exchanges that nothing disturbs, and the channel of one burst each way beside them: each is a good round.
-use Rattle.std.proofs.Common.{ℕ, zero, suc, ◌≡◌, ◌≤◌, Bool, true, false, All, List, [], ◌∷◌, ◌++◌, length, drop, map, refl, sym, ap, ap₂, subst, ◌∙◌, append_assoc, append-nil, length-append, arith, lit≤, if◌then◌else◌}
-use Rattle.std.proofs.lemmas.List.{drop_at, map-append}
-use Rattle.std.proofs.lemmas.List.Elements.{All-head, All-nil}
+use Rattle.std.proofs.Common.{ℕ, zero, suc, ◌≡◌, ◌≤◌, Bool, true, false, All, List, [], ◌∷◌, ◌++◌, length, drop, map, refl, sym, ap, ap₂, subst, ◌∙◌, append_assoc, append-nil, arith, if◌then◌else◌}
+use Rattle.std.proofs.lemmas.List.{drop_at}
 use Rattle.std.specs.Option.{option_to_list}
 use Rattle.std.specs.Prelude.{IfSome, Option, Some, None, is_some, nat_lt}
 use Rattle.vdcp_value.specs.declared.clip_id.ClipId.{ClipId}
 use Rattle.vdcp_value.specs.declared.part.Item.{Item}
 use Rattle.vdcp_value.specs.declared.timecode.Timecode.{Timecode}
-use Rattle.vdcp_frame.specs.Burst.{messages_of, end_of}
 use Rattle.vdcp_frame.specs.Message.{Content, ack, nak, framed, Fits, spelling}
-use Rattle.vdcp_frame.specs.Reading.{AreMessages, SpellsAll, burst_limit}
 use Rattle.vdcp_words.specs.Commands.{command_message, IsWritableCommand}
 use Rattle.vdcp_words.specs.Replies.{reply_message, IsWritableReply}
 use Rattle.vdcp_words.specs.declared.command.Command.{Command}
 use Rattle.vdcp_words.specs.declared.reply.Reply.{Reply}
-use Rattle.vdcp_port.specs.Answers.{after_burst, after_messages, aired_for, aired_on_way, answer_bytes, answers_to, end_answers, items_for, sent_for}
+use Rattle.vdcp_port.specs.Answers.{after_burst, after_messages, aired_for, aired_on_way, answer_bytes, answers_to, items_for, sent_for}
 use Rattle.vdcp_port.specs.Clock.{ClockedPort, after_ended, after_frame, after_frames, after_message, after_ready, answer_to, completes_cue, counted_down, ends_clip, new_port, row_at}
 use Rattle.vdcp_port.specs.Kept.{IsKept}
 use Rattle.vdcp_port.specs.Port.{Cued, PortState, empty, cueing, done, is_cueing, made_ready}
@@ -32,29 +29,31 @@ use Rattle.vdcp_world.specs.BoundedEnd.{BoundedEnd}
 use Rattle.vdcp_world.specs.Channel.{Channel, IsReached, after_events, answered, down_behind, log_hearing, log_waiting, new_channel, state_hearing, up_behind}
 use Rattle.vdcp_world.specs.Rounds.{good_round, times}
 use Rattle.vdcp_world.specs.declared.event.Event.TheVariants.{Down, Up}
-use Rattle.vdcp_wire.specs.Wires.{Arrival, bytes, silence, close, has_closed}
-use Rattle.vdcp_drive.specs.Bursts.{open_burst}
+use Rattle.vdcp_wire.specs.Wires.{bytes, silence}
 use Rattle.vdcp_drive.specs.Traces.{bytes_of}
-use Rattle.vdcp_laws.specs.Automation.{Prompt, commands_in, gives, hears_all}
+use Rattle.vdcp_laws.specs.Automation.{Prompt, gives, hears_all}
 use Rattle.vdcp_drive.specs.Reading.{Held, holds, completed, held_after, held_after_silence}
-use Rattle.vdcp_drive.specs.Served.{items_served}
+use Rattle.vdcp_drive.specs.ServerEars.{ServerEar, in_stream}
+use Rattle.vdcp_drive.specs.Served.{aired_at, sent_at}
+use Rattle.vdcp_drive.specs.Serving.{Service, items_in, hook_steps, serves}
+use Rattle.vdcp_drive.specs.Turns.{Turn, arrivals, frame, listen}
 use Rattle.vdcp_world.specs.LateLine.LateChannel.{CanStart}
 use Rattle.vdcp_laws.specs.TwoEnds as two
-use Rattle.vdcp_laws.specs.TwoEnds.{AreJoined, Ends, aired_now, bytes_in, commands_sent, new_ends, port_now, sent_down, sent_up, with_command, with_down}
+use Rattle.vdcp_laws.specs.TwoEnds.{AreJoined, Ends, aired_now, bytes_in, commands_sent, new_ends, port_now, sent_down, sent_up, server_new, server_now, with_command, with_down}
 use Rattle.vdcp_laws.specs.Undisturbed.{AreUndisturbed, CanPlay, IsDone, exchanged, first, most_exchanges, none, with_all_down, with_all_up, with_frames, with_piece_up, with_time_out}
-use Rattle.vdcp_laws.specs.Below.{Answered, Arrived, Completed, Spelt, Written}
-use Rattle.vdcp_laws.proofs.Bytes.{clean_spelt, messages_spelt, nothing_unfinished, spells_all, spelt, spelt_both}
-use Rattle.vdcp_laws.proofs.Commands.{commands_gives, commands_listens, hears_comes}
-use Rattle.vdcp_laws.proofs.Joining.{answers_fit, given_fits}
-use Rattle.vdcp_laws.proofs.Queues.{bytes_from, bytes_to, messages_from, messages_to}
-use Rattle.vdcp_laws.proofs.Serving.{bytes_more, bytes_silence, serves_bytes, serves_frame}
+use Rattle.vdcp_laws.specs.Below.{Answered, Completed, Happened, Spelt, Written}
+use Rattle.vdcp_laws.proofs.Bytes.{completes, nothing_unfinished, spelt}
+use Rattle.vdcp_laws.proofs.Commands.{commands_listens, hears_comes}
+use Rattle.vdcp_laws.proofs.Joining.{answers_fit, given_fits, sent_with}
+use Rattle.vdcp_laws.proofs.Queues.{bytes_from, messages_from, messages_to}
+use Rattle.vdcp_laws.proofs.Serving.{bytes_else, bytes_more}
 
 -- the laws below: of vdcp_port a_command_is_answered, a_command_has_its_own_row and what_a_port_holds, and
 -- vdcp_world::laws::good_rounds_bring_all_to_air
 pub record Laws : Type 0 where
   pub spelt : Spelt
   pub completed : Completed
-  pub arrived : Arrived
+  pub happens : Happened
   pub answered : Answered
   pub written : Written
   pub is_answered : (clips : List (ClipId × Timecode)) (p : PortState) (c : Command)
@@ -133,26 +132,15 @@ frames_end law (suc n) p kept cue playing =
 
 -- Between two exchanges.
 
--- all that was sent has come, and whole commands came since the last frame
+-- all that was sent has come, and neither end holds anything
 record IsAtRest (plan : Plan) (port : ClockedPort) (e : Ends) : Type 0 where
   joined : AreJoined plan port [] e
   held_is : e.automation.held ≡ holds []
-  all_down : sent_down plan port.state.unit e ≡ bytes_in e.downs
+  all_down : sent_down plan port.state.unit e ≡ bytes_in (arrivals e.downs)
   all_up : sent_up e ≡ e.ups
-  no_close : has_closed e.downs ≡ false
-  whole : List Content
-  fits : All Fits whole
-  open_is : open_burst e.downs ≡ spelt whole ++ []
-  small : length (spelt whole ++ []) ≤ burst_limit
+  ear_is : (server_now e).ear ≡ in_stream (holds [])
   unit_is : (port_now e).state.unit ≡ port.state.unit
   kept : IsKept (port_now e)
-
-no_close_more : (came : List Arrival) (a : Arrival) → has_closed (a ∷ []) ≡ false → has_closed came ≡ false
-    → has_closed (came ++ a ∷ []) ≡ false
-no_close_more [] a h n = h
-no_close_more (bytes b ∷ came) a h n = no_close_more came a h n
-no_close_more (silence ∷ came) a h n = no_close_more came a h n
-no_close_more (close ∷ came) a h n = cc
 
 -- e' is e with some frames more
 record HasFrames (plan : Plan) (port : ClockedPort) (n : ℕ) (e e' : Ends) : Type 0 where
@@ -160,59 +148,39 @@ record HasFrames (plan : Plan) (port : ClockedPort) (n : ℕ) (e e' : Ends) : Ty
   port_is : port_now e' ≡ after_frames n (port_now e)
   aired_is : aired_now e' ≡ aired_now e
   automation_is : e'.automation ≡ e.automation
-  none_open : open_burst e.downs ≡ [] → open_burst e'.downs ≡ []
 
 one_frame : (law : Laws) (plan : Plan) (port : ClockedPort) (e : Ends) → IsAtRest plan port e
-    → HasFrames plan port 1 e (with_down silence e)
+    → HasFrames plan port 1 e (with_down frame e)
 one_frame law plan port e r =
-    let all : AreMessages (open_burst e.downs) = (
-      r.whole,
-      subst (SpellsAll r.whole) (sym (r.open_is ∙ append-nil (spelt r.whole))) (spells_all law.spelt r.whole r.fits),
-    ) in
-    let s = serves_frame law.answered law.arrived e.port e.downs [] r.no_close
-    (ap (λ (l : List ℕ). end_answers (end_of l)) r.open_is
-    ∙ ap end_answers (clean_spelt law.spelt r.whole r.fits r.small)) in
-    let opens : open_burst (e.downs ++ silence ∷ []) ≡ [] = (law.arrived.silence e.downs r.no_close).1 in
+    let s = law.happens (server_new e) e.downs frame in
+    let left : port_now (with_down frame e) ≡ after_frame (port_now e) = ap (λ (x : Service). x.port) s.left in
     record {
       rest = record {
-        joined = two.went_on r.joined (two.frame r.no_close all);
+        joined = two.went_on r.joined two.passed;
         held_is = r.held_is;
-        all_down = r.all_down ∙ sym (bytes_silence e.downs);
+        all_down = r.all_down ∙ sym (bytes_else e.downs frame refl);
         all_up = s.sent ∙ append-nil (sent_up e) ∙ r.all_up;
-        no_close = no_close_more e.downs silence refl r.no_close;
-        whole = [];
-        fits = All-nil Fits;
-        open_is = opens;
-        small = lit≤ tt;
-        unit_is = ap (λ (q : ClockedPort). q.state.unit) s.left ∙ law.answered.unit_frame (port_now e) ∙ r.unit_is;
-        kept = subst IsKept (sym s.left) (law.frame_kept (port_now e) r.kept);
+        ear_is = ap (λ (x : Service). x.ear) s.left ∙ r.ear_is;
+        unit_is = ap (λ (q : ClockedPort). q.state.unit) left ∙ law.answered.unit_frame (port_now e) ∙ r.unit_is;
+        kept = subst IsKept (sym left) (law.frame_kept (port_now e) r.kept);
       };
-      port_is = s.left;
-      aired_is = ap (λ (l : List Item). e.aired_before ++ l) s.aired;
+      port_is = left;
+      aired_is = ap (λ (l : List Item). e.aired_before ++ l)
+          (s.aired ∙ append-nil (items_in (hook_steps (server_new e) e.downs)));
       automation_is = refl;
-      none_open = λ h. opens;
     }
 
 have_frames : (law : Laws) (plan : Plan) (port : ClockedPort) (n : ℕ) (e : Ends) → IsAtRest plan port e
     → HasFrames plan port n e (with_frames n e)
-have_frames law plan port zero e r =
-    record { rest = r; port_is = refl; aired_is = refl; automation_is = refl; none_open = λ h. h }
+have_frames law plan port zero e r = record { rest = r; port_is = refl; aired_is = refl; automation_is = refl }
 have_frames law plan port (suc n) e r =
     let one = one_frame law plan port e r in
-    let more = have_frames law plan port n (with_down silence e) one.rest in record {
+    let more = have_frames law plan port n (with_down frame e) one.rest in record {
       rest = more.rest;
       port_is = more.port_is ∙ ap (after_frames n) one.port_is;
       aired_is = more.aired_is ∙ one.aired_is;
       automation_is = more.automation_is ∙ one.automation_is;
-      none_open = λ h. more.none_open (one.none_open h);
     }
-
-opens_none : (law : Laws) (plan : Plan) (port : ClockedPort) (n : ℕ) (e : Ends) → IsAtRest plan port e → 1 ≤ n
-    → open_burst (with_frames n e).downs ≡ []
-opens_none law plan port zero e r some = absurd (omega (arith, some))
-opens_none law plan port (suc n) e r some =
-    (have_frames law plan port n (with_down silence e) (one_frame law plan port e r).rest).none_open
-    (law.arrived.silence e.downs r.no_close).1
 
 -- The channel beside them.
 
@@ -248,15 +216,6 @@ answered_by q (framed kind unit code rest) = refl
 kept_all : (law : Laws) (q : ClockedPort) (ms : List Content) → IsKept q → IsKept (after_messages q ms)
 kept_all law q [] kept = kept
 kept_all law q (m ∷ ms) kept = kept_all law (after_message q m) ms (law.message_kept q m kept)
-
-small_command : (law : Spelt) (unit : ℕ) (command : Option Command)
-    → All Fits (messages_to unit (option_to_list command))
-    → length (spelt (messages_to unit (option_to_list command)) ++ []) ≤ burst_limit
-small_command law unit None fits = lit≤ tt
-small_command law unit (Some c) fits =
-    let m : Content = command_message unit c in
-    let size = law.size m (spelling m) (law.spelt m (All-head Fits m [] fits)) in
-    omega (arith, size.1, length-append (spelling m ++ []) [], length-append (spelling m) [])
 
 -- what the command, if one is given, leaves of the automation and of the channel
 abbrev Leaves : Plan → ℕ → Prompt → ClockedPort → List Item → Option Command → Type 0
@@ -315,6 +274,14 @@ leaves law plan unit p q aired (Some c) few unit_is writable log =
           (law.answered.one_aired q m fit ∙ sym (append-nil (items_for q m))),
     )
 
+-- an end that holds nothing takes whole messages
+takes_all : (law : Laws) (ms : List Content) (held : Held) → All Fits ms → held ≡ holds []
+    → (completed held (spelt ms) ≡ ms) × (held_after held (spelt ms) ≡ holds [])
+takes_all law ms held fits is =
+    let u = nothing_unfinished law.spelt in
+    subst (λ (h : Held). (completed h (spelt ms) ≡ ms) × (held_after h (spelt ms) ≡ holds [])) (sym is)
+    (completes law.spelt law.completed [] (spelt ms) ms [] u fits u (sym (append-nil (spelt ms))))
+
 -- what an exchange leaves
 record HasExchanged (plan : Plan) (port : ClockedPort) (e e' : Ends) : Type 0 where
   rest : IsAtRest plan port e'
@@ -323,9 +290,9 @@ record HasExchanged (plan : Plan) (port : ClockedPort) (e e' : Ends) : Type 0 wh
       ≡ channel_of plan e' log')
 
 exchanges : (law : Laws) (plan : Plan) (port : ClockedPort) (e : Ends) → CanStart plan port [] [] → IsAtRest plan port e
-    → open_burst e.downs ≡ [] → HasExchanged plan port e
+    → HasExchanged plan port e
     (with_all_up plan port.state.unit (with_all_down plan port.state.unit (with_command plan e)))
-exchanges law plan port e can r none_open =
+exchanges law plan port e can r =
     let unit : ℕ = port.state.unit in
     let p : Prompt = e.automation in
     let s : State = p.state in
@@ -335,77 +302,65 @@ exchanges law plan port e can r none_open =
     let ms : List Content = messages_to unit more in
     let writable : IfSome (given plan s) IsWritableCommand = law.written.given plan s can.of_bytes can.port_fits in
     let fits : All Fits ms = given_fits law.written unit (given plan s) can.unit_fits writable in
-    let small = small_command law.spelt unit (given plan s) fits in
-    let went : List ℕ = bytes_in e.downs in
+    let went : List ℕ = bytes_in (arrivals e.downs) in
     let down : sent_down plan unit (with_command plan e) ≡ went ++ spelt ms =
-    ap (bytes_of unit)
-    (ap (λ (l : List Command). e.asked ++ l) (commands_gives plan p)
-    ∙ sym (append_assoc e.asked (commands_in plan p) more))
-    ∙ bytes_to unit (before ++ more)
-    ∙ ap spelt (map-append (command_message unit) before more)
-    ∙ spelt_both (messages_to unit before) ms
-    ∙ ap (λ (l : List ℕ). l ++ spelt ms) (sym (bytes_to unit before) ∙ r.all_down) in
-    let sent : Ends = with_down (bytes (spelt ms)) (with_command plan e) in
+    sent_with plan unit e ∙ ap (λ (l : List ℕ). l ++ spelt ms) r.all_down in
+    let what : Turn = listen (bytes (spelt ms)) in
+    let sent : Ends = with_down what (with_command plan e) in
     let asks : with_all_down plan unit (with_command plan e) ≡ sent =
-    ap (λ (b : List ℕ). with_down (bytes b) (with_command plan e))
+    ap (λ (b : List ℕ). with_down (listen (bytes b)) (with_command plan e))
     (ap (drop (length went)) down ∙ drop_at went (spelt ms) (length went) refl) in
     let joined : AreJoined plan port [] sent =
     two.went_on (two.went_on r.joined two.gave) (two.came_down (spelt ms) []
-    (down ∙ ap (λ (l : List ℕ). went ++ l) (sym (append-nil (spelt ms)))) r.no_close) in
-    let reads : messages_of (spelt ms) ≡ ms =
-    ap messages_of (sym (append-nil (spelt ms)))
-    ∙ messages_spelt law.spelt ms [] fits (nothing_unfinished law.spelt) small in
-    let serves = serves_bytes law.answered law.arrived e.port e.downs (spelt ms) [] ms r.no_close (ap messages_of none_open)
-    (ap (λ (l : List ℕ). messages_of (l ++ spelt ms)) none_open ∙ reads) in
+    (down ∙ ap (λ (l : List ℕ). went ++ l) (sym (append-nil (spelt ms))))) in
+    let takes = takes_all law ms (holds []) fits refl in
+    let t = law.happens (server_new e) e.downs what in
+    let here : server_now e ≡ record { port = q; ear = in_stream (holds []) } =
+    ap (λ (x : ServerEar). record { port = q; ear = x }) r.ear_is in
+    let goes : server_now sent ≡ record { port = after_messages q ms; ear = in_stream (holds []) } =
+    t.left ∙ ap (serves what) here
+    ∙ ap₂ (λ (l : List Content) (h : Held). record { port = after_messages q l; ear = in_stream h }) takes.0 takes.1 in
+    let left : port_now sent ≡ after_messages q ms = ap (λ (x : Service). x.port) goes in
+    let aired : items_in (hook_steps (server_new e) (e.downs ++ what ∷ []))
+    ≡ items_in (hook_steps (server_new e) e.downs) ++ aired_on_way q ms =
+    t.aired ∙ ap (λ (l : List Item). items_in (hook_steps (server_new e) e.downs) ++ l)
+    (ap (aired_at what) here ∙ ap (aired_on_way q) takes.0) in
     let rs : List Content = messages_from unit (answers_to q ms) in
     let fits_up : All Fits rs = answers_fit law.written law.answered unit q ms can.unit_fits in
     let up : sent_up sent ≡ e.ups ++ spelt rs =
-    serves.sent
+    t.sent
     ∙ ap₂ (λ (l m : List ℕ). l ++ m) r.all_up
-    (ap (λ (n : ℕ). answer_bytes n (answers_to q ms)) r.unit_is ∙ bytes_from unit (answers_to q ms)) in
+    (ap (sent_at what) here ∙ ap (λ (l : List Content). answer_bytes q.state.unit (answers_to q l)) takes.0
+    ∙ ap (λ (n : ℕ). answer_bytes n (answers_to q ms)) r.unit_is ∙ bytes_from unit (answers_to q ms)) in
     let heard : Ends = with_piece_up plan unit (spelt rs) sent in
     let hears : with_all_up plan unit sent ≡ heard =
     ap (λ (b : List ℕ). with_piece_up plan unit b sent)
     (ap (drop (length e.ups)) up ∙ drop_at e.ups (spelt rs) (length e.ups) refl) in
-    let spells = spells_all law.spelt rs fits_up in
-    let u = nothing_unfinished law.spelt in
-    let new : completed p.held (spelt rs) ≡ rs =
-    ap (λ (at : Held). completed at (spelt rs)) r.held_is
-    ∙ ap (completed (holds [])) (sym (append-nil (spelt rs)))
-    ∙ law.completed.messages rs (spelt rs) [] spells u in
-    let held : held_after p.held (spelt rs) ≡ holds [] =
-    ap (λ (at : Held). held_after at (spelt rs)) r.held_is
-    ∙ ap (held_after (holds [])) (sym (append-nil (spelt rs)))
-    ∙ law.completed.held rs (spelt rs) [] spells u in
+    let hear = takes_all law rs p.held fits_up r.held_is in
     let l = leaves law plan unit p q (aired_now e) (given plan s) can.unit_fits r.unit_is writable in
     let state : heard.automation.state ≡ (hears_all plan unit rs (gives p)).state =
-    ap (λ (l : List Content). (hears_all plan unit l (gives p)).state) new in
+    ap (λ (l : List Content). (hears_all plan unit l (gives p)).state) hear.0 in
     subst (HasExchanged plan port e) (sym (ap (with_all_up plan unit) asks ∙ hears)) (record {
       rest = record {
         joined = two.went_on joined (two.came_up (spelt rs) []
             (up ∙ ap (λ (l : List ℕ). e.ups ++ l) (sym (append-nil (spelt rs)))));
-        held_is = held;
+        held_is = hear.1;
         all_down = ap (λ (l : List Command). bytes_of unit (e.asked ++ l))
             (commands_listens plan unit (bytes (spelt rs)) (gives p)) ∙ down
             ∙ sym (bytes_more e.downs (spelt ms));
         all_up = up;
-        no_close = no_close_more e.downs (bytes (spelt ms)) refl r.no_close;
-        whole = ms;
-        fits = fits;
-        open_is = (law.arrived.bytes e.downs (spelt ms) r.no_close).1 ∙ ap (λ (l : List ℕ). l ++ spelt ms) none_open
-            ∙ sym (append-nil (spelt ms));
-        small = small;
-        unit_is = ap (λ (x : ClockedPort). x.state.unit) serves.left ∙ law.answered.unit_messages q ms ∙ r.unit_is;
-        kept = subst IsKept (sym serves.left) (kept_all law q ms r.kept);
+        ear_is = ap (λ (x : Service). x.ear) goes;
+        unit_is = ap (λ (x : ClockedPort). x.state.unit) left ∙ law.answered.unit_messages q ms ∙ r.unit_is;
+        kept = subst IsKept (sym left) (kept_all law q ms r.kept);
       };
       channel = λ log. (
         (l log).0,
         (l log).1
             ∙ ap₂ (λ (t : State) (x : ClockedPort). channel_with plan t x (aired_now e ++ aired_on_way q ms)
-            (l log).0) (sym state) (sym serves.left)
+            (l log).0) (sym state) (sym left)
             ∙ ap (λ (i : List Item). channel_with plan heard.automation.state (port_now heard) i (l log).0)
-            (append_assoc e.aired_before (items_served e.port e.downs) (aired_on_way q ms)
-            ∙ ap (λ (i : List Item). e.aired_before ++ i) (sym serves.aired)),
+            (append_assoc e.aired_before (items_in (hook_steps (server_new e) e.downs)) (aired_on_way q ms)
+            ∙ ap (λ (i : List Item). e.aired_before ++ i) (sym aired)),
       );
     })
 
@@ -420,11 +375,7 @@ times_out law plan port e r = record {
   all_down = ap (λ (l : List Command). bytes_of port.state.unit (e.asked ++ l))
       (commands_listens plan port.state.unit silence e.automation) ∙ r.all_down;
   all_up = r.all_up;
-  no_close = r.no_close;
-  whole = r.whole;
-  fits = r.fits;
-  open_is = r.open_is;
-  small = r.small;
+  ear_is = r.ear_is;
   unit_is = r.unit_is;
   kept = r.kept;
 }
@@ -434,13 +385,13 @@ are_good_rounds : (law : Laws) (plan : Plan) (port : ClockedPort) (n : ℕ) (e e
     → IsAtRest plan port e' × ((log' : List Exchange)
     × (after_events (channel_of plan e log) (times n good_round) ≡ channel_of plan e' log'))
 are_good_rounds law plan port _ e _ log can r none = (r, (log, refl))
-are_good_rounds law plan port _ e e' log can r (first {n} frames some cue playing more) =
+are_good_rounds law plan port _ e e' log can r (first {n} frames cue playing more) =
     let unit : ℕ = port.state.unit in
     let late : Ends = with_time_out plan unit e in
     let t = times_out law plan port e r in
     let f = have_frames law plan port frames late t in
     let at : Ends = with_frames frames late in
-    let x = exchanges law plan port at can f.rest (opens_none law plan port frames late t some) in
+    let x = exchanges law plan port at can f.rest in
     let then_log : List Exchange = log_waiting plan [] [] e.automation.state log in
     let y = x.channel then_log in
     let round : after_events (channel_of plan e log) good_round ≡ channel_of plan (exchanged plan unit frames e) y.0 =
@@ -462,11 +413,7 @@ new_at_rest law plan clips unit cue_frames takes = record {
   held_is = refl;
   all_down = refl;
   all_up = refl;
-  no_close = refl;
-  whole = [];
-  fits = All-nil Fits;
-  open_is = refl;
-  small = lit≤ tt;
+  ear_is = refl;
   unit_is = refl;
   kept = law.new_kept clips unit plan.port cue_frames takes;
 }

@@ -11,14 +11,15 @@ use Rattle.vdcp_auto.specs.declared.exchange.Exchange.{Exchange}
 use Rattle.vdcp_auto.specs.declared.exchange.Heard.{Heard}
 use Rattle.vdcp_journal.specs.declared.row.Note.{Note}
 use Rattle.vdcp_journal.specs.declared.row.Note.TheVariants as note
-use Rattle.vdcp_wire.specs.Wires.{bytes, silence, close}
+use Rattle.vdcp_wire.specs.Wires.{bytes, silence}
 use Rattle.vdcp_drive.specs.Traces.{bytes_of}
 use Rattle.vdcp_drive.specs.Steps.{end_of, given_notes}
 use Rattle.vdcp_words.specs.declared.command.Command.{Command}
 use Rattle.vdcp_words.specs.declared.command.Command.TheVariants as command
-use Rattle.vdcp_drive.specs.Served.{items_served, port_after}
+use Rattle.vdcp_drive.specs.Serving.{begins, items_in, left_by, hook_steps}
+use Rattle.vdcp_drive.specs.declared.hearing.Hearing.TheVariants as hearing
 use Rattle.vdcp_laws.specs.TwoEnds.{AreJoined, Ends, IsLateChannel, IsSince, aired_now, at_once, commands_sent, connected_anew, heard_again, later, note_for, notes_ended, notes_given, port_now, went_on, with_command, with_kept}
-use Rattle.vdcp_laws.specs.TwoEnds.{gave, came_up, came_down, waited, hung_up, frame, shut, took, halted, resumed, restarted}
+use Rattle.vdcp_laws.specs.TwoEnds.{gave, came_up, came_down, waited, passed, paused, shut, took, halted, resumed, restarted}
 use Rattle.vdcp_laws.specs.Announced.{Announces, came_again, played_notes}
 use Rattle.vdcp_laws.specs.Automation.{end_notes}
 use Rattle.vdcp_laws.proofs.Announced.{ends_again, sent_of}
@@ -51,10 +52,9 @@ keeps_on plan port asked kept _ j (later {e} since (came_up piece rest is) none)
       commands = ap (λ (l : List Command). e.asked ++ l) (commands_listens plan port.state.unit (bytes piece) e.automation)
           ∙ k.commands;
     }
-keeps_on plan port asked kept _ j (later {e} since (came_down piece rest is no_close) none) =
+keeps_on plan port asked kept _ j (later {e} since (came_down piece rest is) none) =
     let k = keeps_on plan port asked kept e j since in record {
-      joined = went_on k.joined
-          (came_down piece rest (ap (bytes_of port.state.unit) (sym k.commands) ∙ is) no_close);
+      joined = went_on k.joined (came_down piece rest (ap (bytes_of port.state.unit) (sym k.commands) ∙ is));
       port_is = k.port_is;
       before_is = k.before_is;
       commands = k.commands;
@@ -67,21 +67,12 @@ keeps_on plan port asked kept _ j (later {e} since waited none) =
       commands = ap (λ (l : List Command). e.asked ++ l) (commands_listens plan port.state.unit silence e.automation)
           ∙ k.commands;
     }
-keeps_on plan port asked kept _ j (later {e} since hung_up none) =
-    let k = keeps_on plan port asked kept e j since in record {
-      joined = k.joined;
-      port_is = k.port_is;
-      before_is = k.before_is;
-      commands = ap (λ (l : List Command). e.asked ++ l) (commands_listens plan port.state.unit close e.automation)
-          ∙ k.commands;
-    }
-keeps_on plan port asked kept _ j (later {e} since (frame no_close all) none) =
-    let k = keeps_on plan port asked kept e j since in record {
-      joined = went_on k.joined (frame no_close all);
-      port_is = k.port_is;
-      before_is = k.before_is;
-      commands = k.commands;
-    }
+keeps_on plan port asked kept _ j (later {e} since passed none) =
+    let k = keeps_on plan port asked kept e j since in
+    record { joined = went_on k.joined passed; port_is = k.port_is; before_is = k.before_is; commands = k.commands }
+keeps_on plan port asked kept _ j (later {e} since paused none) =
+    let k = keeps_on plan port asked kept e j since in
+    record { joined = went_on k.joined paused; port_is = k.port_is; before_is = k.before_is; commands = k.commands }
 keeps_on plan port asked kept _ j (later {e} since shut none) =
     let k = keeps_on plan port asked kept e j since in
     record { joined = went_on k.joined shut; port_is = k.port_is; before_is = k.before_is; commands = k.commands }
@@ -103,13 +94,13 @@ kept_gives plan port asked kept now joined since = went_on (kept_joined plan por
 pub kept_port : (plan : Plan) (port : ClockedPort) (asked : List Command) (kept now : Ends) → AreJoined plan port asked kept
     → IsSince plan port.state.unit kept now → port_now (with_kept kept now) ≡ port_now now
 kept_port plan port asked kept now j since =
-    ap (λ (q : ClockedPort). port_after q now.downs) (sym (keeps_on plan port asked kept now j since).port_is)
+    ap (λ (q : ClockedPort). (left_by (begins hearing.AtOnce q) now.downs).port) (sym (keeps_on plan port asked kept now j since).port_is)
 
 pub kept_aired : (plan : Plan) (port : ClockedPort) (asked : List Command) (kept now : Ends) → AreJoined plan port asked kept
     → IsSince plan port.state.unit kept now → aired_now (with_kept kept now) ≡ aired_now now
 kept_aired plan port asked kept now j since =
     let k = keeps_on plan port asked kept now j since in
-    ap₂ (λ (l : List Item) (q : ClockedPort). l ++ items_served q now.downs) (sym k.before_is) (sym k.port_is)
+    ap₂ (λ (l : List Item) (q : ClockedPort). l ++ items_in (hook_steps (begins hearing.AtOnce q) now.downs)) (sym k.before_is) (sym k.port_is)
 
 -- What goes on with a PLAY that the notes announce has these notes more.
 

@@ -9,10 +9,12 @@ mod Commands
 mod Ended
 mod Examples
 mod Exchanging
+mod Fronts
 mod Headline
 mod Connecting
 mod Joining
 mod Killed
+mod Leading
 mod Logging
 mod Noting
 mod Noted
@@ -22,6 +24,6 @@ mod Same
 mod Serving
 mod SeveralRuns
 mod Running
-mod Whole
+mod Untorn
 mod AsrunRows
 mod LossyGoings

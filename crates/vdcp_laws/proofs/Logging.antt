@@ -21,7 +21,7 @@ use Rattle.vdcp_drive.specs.Steps.{end_of, given_notes}
 use Rattle.vdcp_laws.specs.Automation.{end_notes}
 use Rattle.vdcp_laws.specs.Automation.{Prompt, hears, hears_all}
 use Rattle.vdcp_drive.specs.Reading.{completed}
-use Rattle.vdcp_laws.specs.TwoEnds.{AreJoined, begun, went_on, gave, came_up, came_down, waited, hung_up, frame, shut, took, halted, resumed, restarted}
+use Rattle.vdcp_laws.specs.TwoEnds.{AreJoined, begun, went_on, gave, came_up, came_down, waited, passed, paused, shut, took, halted, resumed, restarted}
 use Rattle.vdcp_laws.specs.TwoEnds.{Ends, GoesOn, as_announced, as_noted, log_now, note_for, notes_ended, notes_given, notes_heard, with_command, with_heard, with_take}
 use Rattle.vdcp_laws.proofs.Commands.{awaits_none_in, ends_alone, exchange_is, hears_comes}
 
@@ -215,19 +215,16 @@ are_logged plan port asked _ (went_on {e} j (came_up piece rest is)) =
     let l = logs_on plan e q.state q.log (notes_heard plan port.state.unit ms p) (are_logged plan port asked e j)
     (heard_leads plan port.state.unit ms p) in
     record { open_is = l.0; closed_is = l.1 }
-are_logged plan port asked _ (went_on {e} j (came_down piece rest is no_close)) =
+are_logged plan port asked _ (went_on {e} j (came_down piece rest is)) =
     let l = are_logged plan port asked e j in record { open_is = l.open_is; closed_is = l.closed_is }
 are_logged plan port asked _ (went_on {e} j waited) =
     let p : Prompt = e.automation in
     let l = logs_on plan e (came_to plan None p.state) (logged p.log (ended_by plan None p.state))
     (notes_ended plan None p.state) (are_logged plan port asked e j) (time_leads plan p) in
     record { open_is = l.0; closed_is = l.1 }
-are_logged plan port asked _ (went_on {e} j hung_up) =
-    let p : Prompt = e.automation in
-    let l = logs_on plan e (came_to plan None p.state) (logged p.log (ended_by plan None p.state))
-    (notes_ended plan None p.state) (are_logged plan port asked e j) (time_leads plan p) in
-    record { open_is = l.0; closed_is = l.1 }
-are_logged plan port asked _ (went_on {e} j (frame no_close all)) =
+are_logged plan port asked _ (went_on {e} j passed) =
+    let l = are_logged plan port asked e j in record { open_is = l.open_is; closed_is = l.closed_is }
+are_logged plan port asked _ (went_on {e} j paused) =
     let l = are_logged plan port asked e j in record { open_is = l.open_is; closed_is = l.closed_is }
 are_logged plan port asked _ (went_on {e} j shut) =
     let l = are_logged plan port asked e j in record { open_is = l.open_is; closed_is = l.closed_is }

@@ -17,6 +17,7 @@ use Rattle.vdcp_drive.specs.Hearing.{at_once}
 use Rattle.vdcp_drive.specs.Reading.{Held, completed}
 use Rattle.vdcp_drive.specs.Steps.{Step, acts, keeps, misses, ended_notes, given_notes, round, steps_of}
 use Rattle.vdcp_drive.specs.Traces.{kept_in}
+use Rattle.vdcp_drive.specs.Turns.{Turn}
 use Rattle.vdcp_drive.specs.declared.hooks.Kept.{Kept}
 use Rattle.vdcp_drive.specs.declared.hooks.Kept.TheVariants as kept
 use Rattle.vdcp_laws.specs.Automation.{Prompt, gives, hears, listens}
@@ -95,7 +96,7 @@ noted plan unit e (arrives what ∷ later) =
       moved plan unit silence e = refl
       moved plan unit close e = refl
 
-pub noted_at : (plan : Plan) (unit : ℕ) (e : Ends) (events : List Event) (downs : List Arrival)
+pub noted_at : (plan : Plan) (unit : ℕ) (e : Ends) (events : List Event) (downs : List Turn)
     → (ends_at plan unit e events downs).notes
     ≡ (e.notes ++ map note_for (kept_in (steps_of at_once plan unit (driver_of e.automation) events)))
     ++ notes_given plan (after at_once plan unit (driver_of e.automation) events).state

@@ -17,7 +17,7 @@ use Rattle.vdcp_auto.specs.declared.exchange.Heard.{Heard}
 use Rattle.vdcp_auto.specs.declared.phase.Mode.{Mode}
 use Rattle.vdcp_laws.specs.Automation.{Prompt, hears, hears_all}
 use Rattle.vdcp_drive.specs.Reading.{completed}
-use Rattle.vdcp_laws.specs.TwoEnds.{AreJoined, begun, went_on, gave, came_up, came_down, waited, hung_up, frame, shut, took, halted, resumed, restarted}
+use Rattle.vdcp_laws.specs.TwoEnds.{AreJoined, begun, went_on, gave, came_up, came_down, waited, passed, paused, shut, took, halted, resumed, restarted}
 use Rattle.vdcp_laws.specs.TwoEnds.{CanJoin, Ends, GoesOn, as_announced, as_noted, log_now}
 use Rattle.vdcp_laws.proofs.Commands.{hears_comes}
 use Rattle.vdcp_laws.proofs.Queues.{logged_behind}
@@ -86,13 +86,11 @@ are_reached plan port asked _ can (went_on {e} j gave) = called (are_reached pla
 are_reached plan port asked _ can (went_on {e} j (came_up piece rest is)) =
     hears_reached plan port.state.unit e.log_before (completed e.automation.held piece) e.automation
     (are_reached plan port asked e can j)
-are_reached plan port asked _ can (went_on {e} j (came_down piece rest is no_close)) =
-    are_reached plan port asked e can j
+are_reached plan port asked _ can (went_on {e} j (came_down piece rest is)) = are_reached plan port asked e can j
 are_reached plan port asked _ can (went_on {e} j waited) =
     receives_reached plan e.log_before e.automation.log e.automation.state None (are_reached plan port asked e can j)
-are_reached plan port asked _ can (went_on {e} j hung_up) =
-    receives_reached plan e.log_before e.automation.log e.automation.state None (are_reached plan port asked e can j)
-are_reached plan port asked _ can (went_on {e} j (frame no_close all)) = are_reached plan port asked e can j
+are_reached plan port asked _ can (went_on {e} j passed) = are_reached plan port asked e can j
+are_reached plan port asked _ can (went_on {e} j paused) = are_reached plan port asked e can j
 are_reached plan port asked _ can (went_on {e} j shut) = are_reached plan port asked e can j
 are_reached plan port asked _ can (went_on {e} j (took on)) = called (are_reached plan port asked e can j) Take
 are_reached plan port asked _ can (went_on {e} j (halted on)) = called (are_reached plan port asked e can j) Stop

@@ -1,17 +1,20 @@
 -- One run, by what happened in it: where both ends are led.
 use Rattle.std.proofs.Common.{ℕ, ◌≡◌, Bool, List, [], ◌∷◌, ◌++◌, refl, sym, ap, subst, ◌∙◌, append_assoc, append-nil}
+use Rattle.std.specs.Prelude.{Option, None, Some}
 use Rattle.vdcp_auto.specs.Plan.{Plan}
 use Rattle.vdcp_wire.specs.Wires.{Arrival, bytes, silence, close}
 use Rattle.vdcp_drive.specs.Auto.{AreMade, Auto, Event, after, arrivals, arrives, calls}
 use Rattle.vdcp_drive.specs.Auto as auto
 use Rattle.vdcp_drive.specs.Hearing.{at_once}
 use Rattle.vdcp_drive.specs.Reading.{Held}
+use Rattle.vdcp_drive.specs.Turns.{Turn}
 use Rattle.vdcp_drive.specs.declared.hooks.Call.TheVariants as call
 use Rattle.vdcp_laws.specs.Automation.{Prompt, led}
 use Rattle.vdcp_laws.specs.Carried.{driver_of}
 use Rattle.vdcp_laws.specs.OneConnection.{ends_at, ends_by, hears_in, heeds_in}
 use Rattle.vdcp_laws.specs.TwoEnds as two
 use Rattle.vdcp_laws.specs.TwoEnds.{AreLed, Ends, bytes_in, with_command}
+use Rattle.vdcp_laws.proofs.Fronts.{came_of, next_of, upto}
 use Rattle.vdcp_laws.proofs.Same.{led_so}
 
 pub ends_both : (plan : Plan) (unit : ℕ) (e : Ends) (xs ys : List Event)
@@ -76,61 +79,20 @@ goes plan unit e (calls c ∷ later) =
       aired_before = g.aired_before;
     }
 
--- What happened until this had come, with the calls that follow.
-abbrev pub upto : List Event → List Arrival → List Event
-upto [] came = []
-upto (calls c ∷ later) came = calls c ∷ upto later came
-upto (arrives a ∷ later) [] = []
-upto (arrives a ∷ later) (b ∷ came) = arrives a ∷ upto later came
+-- What it brings: a call brings nothing.
 
-tail_so : (x y : Arrival) (xs ys : List Arrival) → x ∷ xs ≡ y ∷ ys → xs ≡ ys
-tail_so x y xs ys is = cc
+abbrev pub arrival_in : Event → Option Arrival
+arrival_in (arrives a) = Some a
+arrival_in (calls c) = None
 
-head_so : (x y : Arrival) (xs ys : List Arrival) → x ∷ xs ≡ y ∷ ys → x ≡ y
-head_so x y xs ys is = cc
+pub arrivals_so : (events : List Event) → arrivals events ≡ came_of arrival_in events
+arrivals_so [] = refl
+arrivals_so (arrives a ∷ later) = ap (λ (l : List Arrival). a ∷ l) (arrivals_so later)
+arrivals_so (calls c ∷ later) = arrivals_so later
 
-pub upto_came : (events : List Event) (came rest : List Arrival) → arrivals events ≡ came ++ rest
-    → arrivals (upto events came) ≡ came
-upto_came [] [] rest is = refl
-upto_came [] (b ∷ came) rest is = cc
-upto_came (calls c ∷ later) came rest is = upto_came later came rest is
-upto_came (arrives a ∷ later) [] rest is = refl
-upto_came (arrives a ∷ later) (b ∷ came) rest is =
-    ap (λ (x : Arrival). x ∷ arrivals (upto later came)) (head_so a b (arrivals later) (came ++ rest) is)
-    ∙ ap (λ (l : List Arrival). b ∷ l) (upto_came later came rest (tail_so a b (arrivals later) (came ++ rest) is))
-
-pub upto_all : (events : List Event) → upto events (arrivals events) ≡ events
-upto_all [] = refl
-upto_all (calls c ∷ later) = ap (λ (l : List Event). calls c ∷ l) (upto_all later)
-upto_all (arrives a ∷ later) = ap (λ (l : List Event). arrives a ∷ l) (upto_all later)
-
--- and then this comes
-pub record Next (events : List Event) (came : List Arrival) (a : Arrival) : Type 0 where
-  pub later : List Event
-  pub all : events ≡ upto events came ++ arrives a ∷ later
-  pub next : upto events (came ++ a ∷ []) ≡ upto events came ++ arrives a ∷ upto later []
-
-pub next_of : (events : List Event) (came : List Arrival) (a : Arrival) (rest : List Arrival)
-    → arrivals events ≡ came ++ a ∷ rest → Next events came a
-next_of [] [] a rest is = cc
-next_of [] (b ∷ came) a rest is = cc
-next_of (calls c ∷ later) came a rest is =
-    let n = next_of later came a rest is in record {
-      later = n.later;
-      all = ap (λ (l : List Event). calls c ∷ l) n.all;
-      next = ap (λ (l : List Event). calls c ∷ l) n.next;
-    }
-next_of (arrives x ∷ later) [] a rest is = record {
-  later = later;
-  all = ap (λ (y : Arrival). arrives y ∷ later) (head_so x a (arrivals later) rest is);
-  next = ap (λ (y : Arrival). arrives y ∷ upto later []) (head_so x a (arrivals later) rest is);
-}
-next_of (arrives x ∷ later) (b ∷ came) a rest is =
-    let n = next_of later came a rest (tail_so x b (arrivals later) (came ++ a ∷ rest) is) in record {
-      later = n.later;
-      all = ap (λ (l : List Event). arrives x ∷ l) n.all;
-      next = ap (λ (l : List Event). arrives x ∷ l) n.next;
-    }
+it_arrives : (what : Event) (a : Arrival) → arrival_in what ≡ Some a → what ≡ arrives a
+it_arrives (arrives b) a is = cc
+it_arrives (calls c) a is = cc
 
 made_behind : (can : Bool) (plan : Plan) (unit : ℕ) (a : Auto Held) (xs ys : List Event)
     → AreMade can at_once plan unit a (xs ++ ys) → AreMade can at_once plan unit (after at_once plan unit a xs) ys
@@ -140,9 +102,9 @@ made_behind can plan unit a (arrives x ∷ xs) ys h =
 made_behind can plan unit a (calls c ∷ xs) ys h = made_behind can plan unit (auto.heeds c a) xs ys h.2
 
 -- the calls that follow are made
-pub calls_on : (can : Bool) (plan : Plan) (unit : ℕ) (first e : Ends) (downs : List Arrival) (later : List Event)
+pub calls_on : (can : Bool) (plan : Plan) (unit : ℕ) (first e : Ends) (downs : List Turn) (later : List Event)
     → AreLed plan unit first (record e { downs = downs }) → AreMade can at_once plan unit (driver_of e.automation) later
-    → AreLed plan unit first (record (ends_by plan unit e (upto later [])) { downs = downs })
+    → AreLed plan unit first (record (ends_by plan unit e (upto arrival_in later [])) { downs = downs })
 calls_on can plan unit first e downs [] j m = j
 calls_on can plan unit first e downs (arrives a ∷ later) j m = j
 calls_on can plan unit first e downs (calls call.Take ∷ later) j m =
@@ -152,31 +114,34 @@ calls_on can plan unit first e downs (calls call.Stop ∷ later) j m =
 
 -- a listen more, the calls that follow, and the next command
 pub listened : (can : Bool) (plan : Plan) (unit : ℕ) (e : Ends) (events : List Event) (came rest : List Arrival)
-    (a : Arrival) (downs : List Arrival) → arrivals events ≡ came ++ a ∷ rest
+    (a : Arrival) (downs : List Turn) → came_of arrival_in events ≡ came ++ a ∷ rest
     → AreMade can at_once plan unit (driver_of e.automation) events
     → AreLed plan unit e
-    (record (hears_in plan unit a (with_command plan (ends_by plan unit e (upto events came)))) { downs = downs })
-    → AreLed plan unit e (ends_at plan unit e (upto events (came ++ a ∷ [])) downs)
+    (record (hears_in plan unit a (with_command plan (ends_by plan unit e (upto arrival_in events came)))) { downs = downs })
+    → AreLed plan unit e (ends_at plan unit e (upto arrival_in events (came ++ a ∷ [])) downs)
 listened can plan unit e events came rest a downs is made j =
-    let n = next_of events came a rest is in
-    let xs : List Event = upto events came in
+    let n = next_of arrival_in events came a rest is in
+    let xs : List Event = upto arrival_in events came in
+    let same : n.what ≡ arrives a = it_arrives n.what a n.is in
     let now : Ends = hears_in plan unit a (with_command plan (ends_by plan unit e xs)) in
     let there : ends_by plan unit e (xs ++ arrives a ∷ []) ≡ now = ends_both plan unit e xs (arrives a ∷ []) in
+    let all : events ≡ (xs ++ arrives a ∷ []) ++ n.later =
+    n.all_is ∙ ap (λ (x : Event). xs ++ x ∷ n.later) same ∙ sym (append_assoc xs (arrives a ∷ []) n.later) in
     let behind : AreMade can at_once plan unit (after at_once plan unit (driver_of e.automation) (xs ++ arrives a ∷ []))
     n.later =
     made_behind can plan unit (driver_of e.automation) (xs ++ arrives a ∷ []) n.later
-    (subst (λ (l : List Event). AreMade can at_once plan unit (driver_of e.automation) l)
-    (n.all ∙ sym (append_assoc xs (arrives a ∷ []) n.later)) made) in
+    (subst (λ (l : List Event). AreMade can at_once plan unit (driver_of e.automation) l) all made) in
     let so : after at_once plan unit (driver_of e.automation) (xs ++ arrives a ∷ []) ≡ driver_of now.automation =
     sym (led_so plan unit e.automation (xs ++ arrives a ∷ []))
     ∙ ap driver_of (sym (goes plan unit e (xs ++ arrives a ∷ [])).automation)
     ∙ ap (λ (x : Ends). driver_of x.automation) there in
-    let last : AreLed plan unit e (record (ends_by plan unit now (upto n.later [])) { downs = downs }) =
+    let last : AreLed plan unit e (record (ends_by plan unit now (upto arrival_in n.later [])) { downs = downs }) =
     calls_on can plan unit e now downs n.later j
     (subst (λ (x : Auto Held). AreMade can at_once plan unit x n.later) so behind) in
-    subst (λ (l : List Event). AreLed plan unit e (ends_at plan unit e l downs)) (sym n.next)
+    subst (λ (l : List Event). AreLed plan unit e (ends_at plan unit e l downs))
+    (sym (n.on_is ∙ ap (λ (x : Event). xs ++ x ∷ upto arrival_in n.later []) same))
     (subst (λ (x : Ends). AreLed plan unit e (record (with_command plan x) { downs = downs }))
-    (sym (ends_both plan unit e xs (arrives a ∷ upto n.later [])))
+    (sym (ends_both plan unit e xs (arrives a ∷ upto arrival_in n.later [])))
     (two.went_on last two.gave))
 
 pub led_on : (plan : Plan) (unit : ℕ) (first e e' : Ends) → AreLed plan unit first e → AreLed plan unit e e'

@@ -1,7 +1,7 @@
 -- What is on its way, as messages: a queue of the late channel has those that haven't wholly come.
 use Rattle.std.proofs.Common.{ℕ, ◌≡◌, Bool, true, length, All, List, [], ◌∷◌, ◌++◌, map, refl, sym, ap, ap₂, subst, ◌∙◌, append_assoc, append-nil}
 use Rattle.std.proofs.lemmas.List.{append_cancel_left, map-append}
-use Rattle.std.proofs.lemmas.List.Elements.{All-append, All-head, All-tail}
+use Rattle.std.proofs.lemmas.List.Elements.{All-append, All-head, All-nil, All-tail}
 use Rattle.std.proofs.lemmas.List.Folds.{flat_map-map}
 use Rattle.std.proofs.Math.Seq.{drop-length, take-length}
 use Rattle.std.specs.List.{insert}
@@ -24,6 +24,7 @@ use Rattle.vdcp_auto.specs.Turn.{came_to, ended_by}
 use Rattle.vdcp_auto.specs.declared.exchange.Exchange.{Exchange}
 use Rattle.vdcp_auto.specs.declared.exchange.Heard.{Heard}
 use Rattle.vdcp_world.specs.Channel.{state_hearing, log_hearing}
+use Rattle.vdcp_drive.specs.Reading.{Held, holds, completed, held_after, held_after_silence}
 use Rattle.vdcp_drive.specs.Traces.{bytes_of}
 use Rattle.vdcp_laws.specs.Automation.{Prompt, hears, hears_all}
 use Rattle.vdcp_world.specs.LateLine.Damage.{is_junk_up, with_junk}
@@ -32,77 +33,104 @@ use Rattle.vdcp_auto.specs.declared.phase.Mode.TheVariants.{Plain, Confirming}
 use Rattle.vdcp_world.specs.LateLine.LateChannel.{LateChannel, after_late_event, after_late_events, bursts_of, command_bursts, oldest, without_oldest}
 use Rattle.vdcp_world.specs.LateLine.LateEvent.{LateEvent}
 use Rattle.vdcp_world.specs.LateLine.LateEvent as event
-use Rattle.vdcp_laws.specs.Below.{Answered, Spelt}
-use Rattle.vdcp_laws.proofs.Bytes.{fits_front, fits_rest, front_of, spelt, spelt_both}
+use Rattle.vdcp_laws.specs.Below.{Answered, Completed, Spelt}
+use Rattle.vdcp_laws.proofs.Bytes.{completes, fits_rest, front_all, front_of, nothing_unfinished, spelt, spelt_both}
 use Rattle.vdcp_laws.proofs.Commands.{hears_comes}
 
--- of all messages that were sent these bytes came: some whole messages, and what is held of the next one; the queue has
--- the others
-pub record IsOnWay (all : List Content) (came held : List ℕ) (queue : List (List ℕ)) : Type 0 where
-  pub fits : All Fits all
+-- An end that hears at once: of the messages that were sent to it some came whole, and it holds what came of the next one;
+-- the queue has the others.
+pub record Takes (sent came : List ℕ) (at : Held) (queue : List (List ℕ)) : Type 0 where
   pub done : List Content
   pub left : List Content
-  pub all_is : all ≡ done ++ left
+  pub held : List ℕ
+  pub fits : All Fits (done ++ left)
+  pub sent_is : sent ≡ spelt (done ++ left)
   pub came_is : came ≡ spelt done ++ held
+  pub at_is : at ≡ holds held
   pub unfinished : IsUnfinished held
   pub queue_is : queue ≡ map spelling left
 
 -- a piece more came: it completes these messages
-pub record ComesOn (all : List Content) (came held piece : List ℕ) (queue : List (List ℕ)) : Type 0 where
+pub record TakesOn (sent came piece : List ℕ) (at : Held) (queue : List (List ℕ)) : Type 0 where
   pub new : List Content
-  pub held_on : List ℕ
   pub rest : List (List ℕ)
   pub fits : All Fits new
-  pub reads : held ++ piece ≡ spelt new ++ held_on
+  pub new_is : completed at piece ≡ new
   pub queue_is : queue ≡ map spelling new ++ rest
-  pub on_way : IsOnWay all (came ++ piece) held_on rest
+  pub takes : Takes sent (came ++ piece) (held_after at piece) rest
 
-pub comes_on : (law : Spelt) (all : List Content) (came held : List ℕ) (queue : List (List ℕ))
-    → IsOnWay all came held queue → (piece rest : List ℕ) → spelt all ≡ came ++ (piece ++ rest)
-    → ComesOn all came held piece queue
-comes_on law all came held queue w piece rest is =
+pub takes_on : (law : Spelt) (reads : Completed) (sent came : List ℕ) (at : Held) (queue : List (List ℕ))
+    → Takes sent came at queue → (piece rest : List ℕ) → sent ≡ came ++ (piece ++ rest) → TakesOn sent came piece at queue
+takes_on law reads sent came at queue w piece rest is =
     let front : List ℕ = spelt w.done in
-    let e : front ++ ((held ++ piece) ++ rest) ≡ front ++ spelt w.left =
-    ap (λ (l : List ℕ). front ++ l) (append_assoc held piece rest)
-    ∙ sym (append_assoc front held (piece ++ rest))
+    let e : front ++ ((w.held ++ piece) ++ rest) ≡ front ++ spelt w.left =
+    ap (λ (l : List ℕ). front ++ l) (append_assoc w.held piece rest)
+    ∙ sym (append_assoc front w.held (piece ++ rest))
     ∙ ap (λ (l : List ℕ). l ++ (piece ++ rest)) (sym w.came_is)
-    ∙ sym is ∙ ap spelt w.all_is ∙ spelt_both w.done w.left in
-    let fits : All Fits w.left = fits_rest w.done w.left (subst (All Fits) w.all_is w.fits) in
-    let f = front_of law w.left fits (held ++ piece) rest
-    (append_cancel_left front ((held ++ piece) ++ rest) (spelt w.left) e) in
+    ∙ sym is ∙ w.sent_is ∙ spelt_both w.done w.left in
+    let fits : All Fits w.left = fits_rest w.done w.left w.fits in
+    let f = front_of law w.left fits (w.held ++ piece) rest
+    (append_cancel_left front ((w.held ++ piece) ++ rest) (spelt w.left) e) in
+    let new_fit : All Fits f.done = front_all Fits f.done f.left (subst (All Fits) f.all_is fits) in
+    let r = completes law reads w.held piece f.done f.held w.unfinished new_fit f.unfinished f.front_is in
+    let parts : w.done ++ w.left ≡ (w.done ++ f.done) ++ f.left =
+    ap (λ (l : List Content). w.done ++ l) f.all_is ∙ sym (append_assoc w.done f.done f.left) in
     record {
       new = f.done;
-      held_on = f.held;
       rest = map spelling f.left;
-      fits = fits_front f.done f.left (subst (All Fits) f.all_is fits);
-      reads = f.front_is;
+      fits = new_fit;
+      new_is = ap (λ (h : Held). completed h piece) w.at_is ∙ r.0;
       queue_is = w.queue_is ∙ ap (map spelling) f.all_is ∙ map-append spelling f.done f.left;
-      on_way = record {
-        fits = w.fits;
+      takes = record {
         done = w.done ++ f.done;
         left = f.left;
-        all_is = w.all_is ∙ ap (λ (l : List Content). w.done ++ l) f.all_is ∙ sym (append_assoc w.done f.done f.left);
+        held = f.held;
+        fits = subst (All Fits) parts w.fits;
+        sent_is = w.sent_is ∙ ap spelt parts;
         came_is = ap (λ (l : List ℕ). l ++ piece) w.came_is
-            ∙ append_assoc front held piece
+            ∙ append_assoc front w.held piece
             ∙ ap (λ (l : List ℕ). front ++ l) f.front_is
             ∙ sym (append_assoc front (spelt f.done) f.held)
             ∙ ap (λ (l : List ℕ). l ++ f.held) (sym (spelt_both w.done f.done));
+        at_is = ap (λ (h : Held). held_after h piece) w.at_is ∙ r.1;
         unfinished = f.unfinished;
         queue_is = refl;
       };
     }
 
 -- more messages are sent
-pub sends_on : (all more : List Content) (came held : List ℕ) (queue : List (List ℕ))
-    → IsOnWay all came held queue → All Fits more → IsOnWay (all ++ more) came held (queue ++ map spelling more)
-sends_on all more came held queue w fits = record {
-  fits = All-append Fits all more w.fits fits;
-  done = w.done;
-  left = w.left ++ more;
-  all_is = ap (λ (l : List Content). l ++ more) w.all_is ∙ append_assoc w.done w.left more;
-  came_is = w.came_is;
-  unfinished = w.unfinished;
-  queue_is = ap (λ (q : List (List ℕ)). q ++ map spelling more) w.queue_is ∙ sym (map-append spelling w.left more);
+pub sends_on : (more : List Content) (sent came : List ℕ) (at : Held) (queue : List (List ℕ)) → Takes sent came at queue
+    → All Fits more → Takes (sent ++ spelt more) came at (queue ++ map spelling more)
+sends_on more sent came at queue w fits =
+    let all : (w.done ++ w.left) ++ more ≡ w.done ++ (w.left ++ more) = append_assoc w.done w.left more in record {
+      done = w.done;
+      left = w.left ++ more;
+      held = w.held;
+      fits = subst (All Fits) all (All-append Fits (w.done ++ w.left) more w.fits fits);
+      sent_is = ap (λ (l : List ℕ). l ++ spelt more) w.sent_is ∙ sym (spelt_both (w.done ++ w.left) more) ∙ ap spelt all;
+      came_is = w.came_is;
+      at_is = w.at_is;
+      unfinished = w.unfinished;
+      queue_is = ap (λ (q : List (List ℕ)). q ++ map spelling more) w.queue_is ∙ sym (map-append spelling w.left more);
+    }
+
+-- a silence changes nothing
+pub rests : (sent came : List ℕ) (at : Held) (queue : List (List ℕ)) → Takes sent came at queue
+    → Takes sent came (held_after_silence at) queue
+rests sent came at queue w =
+    subst (λ (h : Held). Takes sent came h queue) (w.at_is ∙ sym (ap held_after_silence w.at_is)) w
+
+pub nothing_taken : (law : Spelt) → Takes [] [] (holds []) []
+nothing_taken law = record {
+  done = [];
+  left = [];
+  held = [];
+  fits = All-nil Fits;
+  sent_is = refl;
+  came_is = refl;
+  at_is = refl;
+  unfinished = nothing_unfinished law;
+  queue_is = refl;
 }
 
 -- The commands as messages, and the answers.

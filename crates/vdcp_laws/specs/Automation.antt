@@ -11,7 +11,7 @@ use Rattle.vdcp_auto.specs.Turn.{start, awaited, ticked, came_to, ended_by}
 use Rattle.vdcp_auto.specs.declared.exchange.Exchange.{Exchange}
 use Rattle.vdcp_auto.specs.declared.exchange.Heard.{Heard}
 use Rattle.vdcp_auto.specs.State.{State}
-use Rattle.vdcp_drive.specs.Auto.{Auto, Event, arrives, called, calls}
+use Rattle.vdcp_drive.specs.Auto.{Event, arrives, called, calls}
 use Rattle.vdcp_drive.specs.declared.hooks.Call.{Call}
 use Rattle.vdcp_drive.specs.Reading.{Held, holds, completed, held_after, held_after_silence}
 use Rattle.vdcp_drive.specs.Steps.{ended_notes}
@@ -76,7 +76,3 @@ commands_in plan p = map (λ e. e.command) p.log ++ option_to_list (awaited plan
 -- what is kept of an exchange that ended, if one did
 abbrev pub end_notes : Option Exchange → List Kept
 end_notes ended = ended_notes (option_to_list ended)
-
--- a new driver that hears at once
-abbrev pub new_at_once : Auto Held
-new_at_once = record { ear = holds []; state = start }

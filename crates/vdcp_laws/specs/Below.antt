@@ -1,5 +1,5 @@
 -- What the laws of the crates below say of bytes and messages, taken together.
-use Rattle.std.specs.Prelude.{ℕ, ◌≡◌, ◌<◌, ◌≤◌, false, All, IfSome, List, [], ◌∷◌, ◌++◌, length}
+use Rattle.std.specs.Prelude.{ℕ, ◌≡◌, ◌<◌, ◌≤◌, All, IfSome, List, [], ◌∷◌, ◌++◌, length}
 use Rattle.vdcp_value.specs.Parts.{IsItem}
 use Rattle.vdcp_frame.specs.Burst.{messages_of, end_of}
 use Rattle.vdcp_frame.specs.Message.{Content, AreOctets, Fits, Spells, spelling}
@@ -15,8 +15,9 @@ use Rattle.vdcp_port.specs.Clock.{ClockedPort, after_frame, after_message}
 use Rattle.vdcp_auto.specs.Plan.{Plan}
 use Rattle.vdcp_auto.specs.State.{State}
 use Rattle.vdcp_auto.specs.Turn.{given}
-use Rattle.vdcp_wire.specs.Wires.{Arrival, bytes, silence, close, has_closed}
-use Rattle.vdcp_drive.specs.Bursts.{ended_bursts, open_burst}
+use Rattle.vdcp_drive.specs.Served.{HasMore}
+use Rattle.vdcp_drive.specs.Serving.{Service}
+use Rattle.vdcp_drive.specs.Turns.{Turn}
 use Rattle.vdcp_drive.specs.Reading.{Held, holds, completed, held_after}
 
 -- vdcp_frame::laws: no_spelling_begins_another, one_spelling, what_is_spelt_is_bytes, a_spelling_is_its_message,
@@ -68,13 +69,6 @@ pub record Written : Type 0 where
   pub given : (plan : Plan) (state : State) → All IsItem plan.list → plan.port < 256
       → IfSome (given plan state) IsWritableCommand
 
--- vdcp_drive::laws::bursts_grow
-pub record Arrived : Type 0 where
-  pub bytes : (came : List Arrival) (piece : List ℕ) → has_closed came ≡ false
-      → (ended_bursts (came ++ bytes piece ∷ []) ≡ ended_bursts came)
-      × (open_burst (came ++ bytes piece ∷ []) ≡ open_burst came ++ piece)
-  pub silence : (came : List Arrival) → has_closed came ≡ false
-      → (ended_bursts (came ++ silence ∷ []) ≡ ended_bursts came ++ open_burst came ∷ [])
-      × (open_burst (came ++ silence ∷ []) ≡ [])
-  pub close : (came : List Arrival) → (ended_bursts (came ++ close ∷ []) ≡ ended_bursts came)
-      × (open_burst (came ++ close ∷ []) ≡ open_burst came)
+-- vdcp_drive::laws::one_event_more
+abbrev pub Happened : Type 0
+Happened = (s : Service) (turns : List Turn) (what : Turn) → HasMore s turns what

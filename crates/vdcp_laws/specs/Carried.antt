@@ -1,13 +1,13 @@
 -- One connection between both ends, by what the wire of each does, one act after another.
-use Rattle.std.specs.Prelude.{ℕ, ◌≡◌, false, List, [], ◌∷◌, ◌++◌}
-use Rattle.vdcp_frame.specs.Reading.{AreMessages}
+use Rattle.std.specs.Prelude.{ℕ, ◌≡◌, List, [], ◌∷◌, ◌++◌}
 use Rattle.vdcp_auto.specs.Plan.{Plan}
 use Rattle.vdcp_wire.specs.Acts.{Act, sends, brings, fails}
-use Rattle.vdcp_wire.specs.Wires.{bytes, silence, close, has_closed}
+use Rattle.vdcp_wire.specs.Wires.{bytes, silence, close}
 use Rattle.vdcp_drive.specs.Auto.{Auto}
-use Rattle.vdcp_drive.specs.Bursts.{open_burst}
 use Rattle.vdcp_drive.specs.Reading.{Held}
 use Rattle.vdcp_drive.specs.Traces.{came_in, sent_in}
+use Rattle.vdcp_drive.specs.Served.{only}
+use Rattle.vdcp_drive.specs.Turns.{Turn, arrivals}
 use Rattle.vdcp_laws.specs.Automation.{Prompt}
 use Rattle.vdcp_laws.specs.TwoEnds.{Ends, bytes_in, sent_down, sent_up}
 
@@ -30,15 +30,18 @@ pub data AreCarried (plan : Plan) (unit : ℕ) (e : Ends) : List Act → List Ac
   hung_up : {autos servers : List Act} → AreCarried plan unit e autos servers
       → AreCarried plan unit e (autos ++ brings close ∷ []) servers
   failed : {autos servers : List Act} → AreCarried plan unit e autos servers → AreCarried plan unit e (autos ++ fails ∷ []) servers
-  -- the server's wire, on which a frame passes at any moment but within a command
+  -- the server's wire
   answered : {autos servers : List Act} → AreCarried plan unit e autos servers → (b : List ℕ)
       → AreCarried plan unit e autos (servers ++ sends b ∷ [])
   down : {autos servers : List Act} → AreCarried plan unit e autos servers → (piece rest : List ℕ)
-      → sent_down plan unit e ++ sent_in autos ≡ bytes_in (e.downs ++ came_in servers) ++ (piece ++ rest)
-      → has_closed (e.downs ++ came_in servers) ≡ false → AreCarried plan unit e autos (servers ++ brings (bytes piece) ∷ [])
-  frame : {autos servers : List Act} → AreCarried plan unit e autos servers
-      → has_closed (e.downs ++ came_in servers) ≡ false → AreMessages (open_burst (e.downs ++ came_in servers))
+      → sent_down plan unit e ++ sent_in autos ≡ (bytes_in (arrivals e.downs) ++ bytes_in (came_in servers)) ++ (piece ++ rest)
+      → AreCarried plan unit e autos (servers ++ brings (bytes piece) ∷ [])
+  paused : {autos servers : List Act} → AreCarried plan unit e autos servers
       → AreCarried plan unit e autos (servers ++ brings silence ∷ [])
   shut : {autos servers : List Act} → AreCarried plan unit e autos servers
       → AreCarried plan unit e autos (servers ++ brings close ∷ [])
   broke : {autos servers : List Act} → AreCarried plan unit e autos servers → AreCarried plan unit e autos (servers ++ fails ∷ [])
+
+-- a server's turns, with the one in which its wire then failed
+abbrev pub all_turns : List Turn → List Act → List Turn
+all_turns turns done = turns ++ only (came_in done)

@@ -9,5 +9,6 @@ pub mod OneConnection
 pub mod SeveralRuns
 pub mod TwoEnds
 pub mod Undisturbed
+pub mod Untorn
 pub mod AsrunLaw
 pub mod LossyEvents

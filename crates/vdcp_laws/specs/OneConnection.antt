@@ -1,11 +1,11 @@
 -- One connection between both ends, by what happens to the automation: what a driver and a server run on.
 use Rattle.std.specs.Prelude.{ℕ, List, [], ◌∷◌, None}
-use Rattle.vdcp_frame.specs.Reading.{AreMessages}
 use Rattle.vdcp_auto.specs.Plan.{Plan}
 use Rattle.vdcp_wire.specs.Wires.{Arrival, bytes, silence, close}
 use Rattle.vdcp_drive.specs.Auto.{Event, arrives, called, calls}
 use Rattle.vdcp_drive.specs.Reading.{completed}
 use Rattle.vdcp_drive.specs.declared.hooks.Call.{Call}
+use Rattle.vdcp_drive.specs.Turns.{Turn}
 use Rattle.vdcp_drive.specs.declared.hooks.Kept.TheVariants as kept
 use Rattle.vdcp_laws.specs.Automation.{listens}
 use Rattle.vdcp_laws.specs.TwoEnds.{Ends, note_for, notes_ended, notes_heard, wishing, with_automation, with_command, with_up}
@@ -30,12 +30,6 @@ ends_by plan unit e [] = e
 ends_by plan unit e (arrives a ∷ later) = ends_by plan unit (hears_in plan unit a (with_command plan e)) later
 ends_by plan unit e (calls c ∷ later) = ends_by plan unit (heeds_in c e) later
 
--- and this to the server; the next command is given
-abbrev pub ends_at : Plan → ℕ → Ends → List Event → List Arrival → Ends
+-- and these turns to the server; the next command is given
+abbrev pub ends_at : Plan → ℕ → Ends → List Event → List Turn → Ends
 ends_at plan unit e events downs = record (with_command plan (ends_by plan unit e events)) { downs = downs }
-
--- what comes is whole messages, if it is bytes, as a server's line hands them on by the clock
-abbrev pub ComesWhole : Arrival → Type 0
-ComesWhole (bytes piece) = AreMessages piece
-ComesWhole silence = Unit {0}
-ComesWhole close = Unit {0}

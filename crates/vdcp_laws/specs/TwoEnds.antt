@@ -1,9 +1,8 @@
--- An automation that hears at once and a server, joined by two streams of bytes that keep order, over one connection
+-- An automation and a server that both hear at once, joined by two streams of bytes that keep order, over one connection
 -- after another.
-use Rattle.std.specs.Prelude.{ℕ, ◌≡◌, false, List, [], ◌∷◌, ◌++◌, All, map, Option, None, Some}
+use Rattle.std.specs.Prelude.{ℕ, ◌≡◌, List, [], ◌∷◌, ◌++◌, All, map, Option, None, Some}
 use Rattle.vdcp_value.specs.declared.part.Item.{Item}
 use Rattle.vdcp_frame.specs.Message.{Content}
-use Rattle.vdcp_frame.specs.Reading.{AreMessages}
 use Rattle.vdcp_words.specs.declared.command.Command.{Command}
 use Rattle.vdcp_port.specs.Clock.{ClockedPort}
 use Rattle.vdcp_auto.specs.Course.{logged}
@@ -15,9 +14,7 @@ use Rattle.vdcp_auto.specs.declared.exchange.Exchange.{Exchange}
 use Rattle.vdcp_auto.specs.declared.exchange.Heard.{Heard}
 use Rattle.vdcp_journal.specs.declared.row.Note.{Note}
 use Rattle.vdcp_journal.specs.declared.row.Note.TheVariants as note
-use Rattle.vdcp_wire.specs.Wires.{Arrival, bytes, silence, close, has_closed}
-use Rattle.vdcp_drive.specs.Bursts.{open_burst}
-use Rattle.vdcp_drive.specs.Traces.{bytes_of}
+use Rattle.vdcp_wire.specs.Wires.{Arrival, bytes, silence, close}
 use Rattle.vdcp_drive.specs.Steps.{given_notes}
 use Rattle.vdcp_laws.specs.Automation.{end_notes}
 use Rattle.vdcp_laws.specs.Automation.{Prompt, commands_in, gives, hears, listens, new_prompt, receives}
@@ -27,18 +24,21 @@ use Rattle.vdcp_drive.specs.Reading.{completed, holds}
 use Rattle.vdcp_drive.specs.declared.hooks.Call.TheVariants as call
 use Rattle.vdcp_drive.specs.declared.hooks.Kept.{Kept}
 use Rattle.vdcp_drive.specs.declared.hooks.Kept.TheVariants as kept
-use Rattle.vdcp_drive.specs.Served.{served, port_after, items_served}
+use Rattle.vdcp_drive.specs.Serving.{Service, acts_of, begins, items_in, left_by, hook_steps}
+use Rattle.vdcp_drive.specs.Traces.{bytes_of, sent_in}
+use Rattle.vdcp_drive.specs.Turns.{Turn, arrivals, listen, frame}
+use Rattle.vdcp_drive.specs.declared.hearing.Hearing.TheVariants as hearing
 use Rattle.vdcp_world.specs.LateLine.LateChannel.{LateChannel, CanStart, IsLateReached, IsQuestion, made_anew}
 
 -- Both ends of a connection: what was asked over it before the run; the automation, with the exchanges since it began,
--- and the bytes that came up to it; the port with which it began at the server, and what came down. Of the connections
+-- and the bytes that came up to it; the port with which it began at the server, and its turns. Of the connections
 -- before: the exchanges, and what went to air. And what the automation's journal has, of all of them.
 pub record Ends : Type 0 where
   pub asked : List Command
   pub automation : Prompt
   pub ups : List ℕ
   pub port : ClockedPort
-  pub downs : List Arrival
+  pub downs : List Turn
   pub log_before : List Exchange
   pub aired_before : List Item
   pub notes : List Note
@@ -66,17 +66,24 @@ commands_sent plan e = e.asked ++ commands_in plan e.automation
 abbrev pub sent_down : Plan → ℕ → Ends → List ℕ
 sent_down plan unit e = bytes_of unit (commands_sent plan e)
 
+-- the server, which hears at once
+abbrev pub server_new : Ends → Service
+server_new e = begins hearing.AtOnce e.port
+
+abbrev pub server_now : Ends → Service
+server_now e = left_by (server_new e) e.downs
+
 abbrev pub sent_up : Ends → List ℕ
-sent_up e = served e.port e.downs
+sent_up e = sent_in (acts_of (server_new e) e.downs)
 
 abbrev pub port_now : Ends → ClockedPort
-port_now e = port_after e.port e.downs
+port_now e = (server_now e).port
 
 abbrev pub log_now : Ends → List Exchange
 log_now e = e.log_before ++ e.automation.log
 
 abbrev pub aired_now : Ends → List Item
-aired_now e = e.aired_before ++ items_served e.port e.downs
+aired_now e = e.aired_before ++ items_in (hook_steps (server_new e) e.downs)
 
 -- the bytes of what came
 abbrev pub bytes_in : List Arrival → List ℕ
@@ -115,8 +122,8 @@ with_automation p notes e = record e { automation = p; notes = e.notes ++ notes 
 abbrev pub with_up : List ℕ → Ends → Ends
 with_up piece e = record e { ups = e.ups ++ piece }
 
-abbrev pub with_down : Arrival → Ends → Ends
-with_down a e = record e { downs = e.downs ++ a ∷ [] }
+abbrev pub with_down : Turn → Ends → Ends
+with_down turn e = record e { downs = e.downs ++ turn ∷ [] }
 
 abbrev pub wishing : State → Prompt → Prompt
 wishing state p = record p { state = state }
@@ -168,16 +175,15 @@ pub data Step (plan : Plan) (unit : ℕ) (e : Ends) : Ends → Type 0 where
   came_up : (piece rest : List ℕ) → sent_up e ≡ e.ups ++ (piece ++ rest) → Step plan unit e (with_up piece
       (with_automation (listens plan unit (bytes piece) e.automation)
       (notes_heard plan unit (completed e.automation.held piece) e.automation) e))
-  came_down : (piece rest : List ℕ) → sent_down plan unit e ≡ bytes_in e.downs ++ (piece ++ rest)
-      → has_closed e.downs ≡ false → Step plan unit e (with_down (bytes piece) e)
-  -- its time is up, at any moment; or its line is closed
+  came_down : (piece rest : List ℕ) → sent_down plan unit e ≡ bytes_in (arrivals e.downs) ++ (piece ++ rest)
+      → Step plan unit e (with_down (listen (bytes piece)) e)
+  -- its time is up, at any moment, or its line is closed
   waited : Step plan unit e (with_automation (listens plan unit silence e.automation)
       (notes_ended plan None e.automation.state) e)
-  hung_up : Step plan unit e (with_automation (listens plan unit close e.automation)
-      (notes_ended plan None e.automation.state) e)
-  -- a frame passes at the server, at any moment but within a command; or its line is closed
-  frame : has_closed e.downs ≡ false → AreMessages (open_burst e.downs) → Step plan unit e (with_down silence e)
-  shut : Step plan unit e (with_down close e)
+  -- at the server a frame passes, or its line is silent, at any moment, also within a command; or its line is closed
+  passed : Step plan unit e (with_down frame e)
+  paused : Step plan unit e (with_down (listen silence) e)
+  shut : Step plan unit e (with_down (listen close) e)
   -- the operator's wishes, while it goes on
   took : outcome_of e.automation.state.stage ≡ None → Step plan unit e (with_take e)
   halted : outcome_of e.automation.state.stage ≡ None → Step plan unit e

@@ -9,6 +9,7 @@ use Rattle.vdcp_auto.specs.declared.phase.Mode.{Mode}
 use Rattle.vdcp_auto.specs.declared.phase.Mode.TheVariants.{Plain, Confirming}
 use Rattle.vdcp_wire.specs.Wires.{bytes, silence}
 use Rattle.vdcp_laws.specs.Automation.{listens}
+use Rattle.vdcp_drive.specs.Turns.{arrivals, frame, listen}
 use Rattle.vdcp_drive.specs.Reading.{completed}
 use Rattle.vdcp_world.specs.LateLine.LateChannel.{CanStart}
 use Rattle.vdcp_laws.specs.TwoEnds.{Ends, aired_now, bytes_in, notes_ended, notes_heard, port_now, sent_down, sent_up, with_automation, with_command, with_down, with_up}
@@ -21,12 +22,13 @@ with_time_out plan unit e =
 -- this many frames pass at the server
 abbrev pub with_frames : ℕ → Ends → Ends
 with_frames zero e = e
-with_frames (suc frames) e = with_frames frames (with_down silence e)
+with_frames (suc frames) e = with_frames frames (with_down frame e)
 
 -- all that either end has sent comes to the other
 
 abbrev pub with_all_down : Plan → ℕ → Ends → Ends
-with_all_down plan unit e = with_down (bytes (drop (length (bytes_in e.downs)) (sent_down plan unit e))) e
+with_all_down plan unit e =
+    with_down (listen (bytes (drop (length (bytes_in (arrivals e.downs))) (sent_down plan unit e)))) e
 
 abbrev pub with_piece_up : Plan → ℕ → List ℕ → Ends → Ends
 with_piece_up plan unit piece e =
@@ -43,11 +45,10 @@ exchanged plan unit frames e =
     with_all_up plan unit
     (with_all_down plan unit (with_command plan (with_frames frames (with_time_out plan unit e))))
 
--- So many exchanges, one after another. In each pass as many frames as the cue and the clip wait for, or more, and one
--- at least.
+-- So many exchanges, one after another. In each pass as many frames as the cue and the clip wait for, or more.
 pub data AreUndisturbed (plan : Plan) (unit : ℕ) : ℕ → Ends → Ends → Type 0 where
   none : {e : Ends} → AreUndisturbed plan unit 0 e e
-  first : {n : ℕ} {e e' : Ends} → (frames : ℕ) → 1 ≤ frames → (port_now e).counts.cue ≤ frames
+  first : {n : ℕ} {e e' : Ends} → (frames : ℕ) → (port_now e).counts.cue ≤ frames
       → (port_now e).counts.playing ≤ frames → AreUndisturbed plan unit n (exchanged plan unit frames e) e'
       → AreUndisturbed plan unit (suc n) e e'
 

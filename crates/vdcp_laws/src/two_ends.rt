@@ -1,9 +1,8 @@
 //! The laws of both ends over two streams of bytes that keep order, one connection after another.
 //!
 //! The functions do nothing: their contracts are the laws, and a caller whose proof needs one calls it.
-ghost use Rattle.std.specs.Prelude.{ℕ, Bool, ◌≡◌, ◌≤◌, ◌⊎◌, ◌++◌, [], false, All, List, length, IsTrue, Option, None, Some, Result, map};
+ghost use Rattle.std.specs.Prelude.{ℕ, Bool, ◌≡◌, ◌≤◌, ◌++◌, [], false, List, length, IsTrue, Option, None, Some, Result, map};
 ghost use Rattle.vdcp_value.specs.declared.part.Item.{Item};
-ghost use Rattle.vdcp_frame.specs.Reading.{AreMessages};
 ghost use Rattle.vdcp_words.specs.declared.command.Command.{Command};
 ghost use Rattle.vdcp_port.specs.Clock.{ClockedPort};
 ghost use Rattle.vdcp_auto.specs.Course.{logged};
@@ -17,42 +16,40 @@ ghost use Rattle.vdcp_journal.specs.Airings.{settled_in};
 ghost use Rattle.vdcp_journal.specs.Resume.{AreTold, after_rows, log_of};
 ghost use Rattle.vdcp_journal.specs.Thinned.{AreThinned, notes_in};
 ghost use Rattle.vdcp_journal.specs.declared.row.Row.{Row};
-ghost use Rattle.vdcp_wire.specs.Acts.{Act};
-ghost use Rattle.vdcp_wire.specs.Wires.{Arrival};
 ghost use Rattle.vdcp_drive.specs.Auto as auto;
 ghost use Rattle.vdcp_drive.specs.Auto.{Auto, Event, after};
-ghost use Rattle.vdcp_drive.specs.Bursts.{open_burst};
 ghost use Rattle.vdcp_drive.specs.Hearing.{at_once};
 ghost use Rattle.vdcp_drive.specs.Leaves.{IsRun, steps_in};
 ghost use Rattle.vdcp_drive.specs.Reading.{Held};
 ghost use Rattle.vdcp_drive.specs.Steps.{Chain, steps_of};
-ghost use Rattle.vdcp_drive.specs.Traces.{acts_in, came_in, kept_in};
+ghost use Rattle.vdcp_drive.specs.Traces.{acts_in, kept_in};
 ghost use Rattle.vdcp_drive.specs.declared.hooks.KeptFault.{KeptFault};
 ghost use Rattle.vdcp_drive.specs.declared.line.Ran.{Ran};
+ghost use Rattle.vdcp_drive.specs.declared.line.TurnsEnd.{TurnsEnd};
 ghost use Rattle.vdcp_drive.specs.declared.line.DriveFault.{DriveFault};
 ghost use Rattle.vdcp_drive.specs.ServeLeaves.{HasServed};
-ghost use Rattle.vdcp_drive.specs.Served.{IsOpen, items_served, stands_at};
-ghost use Rattle.vdcp_drive.specs.Serving.{Serving, acts_of};
-ghost use Rattle.vdcp_drive.specs.Watching.{tells_airing};
+ghost use Rattle.vdcp_drive.specs.Serving.{Serving, acts_of, begins, items_in, left_by, hook_steps};
+ghost use Rattle.vdcp_drive.specs.Turns.{Turn};
 ghost use Rattle.vdcp_world.specs.LateLine.LateHeadline.{is_late_complete};
 ghost use Rattle.vdcp_laws.specs.Announced.{Announces, played_notes};
-ghost use Rattle.vdcp_laws.specs.Below.{Answered, Arrived, Completed, Spelt, Written};
-ghost use Rattle.vdcp_laws.specs.Carried.{AreCarried, driver_of};
+ghost use Rattle.vdcp_laws.specs.Below.{Answered, Completed, Happened, Spelt, Written};
+ghost use Rattle.vdcp_laws.specs.Carried.{AreCarried, all_turns, driver_of};
 ghost use Rattle.vdcp_laws.specs.EndsHeadline.{EndsHeadline};
-ghost use Rattle.vdcp_laws.specs.OneConnection.{ComesWhole, ends_at};
+ghost use Rattle.vdcp_laws.specs.OneConnection.{ends_at};
 ghost use Rattle.vdcp_laws.specs.SeveralRuns.{AsksAtMost, HaveAired};
-ghost use Rattle.vdcp_laws.specs.TwoEnds.{AreJoined, AreLed, CanJoin, Ends, IsLateChannel, IsSince, aired_now, connected_anew, heard_again, log_now, new_ends, note_for, notes_given, port_now, with_command, with_kept};
+ghost use Rattle.vdcp_laws.specs.TwoEnds.{AreJoined, AreLed, CanJoin, Ends, IsLateChannel, IsSince, aired_now, connected_anew, heard_again, log_now, new_ends, note_for, notes_given, port_now, server_now, with_command, with_kept};
+ghost use Rattle.vdcp_laws.specs.Untorn.{AreUntorn, at_once_for, server_at_silences};
 ghost use Rattle.vdcp_laws.specs.Undisturbed.{AreUndisturbed, CanPlay, IsDone, most_exchanges};
 
-use vdcp_drive::WatchPort;
+use vdcp_drive::{Hearing, ServerHooks};
 use vdcp_port::Catalogue;
 use vdcp_wire::Wire;
 
-/// An automation that hears at once and a server, joined by two streams of bytes that keep order, are a late channel: in
-/// whatever pieces and however late the bytes come, with time-outs at any moment, after questions to the port whose
-/// bytes and answers may still be on their way, and over one connection after another, if the automation was killed
-/// and went on from its journal, also with the PLAY that this announces, or the server was started anew. It is a run that
-/// has the journal's notes.
+/// An automation and a server that hear at once, joined by two streams of bytes that keep order, are a late channel: in
+/// whatever pieces and however late the bytes come, with time-outs, silences and frames at any moment, also within a
+/// command, after questions to the port whose bytes and answers may still be on their way, and over one connection
+/// after another, if the automation was killed and went on from its journal, also with the PLAY that this announces,
+/// or the server was started anew. It is a run that has the journal's notes.
 pub fn two_ends_are_a_late_channel()
     ensures ends { (plan : Plan) (port : ClockedPort) (asked : List Command) (e : Ends) → CanJoin plan port asked →
         AreJoined plan port asked e → IsLateChannel plan port e }
@@ -74,44 +71,89 @@ pub fn two_ends_keep_the_headline()
     vdcp_world::laws::a_late_line_keeps_the_headline();
 }
 
-/// So the headline holds of a driver and a server, however their runs end and whatever calls were made in them, whose
-/// wires' acts are carried so that to each comes, in order, a beginning of the bytes that the other one sent by then: of
-/// new ones, of a driver that runs again (its runs are one), and of one that goes on from its journal over a new
-/// connection.
-pub fn a_carried_run_keeps_the_headline<C: Catalogue, B: Wire, P: WatchPort<C>>()
-    ensures headline { (can : Bool) (plan : Plan) (port : ClockedPort) (asked : List Command) (e : Ends) (count turns : ℕ)
-        (a' : Auto Held) (answer : Result Ran KeptFault) (server server' : Serving B) (watch watch' : P)
-        (result : Result Ran DriveFault) → CanJoin plan port asked → AreJoined plan port asked e → IsOpen e.downs →
-        (run : IsRun can at_once plan port.state.unit count (driver_of e.automation) a' answer) →
-        (serving : HasServed B.does (λ looks. Chain (λ look. tells_airing P.watched look.aired) looks watch watch') turns
-        (stands_at e.port e.downs) server server' result) →
-        AreCarried plan port.state.unit e (acts_in (steps_in run))
-        (acts_of (stands_at e.port e.downs) serving.came ++ serving.done) →
+/// So the headline holds of a driver and a server that hear at once, however their runs end and whatever calls were made in
+/// them, with frames and silences at any moment, whose wires' acts are carried so that to each comes, in order, a beginning
+/// of the bytes that the other one sent by then: of new ones, of those that run or serve again (their runs are one), and of
+/// a driver that goes on from its journal over a new connection.
+pub fn a_carried_run_keeps_the_headline<C: Catalogue, B: Wire, H: ServerHooks<C>>()
+    ensures headline { (can : Bool) (plan : Plan) (port : ClockedPort) (asked : List Command) (e : Ends) (listens count : ℕ)
+        (a' : Auto Held) (answer : Result Ran KeptFault) (server server' : Serving B) (hooks hooks' : H)
+        (result : Result TurnsEnd DriveFault) → CanJoin plan port asked → AreJoined plan port asked e →
+        (run : IsRun can at_once plan port.state.unit listens (driver_of e.automation) a' answer) →
+        (serving : HasServed B.does H.can_act (λ steps. Chain H.does steps hooks hooks') count (server_now e) server server'
+        result) →
+        AreCarried plan port.state.unit e (acts_in (steps_in run)) (acts_of (server_now e) serving.turns ++ serving.done) →
         EndsHeadline plan port.clips a'.state
         (log_now e ++ auto.log_of at_once plan port.state.unit (driver_of e.automation) run.events)
-        (e.aired_before ++ items_served e.port
-        (e.downs ++ came_in (acts_of (stands_at e.port e.downs) serving.came ++ serving.done))) }
+        (aired_now (record e { downs = e.downs ++ all_turns serving.turns serving.done })) }
     // such runs lead both ends on, with the next command given: to what a new connection may follow
-    ensures joined { (can : Bool) (plan : Plan) (port : ClockedPort) (asked : List Command) (e : Ends) (count turns : ℕ)
-        (a' : Auto Held) (answer : Result Ran KeptFault) (server server' : Serving B) (watch watch' : P)
-        (result : Result Ran DriveFault) → AreJoined plan port asked e → IsOpen e.downs →
-        (run : IsRun can at_once plan port.state.unit count (driver_of e.automation) a' answer) →
-        (serving : HasServed B.does (λ looks. Chain (λ look. tells_airing P.watched look.aired) looks watch watch') turns
-        (stands_at e.port e.downs) server server' result) →
-        AreCarried plan port.state.unit e (acts_in (steps_in run))
-        (acts_of (stands_at e.port e.downs) serving.came ++ serving.done) →
+    ensures joined { (can : Bool) (plan : Plan) (port : ClockedPort) (asked : List Command) (e : Ends) (listens count : ℕ)
+        (a' : Auto Held) (answer : Result Ran KeptFault) (server server' : Serving B) (hooks hooks' : H)
+        (result : Result TurnsEnd DriveFault) → AreJoined plan port asked e →
+        (run : IsRun can at_once plan port.state.unit listens (driver_of e.automation) a' answer) →
+        (serving : HasServed B.does H.can_act (λ steps. Chain H.does steps hooks hooks') count (server_now e) server server'
+        result) →
+        AreCarried plan port.state.unit e (acts_in (steps_in run)) (acts_of (server_now e) serving.turns ++ serving.done) →
         AreJoined plan port asked (ends_at plan port.state.unit e run.events
-        (e.downs ++ came_in (acts_of (stands_at e.port e.downs) serving.came ++ serving.done))) }
+        (e.downs ++ all_turns serving.turns serving.done)) }
 {
     two_ends_are_a_late_channel();
     vdcp_world::laws::a_late_line_keeps_the_headline();
-    vdcp_drive::laws::what_goes_out_is_served();
+    vdcp_drive::laws::servers_go_on();
+    vdcp_drive::laws::what_goes_out_is_answered();
 }
 
-/// A line that hands on whole messages alone tears none: whatever came by it, a frame may pass.
-pub fn whole_messages_are_never_torn()
-    ensures { (came : List Arrival) → All ComesWhole came → AreMessages (open_burst came) }
-{}
+/// A server that hears at silences, none of which tears a command, does what one does that hears at once and at which a frame
+/// passes after each silence: if each burst is read without a fault, and each silence comes after whole commands.
+pub fn untorn_turns_are_at_once()
+    ensures acts { (port : ClockedPort) (turns : List Turn) → AreUntorn [] turns →
+        acts_of (begins Hearing.AtOnce port) (at_once_for turns) ≡ acts_of (begins Hearing.AtSilences port) turns }
+    ensures items { (port : ClockedPort) (turns : List Turn) → AreUntorn [] turns →
+        items_in (hook_steps (begins Hearing.AtOnce port) (at_once_for turns))
+        ≡ items_in (hook_steps (begins Hearing.AtSilences port) turns) }
+    ensures port { (port : ClockedPort) (turns : List Turn) → AreUntorn [] turns →
+        (left_by (begins Hearing.AtOnce port) (at_once_for turns)).port ≡ (server_at_silences port turns).port }
+{
+    what_is_below();
+    vdcp_frame::laws::written_is_read();
+    vdcp_drive::laws::servers_go_on();
+}
+
+/// So the headline holds of a server that hears at silences, too, if none tears a command: beside ends whose server would
+/// have heard the same turns at once.
+pub fn an_untorn_run_keeps_the_headline<C: Catalogue, B: Wire, H: ServerHooks<C>>()
+    ensures headline { (can : Bool) (plan : Plan) (port : ClockedPort) (asked : List Command) (e : Ends) (listens count : ℕ)
+        (a' : Auto Held) (answer : Result Ran KeptFault) (before : List Turn) (server server' : Serving B) (hooks hooks' : H)
+        (result : Result TurnsEnd DriveFault) → CanJoin plan port asked → AreJoined plan port asked e →
+        e.downs ≡ at_once_for before →
+        (run : IsRun can at_once plan port.state.unit listens (driver_of e.automation) a' answer) →
+        (serving : HasServed B.does H.can_act (λ steps. Chain H.does steps hooks hooks') count
+        (server_at_silences e.port before) server server' result) →
+        AreUntorn [] (before ++ all_turns serving.turns serving.done) →
+        AreCarried plan port.state.unit e (acts_in (steps_in run))
+        (acts_of (server_at_silences e.port before) serving.turns ++ serving.done) →
+        EndsHeadline plan port.clips a'.state
+        (log_now e ++ auto.log_of at_once plan port.state.unit (driver_of e.automation) run.events)
+        (e.aired_before ++ items_in (hook_steps (begins Hearing.AtSilences e.port)
+        (before ++ all_turns serving.turns serving.done))) }
+    ensures joined { (can : Bool) (plan : Plan) (port : ClockedPort) (asked : List Command) (e : Ends) (listens count : ℕ)
+        (a' : Auto Held) (answer : Result Ran KeptFault) (before : List Turn) (server server' : Serving B) (hooks hooks' : H)
+        (result : Result TurnsEnd DriveFault) → AreJoined plan port asked e → e.downs ≡ at_once_for before →
+        (run : IsRun can at_once plan port.state.unit listens (driver_of e.automation) a' answer) →
+        (serving : HasServed B.does H.can_act (λ steps. Chain H.does steps hooks hooks') count
+        (server_at_silences e.port before) server server' result) →
+        AreUntorn [] (before ++ all_turns serving.turns serving.done) →
+        AreCarried plan port.state.unit e (acts_in (steps_in run))
+        (acts_of (server_at_silences e.port before) serving.turns ++ serving.done) →
+        AreJoined plan port asked (ends_at plan port.state.unit e run.events
+        (at_once_for (before ++ all_turns serving.turns serving.done))) }
+{
+    two_ends_are_a_late_channel();
+    vdcp_world::laws::a_late_line_keeps_the_headline();
+    untorn_turns_are_at_once();
+    vdcp_drive::laws::servers_go_on();
+    vdcp_drive::laws::what_goes_out_is_answered();
+}
 
 /// Once the automation has ended so that all that went to air is reported, nothing more airs, whatever is still on its way.
 pub fn nothing_airs_after_a_complete_end()
@@ -190,7 +232,7 @@ pub fn a_journal_makes_the_automation()
         (connected_anew plan port (with_command plan (heard_again plan h e))).notes
         ≡ e.notes ++ played_notes (given plan e.automation.state) h }
     // and what a driver's run keeps, with its next command given, are the notes that it adds to the journal
-    ensures kept { (plan : Plan) (unit : ℕ) (e : Ends) (events : List Event) (downs : List Arrival) →
+    ensures kept { (plan : Plan) (unit : ℕ) (e : Ends) (events : List Event) (downs : List Turn) →
         (ends_at plan unit e events downs).notes ≡ (e.notes ++ map note_for
         (kept_in (steps_of at_once plan unit (driver_of e.automation) events)))
         ++ notes_given plan (after at_once plan unit (driver_of e.automation) events).state }
@@ -203,7 +245,7 @@ pub fn a_journal_makes_the_automation()
 fn what_is_below()
     ensures spelt { Spelt }
     ensures completed { Completed }
-    ensures arrived { Arrived }
+    ensures happens { Happened }
     ensures answered { Answered }
     ensures written { Written }
 {
@@ -220,5 +262,5 @@ fn what_is_below()
     vdcp_port::laws::answers_are_read_back();
     vdcp_auto::laws::commands_can_be_written();
     vdcp_drive::laws::what_is_spelt_is_completed();
-    vdcp_drive::laws::bursts_grow();
+    vdcp_drive::laws::one_event_more();
 }

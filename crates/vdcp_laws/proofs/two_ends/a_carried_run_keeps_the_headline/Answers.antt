@@ -1,24 +1,36 @@
-use Rattle.std.proofs.Common.{◌++◌}
-use Rattle.vdcp_drive.specs.Served.{stands_at}
+use Rattle.std.proofs.Common.{List, ◌++◌}
+use Rattle.vdcp_wire.specs.Acts.{Act}
 use Rattle.vdcp_drive.specs.Serving.{acts_of}
+use Rattle.vdcp_drive.specs.Turns.{Turn}
+use Rattle.vdcp_laws.specs.Carried.{all_turns}
+use Rattle.vdcp_laws.specs.TwoEnds.{server_now}
 use Rattle.vdcp_laws.proofs.CarriedRun.{joined, of_carried}
 use Rattle.vdcp_laws.proofs.Headline.{Laws}
+use Rattle.vdcp_laws.proofs.Leading.{moment_of, sends_answers, turns_whole}
 use Rattle.vdcp_laws.proofs.two_ends.a_carried_run_keeps_the_headline.Goals as goal
 
 pub returns-clause-headline : goal.returns-clause-headline
-returns-clause-headline g c can plan port asked e count turns a' answer server server' watch watch' result start j o run s carried =
+returns-clause-headline g c can plan port asked e listens count a' answer server server' hooks hooks' result start j run s carried =
     let law : Laws = record {
       ends = c.two_ends_are_a_late_channel.ensures.ends;
       headline = c.a_late_line_keeps_the_headline.ensures;
     } in
-    of_carried law can plan port asked e count answer a' (acts_of (stands_at e.port e.downs) s.came ++ s.done) start j run
-    (c.what_goes_out_is_served.ensures.sent e.port e.downs s.came turns result s.done s.seen server'.port server'.reader o
-    s.octets s.closes_last s.ending)
-    carried
+    let below : List Act = acts_of (server_now e) s.turns ++ s.done in
+    let all : List Turn = all_turns s.turns s.done in
+    of_carried law can plan port asked e listens answer a' all below start j run
+    (turns_whole (server_now e) s.turns s.done)
+    (sends_answers c.servers_go_on.ensures.acts e all below
+    (λ some behind parts. moment_of c.servers_go_on.ensures.acts e all some
+    (c.what_goes_out_is_answered.ensures (server_now e) s.turns g.H.ServerHooks.can_act count server.hearing result s.done s.last server'.port
+    server'.reader s.ending some behind parts))) carried
 
 pub returns-clause-joined : goal.returns-clause-joined
-returns-clause-joined g c can plan port asked e count turns a' answer server server' watch watch' result j o run s carried =
-    joined can plan port asked e count answer a' (acts_of (stands_at e.port e.downs) s.came ++ s.done) j run
-    (c.what_goes_out_is_served.ensures.sent e.port e.downs s.came turns result s.done s.seen server'.port server'.reader o
-    s.octets s.closes_last s.ending)
-    carried
+returns-clause-joined g c can plan port asked e listens count a' answer server server' hooks hooks' result j run s carried =
+    let below : List Act = acts_of (server_now e) s.turns ++ s.done in
+    let all : List Turn = all_turns s.turns s.done in
+    joined can plan port asked e listens answer a' all below j run
+    (turns_whole (server_now e) s.turns s.done)
+    (sends_answers c.servers_go_on.ensures.acts e all below
+    (λ some behind parts. moment_of c.servers_go_on.ensures.acts e all some
+    (c.what_goes_out_is_answered.ensures (server_now e) s.turns g.H.ServerHooks.can_act count server.hearing result s.done s.last server'.port
+    server'.reader s.ending some behind parts))) carried

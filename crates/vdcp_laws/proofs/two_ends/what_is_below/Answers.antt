@@ -19,11 +19,7 @@ returns c =
         pieces = c.what_is_spelt_is_completed.ensures.pieces;
         pieces_held = c.what_is_spelt_is_completed.ensures.pieces_held;
       };
-      arrived = record {
-        bytes = c.bursts_grow.ensures.bytes;
-        silence = c.bursts_grow.ensures.silence;
-        close = c.bursts_grow.ensures.close;
-      };
+      happens = c.one_event_more.ensures;
       answered = record {
         sent = c.messages_after_messages.ensures.sent;
         aired = c.messages_after_messages.ensures.aired;
