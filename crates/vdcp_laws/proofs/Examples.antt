@@ -24,12 +24,12 @@ use Rattle.vdcp_auto.specs.State.{Ready, State}
 use Rattle.vdcp_auto.specs.Turn.{came_to, given, ticked}
 use Rattle.vdcp_auto.specs.declared.phase.Mode.TheVariants.{Confirming, Plain}
 use Rattle.vdcp_auto.specs.declared.phase.Phase.TheVariants as phase
-use Rattle.vdcp_wire.specs.Wires.{Arrival, bytes, close, silence}
+use Rattle.vdcp_wire.specs.Wires.{Arrival, bytes, silence}
 use Rattle.vdcp_drive.specs.Traces.{bytes_of}
 use Rattle.vdcp_laws.specs.Announced.{Announces, came_again}
 use Rattle.vdcp_laws.specs.Automation.{Prompt, commands_in, gives, new_prompt, led, prompted}
 use Rattle.vdcp_drive.specs.Reading.{holds}
-use Rattle.vdcp_drive.specs.Served.{items_served, served}
+use Rattle.vdcp_drive.specs.Served.{items_served, only, served}
 use Rattle.vdcp_drive.specs.Serving.{begins, items_in, hook_steps}
 use Rattle.vdcp_drive.specs.Turns.{Turn, frame, listen}
 use Rattle.vdcp_drive.specs.declared.hearing.Hearing.TheVariants.{AtOnce}
@@ -38,6 +38,7 @@ use Rattle.vdcp_drive.specs.declared.hooks.Call.TheVariants as call
 use Rattle.vdcp_laws.specs.OneConnection.{ends_at}
 use Rattle.vdcp_laws.specs.TwoEnds as ends
 use Rattle.vdcp_laws.specs.TwoEnds.{AreJoined, Ends, bytes_in, new_ends, port_now}
+use Rattle.vdcp_laws.specs.Untorn.{at_once_for}
 use Rattle.vdcp_laws.specs.Undisturbed as undisturbed
 use Rattle.vdcp_laws.specs.Undisturbed.{AreUndisturbed, exchanged}
 
@@ -226,18 +227,15 @@ torn_command_airs_twice : (length : Timecode) → frames_of length ≡ 1
     → items_served (port length) torn_downs ≡ whole clip ∷ whole clip ∷ []
 torn_command_airs_twice length one = ap (aired_then length) one
 
--- A command whose row isn't safe.
-
--- a server that hears at once, at which a frame passes after each silence
-
-abbrev turns_of : List Arrival → List Turn
-turns_of [] = []
-turns_of (bytes piece ∷ later) = listen (bytes piece) ∷ turns_of later
-turns_of (silence ∷ later) = listen silence ∷ frame ∷ turns_of later
-turns_of (close ∷ later) = listen close ∷ turns_of later
+-- At a server that hears at once, with a frame after each silence, nothing is torn, and it airs once.
 
 abbrev airs : ClockedPort → List Arrival → List Item
-airs p came = items_in (hook_steps (begins AtOnce p) (turns_of came))
+airs p came = items_in (hook_steps (begins AtOnce p) (at_once_for (only came)))
+
+untorn_command_airs_once : (length : Timecode) → airs (port length) torn_downs ≡ whole clip ∷ []
+untorn_command_airs_once length = refl
+
+-- A command whose row isn't safe.
 
 abbrev airs_then : Timecode → ℕ → List Item
 airs_then length n = whole clip ∷ airs (playing_for length n) then_downs

@@ -18,6 +18,7 @@ mod Leading
 mod Logging
 mod Noting
 mod Noted
+mod Numbered
 mod OneRun
 mod Queues
 mod Same

@@ -1,7 +1,7 @@
 //! The laws of both ends over two streams of bytes that keep order, one connection after another.
 //!
 //! The functions do nothing: their contracts are the laws, and a caller whose proof needs one calls it.
-ghost use Rattle.std.specs.Prelude.{ℕ, Bool, ◌≡◌, ◌≤◌, ◌++◌, [], false, List, length, IsTrue, Option, None, Some, Result, map};
+ghost use Rattle.std.specs.Prelude.{ℕ, Bool, ◌≡◌, ◌≤◌, ◌<◌, ◌+◌, ◌++◌, [], false, All, AllPairs, List, length, IsTrue, Option, None, Some, Result, map};
 ghost use Rattle.vdcp_value.specs.declared.part.Item.{Item};
 ghost use Rattle.vdcp_words.specs.declared.command.Command.{Command};
 ghost use Rattle.vdcp_port.specs.Clock.{ClockedPort};
@@ -36,7 +36,7 @@ ghost use Rattle.vdcp_laws.specs.Below.{Answered, Completed, Happened, Spelt, Wr
 ghost use Rattle.vdcp_laws.specs.Carried.{AreCarried, all_turns, driver_of};
 ghost use Rattle.vdcp_laws.specs.EndsHeadline.{EndsHeadline};
 ghost use Rattle.vdcp_laws.specs.OneConnection.{ends_at};
-ghost use Rattle.vdcp_laws.specs.SeveralRuns.{AsksAtMost, HaveAired};
+ghost use Rattle.vdcp_laws.specs.SeveralRuns.{AiredEvent, AsksAtMost, HaveAired, IsEvent, aired_from};
 ghost use Rattle.vdcp_laws.specs.TwoEnds.{AreJoined, AreLed, CanJoin, Ends, IsLateChannel, IsSince, aired_now, connected_anew, heard_again, log_now, new_ends, note_for, notes_given, port_now, server_now, with_command, with_kept};
 ghost use Rattle.vdcp_laws.specs.Untorn.{AreUntorn, at_once_for, server_at_silences};
 ghost use Rattle.vdcp_laws.specs.Undisturbed.{AreUndisturbed, CanPlay, IsDone, most_exchanges};
@@ -166,16 +166,24 @@ pub fn nothing_airs_after_a_complete_end()
     vdcp_world::laws::a_late_line_keeps_the_headline();
 }
 
-/// What aired over several runs of a list, each of which begins with the number of all that aired before, is a beginning
-/// of that list.
-pub fn several_runs_air_a_beginning()
-    ensures list { (list aired : List Item) → HaveAired list aired → (more : List Item) × (list ≡ aired ++ more) }
-    // that number is what a run's journal settles, if it shows that no event more may have aired, also as a kill left
-    // it
+/// What aired in several runs of a list, each begun behind all that aired before it, are events of that list, each once at
+/// most and in order. If none was left out, they are a beginning of it.
+pub fn several_runs_air_each_event_once()
+    ensures once { (list : List Item) (aired : List AiredEvent) → HaveAired list aired →
+        AllPairs (λ (a b : AiredEvent). a.number < b.number) aired }
+    ensures events { (list : List Item) (aired : List AiredEvent) → HaveAired list aired → All (IsEvent list) aired }
+    ensures list { (list items : List Item) → HaveAired list (aired_from 0 items) → (more : List Item) × (list ≡ items ++ more) }
+    // how many aired in a run is what its journal settles, if it shows that no event more may have aired, also as a kill
+    // left it
     ensures next { (plan : Plan) (port : ClockedPort) (asked : List Command) (kept now : Ends) (all rows asks : List Row) →
         CanJoin plan port asked → AreJoined plan port asked kept → IsSince plan port.state.unit kept now →
         notes_in all ≡ kept.notes → AreThinned all (rows ++ asks) → AsksAtMost asks →
         may_have_aired plan.mode (log_of rows) ≡ false → length (aired_now now) ≡ settled_in plan.mode rows }
+    // and in any case it is one more at most
+    ensures most { (plan : Plan) (port : ClockedPort) (asked : List Command) (kept now : Ends) (all rows asks : List Row) →
+        CanJoin plan port asked → AreJoined plan port asked kept → IsSince plan port.state.unit kept now →
+        notes_in all ≡ kept.notes → AreThinned all (rows ++ asks) → AsksAtMost asks →
+        length (aired_now now) ≤ settled_in plan.mode rows + 1 }
 {
     two_ends_are_a_late_channel();
     vdcp_world::laws::a_late_line_keeps_the_headline();
