@@ -1,4 +1,4 @@
-//! The log, and the wire and the watcher that write to it.
+//! The log, the wire that writes to it, and what tells it of a port.
 ghost use Rattle.std.specs.Prelude.{◌≡◌};
 
 use crate::hearing::Hearing;
@@ -7,9 +7,7 @@ use crate::row::Row;
 use std::cell::Cell;
 use std::io::Write;
 use std::{fmt, io};
-use vdcp_drive::WatchPort;
 use vdcp_frame::{End, Ended, Got, Message, Reader};
-use vdcp_port::{Catalogue, Port};
 use vdcp_text::{EndText, ItemText, MeaningText, MessageText};
 use vdcp_value::{Item, Rate};
 use vdcp_wire::{Came, PIECE, Wire, WireFault};
@@ -37,7 +35,7 @@ pub enum Side {
 /// its writer, as `Lines` writes it, until that fails: from then on nothing goes there, and nothing else comes of the
 /// failure, since the channel goes on without its log.
 ///
-/// The writers are in cells, since a wire and what watches over the other end of it share one log.
+/// The writers are in cells, since a wire and what tells of its end share one log.
 #[derive(Drop)]
 pub struct Log<L: io::Write> {
     // None if nothing goes there, or no more.
@@ -231,7 +229,7 @@ pub struct AirLog<'a, L: io::Write> {
 }
 
 impl<'a, L: io::Write + Drop> AirLog<'a, L> {
-    /// A watcher of a server that has put nothing to air yet.
+    /// Of a port that has put nothing to air yet.
     pub fn new(log: &'a Log<L>, rate: Rate) -> Self {
         AirLog {
             log,
@@ -239,13 +237,9 @@ impl<'a, L: io::Write + Drop> AirLog<'a, L> {
             aired: 0,
         }
     }
-}
 
-impl<C: Catalogue, L: io::Write + Drop> WatchPort<C> for AirLog<'_, L> {
-    fn look(&mut self, _port: &Port<C>, aired: Option<Item>) {
-        let Some(item) = aired else {
-            return;
-        };
+    /// This goes to air.
+    pub fn tell(&mut self, item: Item) {
         let number = self.aired;
         let item = ItemText {
             rate: self.rate,

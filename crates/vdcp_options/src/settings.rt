@@ -12,7 +12,7 @@ use vdcp_line::rate::rate_of;
 use vdcp_lossy::{Chances, LossySettings};
 use vdcp_offline::{JudgeSettings, SimSettings};
 use vdcp_probe::{AskSettings, Only, ProbeSettings};
-use vdcp_serve::{Pace, ServeSettings};
+use vdcp_serve::ServeSettings;
 
 /// The mode that `--confirm` asks for, or plain.
 pub fn mode_of(matches: &ArgMatches) -> Mode {
@@ -50,19 +50,13 @@ pub fn serve_settings_of(matches: &ArgMatches) -> ServeSettings
     ensures some_silence { 1 ≤ result.silence }
     ensures short_silence { result.silence ≤ 60000 }
 {
-    let rate = rate_of(matches);
-    let pace = if matches.get_flag("real-time") {
-        Pace::Clock(rate)
-    } else {
-        Pace::Silences
-    };
     let stay = matches.get_flag("stay");
     ServeSettings {
         unit: unit_of(matches),
         port: port_of(matches),
         cue_frames: cue_frames_of(matches),
-        rate,
-        pace,
+        rate: rate_of(matches),
+        by_clock: matches.get_flag("real-time"),
         silence: number_of(matches, &SERVE_SILENCE),
         turns: turns_of(matches),
         stay,

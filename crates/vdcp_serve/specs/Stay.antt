@@ -1,19 +1,18 @@
 -- A port that is kept from one connection to the next.
-use Rattle.std.specs.Prelude.{ℕ, suc, ◌≡◌, ◌-◌, Bool, ⊤, [], Option, Some, Result, Ok, Err}
+use Rattle.std.specs.Prelude.{ℕ, suc, ◌≡◌, ◌-◌, true, ⊤, [], Result, Ok, Err, if◌then◌else◌}
 use Rattle.vdcp_frame.specs.Progress.{reading}
 use Rattle.vdcp_port.specs.Clock.{ClockedPort, after_frame}
 use Rattle.vdcp_drive.specs.ServeLeaves.{ServeLeaves}
-use Rattle.vdcp_drive.specs.Serving.{Serving}
+use Rattle.vdcp_drive.specs.Serving.{HookStep, Serving}
+use Rattle.vdcp_drive.specs.Steps.{Chain}
+use Rattle.vdcp_drive.specs.declared.hearing.Hearing.{Hearing}
+use Rattle.vdcp_drive.specs.declared.hearing.Hearing.TheVariants.{AtOnce, AtSilences}
 use Rattle.vdcp_drive.specs.declared.line.DriveFault.{DriveFault}
-use Rattle.vdcp_drive.specs.declared.line.Ran.{Ran}
-use Rattle.vdcp_drive.specs.declared.line.Ran.TheVariants as ran
+use Rattle.vdcp_drive.specs.declared.line.TurnsEnd.{TurnsEnd}
 use Rattle.vdcp_wire.specs.Acts.{Act}
-use Rattle.vdcp_serve.specs.Idle.{IdlingDoes, has_given_up, idling_failures}
-use Rattle.vdcp_serve.specs.Serve.{end_of}
-use Rattle.vdcp_serve.specs.declared.idling.Idling.{Idling}
-use Rattle.vdcp_serve.specs.declared.idling.Patience.TheVariants as patience
-use Rattle.vdcp_serve.specs.declared.serve.ServeEnd.{ServeEnd}
-use Rattle.vdcp_serve.specs.declared.serve.ServeEnd.TheVariants as how
+use Rattle.vdcp_serve.specs.Timing.{IsBegun, TimingDoes, begun_anew}
+use Rattle.vdcp_serve.specs.declared.hooks.Hooks.{Hooks}
+use Rattle.vdcp_serve.specs.declared.serve.ServeSettings.{ServeSettings}
 use Rattle.vdcp_serve.specs.declared.stay.Coming.{Coming}
 use Rattle.vdcp_serve.specs.declared.stay.Coming.TheVariants as comings
 
@@ -27,47 +26,46 @@ abbrev pub coming_of : {W E : Type 0} → Result W E → Coming W
 coming_of (Ok line) = comings.Line line
 coming_of (Err error) = comings.Failed
 
--- a server over a line that was just taken: its port is the one that was kept, no burst has begun, and the line is given
--- up after `most` silences one after another, of which these came before
-pub record IsTakenWith {W : Type 0} (failures : W → ℕ) (most : Option ℕ) (silences : ℕ) (port : ClockedPort) (s : Serving (Idling W)) :
-    Type 0 where
+abbrev pub hearing_of : ServeSettings → Hearing
+hearing_of s = if s.by_clock then AtOnce else AtSilences
+
+-- a server over a line that was just taken: its port is the one that was kept, and nothing has come
+pub record IsNew {W : Type 0} (settings : ServeSettings) (port : ClockedPort) (line : W) (s : Serving W) : Type 0 where
   pub port_is : s.port ≡ port
+  pub wire_is : s.wire ≡ line
+  pub hearing_is : s.hearing ≡ hearing_of settings
   pub at_start : s.reader ≡ reading 0 []
-  pub works : failures s.wire.wire ≡ 0
-  pub most_is : s.wire.most ≡ most
-  pub waits : s.wire.patience ≡ patience.Waits silences
-  pub listens : s.wire.listens ≡ 0
 
--- the turns that are left of these, if the server answered so and listened this often
-abbrev pub left_after : Result Ran DriveFault → ℕ → ℕ → ℕ
-left_after (Ok ran.Ended) left made = left - made
-left_after (Ok ran.Closed) left made = left - made
-left_after (Ok ran.Spent) left made = 0
-left_after (Err fault) left made = left - made
+abbrev pub HooksDo : {R L : Type 0} → HookStep → Hooks R L → Hooks R L → Type 0
+HooksDo step old new = TimingDoes step old.timing new.timing
 
--- how a line ended, by what the server answered and whether it was given up
-abbrev pub ended_by : Result Ran DriveFault → Bool → Result ServeEnd DriveFault
-ended_by (Ok ran) given_up = Ok (end_of ran given_up)
-ended_by (Err fault) given_up = Err fault
+-- a port was served over a line for at most these turns
+pub record IsServed {W R L : Type 0} (does : Act → W → W → Type 0) (failures : W → ℕ) (settings : ServeSettings)
+    (turns : ℕ) (port : ClockedPort) (line : W) (before : Hooks R L) (port' : ClockedPort)
+    (answer : Result TurnsEnd DriveFault) (after : Hooks R L) : Type 0 where
+  pub begun : Hooks R L
+  pub ended : Hooks R L
+  pub old : Serving W
+  pub new : Serving W
+  pub begins : IsBegun settings before.timing begun.timing
+  pub is_new : IsNew settings port line old
+  pub leaves : ServeLeaves does true (λ steps. Chain HooksDo steps begun ended) failures turns old new answer
+  pub port_is : port' ≡ new.port
+  pub timing_is : after.timing ≡ ended.timing
 
--- for how many silences a line that waited was silent already, by how the line before it ended: if that was idle too long,
--- for all but one
-abbrev pub silences_after : Result ServeEnd DriveFault → Option ℕ → ℕ
-silences_after (Ok how.Idle) (Some most) = most - 1
-silences_after end most = 0
-
--- what becomes of a port in these turns: a port, how many turns are left, and for how many silences the next line was
--- silent already. Each wait for a connection is a turn, in which a frame passes if nobody comes. Over each line that is
--- taken a server goes on with the port as it is
-pub data IsKept {W : Type 0} (does : Act → W → W → Type 0) (failures : W → ℕ) (most : Option ℕ) (port : ClockedPort)
-    (turns : ℕ) : ClockedPort → ℕ → ℕ → Type 0 where
-  at_first : IsKept does failures most port turns port turns 0
-  nobody_came : {now : ClockedPort} {left silences : ℕ} → IsKept does failures most port turns now (suc left) silences
-      → IsKept does failures most port turns (after_frame now) left 0
-  no_line_came : {now : ClockedPort} {left silences : ℕ} → IsKept does failures most port turns now (suc left) silences
-      → IsKept does failures most port turns now left 0
-  served : {now : ClockedPort} {left silences : ℕ} → IsKept does failures most port turns now (suc left) silences
-      → (old new : Serving (Idling W)) → (answer : Result Ran DriveFault) → IsTakenWith failures most silences now old
-      → ServeLeaves (IdlingDoes does) (λ _. ⊤) (idling_failures failures) left old new answer
-      → IsKept does failures most port turns new.port (left_after answer left new.wire.listens)
-      (silences_after (ended_by answer (has_given_up new.wire.patience)) most)
+-- what becomes of a port in the turns of the settings: the port then, how many turns are left, and the timing. Each wait
+-- for a connection is a turn, in which a frame passes if nobody comes; each line that is taken is served with the port as
+-- it is
+pub data IsKept {W R L : Type 0} (does : Act → W → W → Type 0) (failures : W → ℕ) (settings : ServeSettings)
+    (port : ClockedPort) (first : Hooks R L) : ClockedPort → ℕ → Hooks R L → Type 0 where
+  at_first : IsKept does failures settings port first port settings.turns first
+  nobody_came : {now : ClockedPort} {left : ℕ} {h h' : Hooks R L}
+      → IsKept does failures settings port first now (suc left) h → h'.timing ≡ begun_anew h.timing
+      → IsKept does failures settings port first (after_frame now) left h'
+  no_line_came : {now : ClockedPort} {left : ℕ} {h h' : Hooks R L}
+      → IsKept does failures settings port first now (suc left) h → h'.timing ≡ begun_anew h.timing
+      → IsKept does failures settings port first now left h'
+  served : {now now' : ClockedPort} {left : ℕ} {h h' : Hooks R L}
+      → IsKept does failures settings port first now (suc left) h → (line : W) → failures line ≡ 0
+      → (answer : Result TurnsEnd DriveFault) → IsServed does failures settings left now line h now' answer h'
+      → IsKept does failures settings port first now' (left - h'.timing.turns) h'

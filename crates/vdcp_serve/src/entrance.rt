@@ -1,10 +1,12 @@
 //! How one connection after another is taken, and made a line.
-ghost use Rattle.std.specs.Prelude.{◌≡◌, ◌*◌, IfErr, IfOk, IsTrue};
+ghost use Rattle.std.specs.Duration.{as_nanos};
+ghost use Rattle.std.specs.Int.{div_ceil};
+ghost use Rattle.std.specs.Prelude.{◌≡◌, ◌*◌, ◌-◌, false, true, IfErr, IfOk, IsTrue};
 ghost use Rattle.vdcp_serve.specs.Stay.{IfLine};
+ghost use Rattle.vdcp_value.specs.Clock.{frames_after};
 ghost use Rattle.vdcp_wire.specs.Streams.{failures_of};
 
-use crate::paced::Paced;
-use crate::serve::{ServeEnd, ServeSettings};
+use crate::serve::{ServeSettings, word_of};
 use crate::stay::{Coming, Connections, coming_of};
 use mio::unix::SourceFd;
 use mio::{Events, Interest, Poll, Token};
@@ -13,16 +15,21 @@ use std::io;
 use std::net::{Net, OpenListener, SocketAddr};
 use std::os::fd::AsRawFd;
 use std::rt::Clock;
-use std::time::{Duration, Instant};
-use vdcp_drive::DriveFault;
+use std::time::Duration;
+use vdcp_drive::{DriveFault, TurnsEnd};
 use vdcp_log::{Hearing, Log, Logged};
 use vdcp_text::Failure;
 use vdcp_wire::{Duplex, StreamWire, Waits, WireFault};
 
+/// For how long a listen waits if frames pass by the clock, in milliseconds.
+const TICK: u32 = 5;
+
+/// For how many seconds a send waits if the other end takes nothing, unless a line may be idle for another time.
+const SENDING: u32 = 10;
+
 /// Listens at an address and takes one connection after another. The system has those wait that come meanwhile.
 #[derive(Drop)]
-pub struct Entrance<'a, R: Net + Clock, L: io::Write> {
-    rt: &'a R,
+pub struct Entrance<'a, R: Net, L: io::Write> {
     listener: R::Listener,
     poll: Poll,
     events: Events<Global>,
@@ -34,11 +41,11 @@ pub struct Entrance<'a, R: Net + Clock, L: io::Write> {
     is_refused: bool,
 }
 
-impl<'a, R: Net + AllocGlobal + Clock, L: io::Write + Drop> Entrance<'a, R, L> {
+impl<'a, R: Net + AllocGlobal, L: io::Write + Drop> Entrance<'a, R, L> {
     /// With this listener. A wait for a connection is no longer than a silence of one, or by the clock than a frame; the
     /// log is told of each connection, of its messages and of its end.
     pub fn new(
-        rt: &'a R,
+        rt: &R,
         listener: R::Listener,
         settings: ServeSettings,
         log: &'a Log<L>,
@@ -50,7 +57,6 @@ impl<'a, R: Net + AllocGlobal + Clock, L: io::Write + Drop> Entrance<'a, R, L> {
         poll.registry()
             .register(&mut SourceFd(&descriptor), Token(0), Interest::READABLE)?;
         Ok(Entrance {
-            rt,
             listener,
             poll,
             events,
@@ -66,7 +72,7 @@ impl<'a, R: Net + AllocGlobal + Clock, L: io::Write + Drop> Entrance<'a, R, L> {
         ensures { IfErr result (λ _. IsTrue self.new.is_refused) }
     {
         // (what came is told once, so that one that can't be taken doesn't cut the wait short again)
-        let pause = self.settings.pace.pause(self.settings.silence);
+        let pause = pause_of(self.settings);
         self.is_refused = self.poll.poll(&mut self.events, Some(pause)).is_err();
         if self.is_refused {
             return Err(WireFault);
@@ -86,33 +92,25 @@ impl<'a, R: Net + AllocGlobal + Clock, L: io::Write + Drop> Entrance<'a, R, L> {
     }
 
     // What comes of a connection, or of none.
-    fn coming(
-        &self,
-        stream: Option<R::Stream>,
-    ) -> Coming<Logged<'a, Paced<'a, R, StreamWire<R::Stream>>, L>>
-        ensures works { IfLine result (λ line. failures_of line.wire.wire.connection ≡ 0) }
+    fn coming(&self, stream: Option<R::Stream>) -> Coming<Logged<'a, StreamWire<R::Stream>, L>>
+        ensures works { IfLine result (λ line. failures_of line.wire.connection ≡ 0) }
     {
         let Some(stream) = stream else {
             return Coming::Nobody;
         };
-        match coming_of(line_over(self.rt, stream, self.settings)) {
-            Coming::Line(line) => {
-                self.log.tell(&"taken");
-                Coming::Line(Logged::new(line, self.log, Hearing::AtSilences))
-            }
-            Coming::Nobody => Coming::Nobody,
-            Coming::Failed => Coming::Failed,
+        let line = line_over(stream, self.settings, self.log);
+        if line.is_ok() {
+            self.log.tell(&"taken");
         }
+        coming_of(line)
     }
 }
 
-impl<'a, R: Net + AllocGlobal + Clock, L: io::Write + Drop> Connections<
-    Logged<'a, Paced<'a, R, StreamWire<R::Stream>>, L>,
+impl<'a, R: Net + AllocGlobal, L: io::Write + Drop> Connections<
+    Logged<'a, StreamWire<R::Stream>, L>,
 > for Entrance<'a, R, L> {
-    fn wait(
-        &mut self,
-    ) -> Result<Coming<Logged<'a, Paced<'a, R, StreamWire<R::Stream>>, L>>, WireFault>
-        ensures works { IfOk result (λ coming. IfLine coming (λ line. failures_of line.wire.wire.connection ≡ 0)) }
+    fn wait(&mut self) -> Result<Coming<Logged<'a, StreamWire<R::Stream>, L>>, WireFault>
+        ensures works { IfOk result (λ coming. IfLine coming (λ line. failures_of line.wire.connection ≡ 0)) }
         // No connection fails a wait.
         ensures refused { IfErr result (λ _. IsTrue self.new.is_refused) }
     {
@@ -128,10 +126,10 @@ impl<'a, R: Net + AllocGlobal + Clock, L: io::Write + Drop> Connections<
         self.from
     }
 
-    fn tell_end(&mut self, end: Result<ServeEnd, DriveFault>) {
+    fn tell_end(&mut self, end: Result<TurnsEnd, DriveFault>) {
         match end {
-            Ok(ServeEnd::Spent) => {}
-            Ok(end) => self.log.tell(&end.word()),
+            Ok(TurnsEnd::Spent) => {}
+            Ok(end) => self.log.tell(&word_of(end)),
             Err(DriveFault::Device) => {
                 let failure = Failure::LineFailed;
                 self.log.tell_fault(&format_args!("vdcp: {failure}"));
@@ -140,28 +138,48 @@ impl<'a, R: Net + AllocGlobal + Clock, L: io::Write + Drop> Connections<
     }
 }
 
-/// The line over a connection. Err if that refuses to be one.
-pub fn line_over<R: Clock, S: Duplex + Drop>(
-    rt: &R,
+/// The line over a connection, which tells a log what passes. Err if the connection refuses to be one.
+pub fn line_over<S: Duplex + Drop, L: io::Write + Drop>(
     stream: S,
     settings: ServeSettings,
-) -> io::Result<Paced<'_, R, StreamWire<S>>>
+    log: &Log<L>,
+) -> io::Result<Logged<'_, StreamWire<S>, L>>
     ensures works { IfOk result (λ line. failures_of line.wire.connection ≡ 0) }
-    ensures pace { IfOk result (λ line. line.pace ≡ settings.pace) }
-    ensures silence { IfOk result (λ line. line.silence ≡ settings.silence * 1000000) }
 {
-    let wait = settings.pace.wait(settings.silence);
-    let wire = match settings.idle {
-        Some(seconds) => {
-            let waits = Waits {
-                read: wait,
-                reads: 1,
-                send: Duration::from_secs(u64::from(seconds)),
-            };
-            StreamWire::with_waits(stream, waits)
-        }
-        None => StreamWire::new(stream, wait),
-    }?;
-    let began = Instant::now(rt)?;
-    Ok(Paced::new(wire, settings.pace, rt, began, settings.silence))
+    let wire = StreamWire::with_waits(stream, waits_of(settings))?;
+    let hearing = if settings.by_clock {
+        Hearing::AtOnce(0)
+    } else {
+        Hearing::AtSilences
+    };
+    Ok(Logged::new(wire, log, hearing))
+}
+
+// How long a line waits. By the clock a listen is short, so that a frame passes in time; several are a silence.
+fn waits_of(settings: ServeSettings) -> Waits
+    ensures at_silences { settings.by_clock ≡ false → (as_nanos result.read ≡ settings.silence * 1000000) × (result.reads ≡ 1) }
+    ensures by_clock { settings.by_clock ≡ true → (as_nanos result.read ≡ TICK * 1000000)
+        × (result.reads ≡ div_ceil settings.silence TICK) }
+{
+    let send = Duration::from_secs(u64::from(settings.idle.unwrap_or(SENDING)));
+    let (read, reads) = if settings.by_clock {
+        (TICK, settings.silence.div_ceil(TICK))
+    } else {
+        (settings.silence, 1)
+    };
+    let read = Duration::from_millis(u64::from(read));
+    Waits { read, reads, send }
+}
+
+// How long a frame is that passes while there is no line: by the clock the least time after which one is over.
+fn pause_of(settings: ServeSettings) -> Duration
+    ensures at_silences { settings.by_clock ≡ false → as_nanos result ≡ settings.silence * 1000000 }
+    ensures by_clock { settings.by_clock ≡ true → (frames_after settings.rate (as_nanos result) ≡ 1)
+        × (frames_after settings.rate (as_nanos result - 1) ≡ 0) }
+{
+    if settings.by_clock {
+        Duration::from_nanos(settings.rate.frame_nanos())
+    } else {
+        Duration::from_millis(u64::from(settings.silence))
+    }
 }

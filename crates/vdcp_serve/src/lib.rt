@@ -3,18 +3,16 @@
 //! `do_serve` waits for one automation at an address, or for one after another, and serves it with a new port. Each
 //! fault has a line on standard error, and the exit status is given.
 //!
-//! Files, in reading order: `serve`, `stay`, `entrance`, `idling`, `paced`, `held`, `watcher`, `panel`, `page`.
+//! Files, in reading order: `serve`, `stay`, `entrance`, `hooks`, `timing`, `frame_clock`, `panel`, `page`.
 #![tactic(auto)]
 
 mod entrance;
-mod held;
-mod idling;
-mod paced;
+mod frame_clock;
+mod hooks;
 mod page;
 mod panel;
 mod serve;
 mod stay;
-mod watcher;
+mod timing;
 
-pub use paced::Pace;
 pub use serve::{ServeSettings, do_serve};

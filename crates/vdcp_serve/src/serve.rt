@@ -1,23 +1,18 @@
-//! The subcommand `serve`, its settings, and how it ends.
-ghost use Rattle.std.specs.Prelude.{◌≡◌, ◌≢◌, ◌≤◌, ⊤};
-ghost use Rattle.vdcp_drive.specs.ServeLeaves.{ServeLeaves};
-ghost use Rattle.vdcp_serve.specs.Idle.{IdlingDoes, idle_of, idling_failures};
-ghost use Rattle.vdcp_serve.specs.Serve.{end_of};
+//! The subcommand `serve` and its settings.
+ghost use Rattle.std.specs.Prelude.{◌≡◌, ◌≤◌};
 ghost use Rattle.vdcp_port.specs.Clock.{new_port};
 
 use crate::entrance::{Entrance, line_over};
-use crate::idling::{Hears, Idling};
-use crate::paced::Pace;
+use crate::hooks::Hooks;
 use crate::panel::PortPanel;
-use crate::stay::stay;
-use crate::watcher::Watcher;
+use crate::stay::{serve_over, stay};
 use std::alloc::AllocError;
 use std::io::{self, ErrorKind};
 use std::net::{Net, SocketAddrV4};
 use std::rt::Clock;
-use vdcp_drive::{DriveFault, Ran, Server, WatchPort};
+use vdcp_drive::{DriveFault, TurnsEnd};
 use vdcp_files::NamedFile;
-use vdcp_log::{AirLog, Hearing, Log, Logged, Side, Telling};
+use vdcp_log::{Log, Side, Telling};
 use vdcp_panel::Panel;
 use vdcp_port::{Catalogue, Port};
 use vdcp_text::Failure;
@@ -35,8 +30,9 @@ pub struct ServeSettings {
     pub cue_frames: u32,
     /// The frame rate of time codes.
     pub rate: Rate,
-    /// When frames pass.
-    pub pace: Pace,
+    /// Whether frames pass by the clock, and what comes is heard at once. Else it is heard at silences, and a frame
+    /// passes at each.
+    pub by_clock: bool,
     /// The silence that ends a burst, in milliseconds, 1 to 60,000.
     pub silence: u32,
     /// The most turns that are made, each a wait for bytes or for a silence, or for the next connection.
@@ -46,42 +42,6 @@ pub struct ServeSettings {
     /// For how many seconds nothing may come by a connection, nor go out if something is to, 1 to 86,400; None: as
     /// long as nobody closes it, but what is to go out fails after ten seconds.
     pub idle: Option<u32>,
-}
-
-/// How the turns of a server ended.
-#[derive(Clone, Copy, Debug, PartialEq, Eq)]
-pub enum ServeEnd {
-    /// The other end closed.
-    Closed,
-    /// Nothing came for too long.
-    Idle,
-    /// All turns were made.
-    Spent,
-}
-
-impl ServeEnd {
-    /// By what the server's turns answered, and whether it gave the line up.
-    pub(crate) fn of_turns(ran: Ran, has_given_up: bool) -> ServeEnd
-        requires { ran ≢ Ran.Ended }
-        ensures { result ≡ end_of ran has_given_up }
-    {
-        match ran {
-            Ran::Closed if has_given_up => ServeEnd::Idle,
-            Ran::Closed => ServeEnd::Closed,
-            Ran::Spent => ServeEnd::Spent,
-            // A server has no controller that ends.
-            Ran::Ended => unreachable!(),
-        }
-    }
-
-    /// Its word.
-    pub(crate) fn word(self) -> &'static str {
-        match self {
-            ServeEnd::Closed => "closed",
-            ServeEnd::Idle => "idle",
-            ServeEnd::Spent => "spent",
-        }
-    }
 }
 
 /// Serves a new port with the clips of a catalogue to the first automation that connects to `address`: an
@@ -167,24 +127,28 @@ fn new_port<C: Catalogue>(catalogue: C, settings: ServeSettings) -> Port<C>
     Port::with_clock(catalogue, settings.unit, settings.port, settings.cue_frames)
 }
 
-// How many silences one after another a connection may be idle. By the clock each is a frame.
-pub(crate) fn idle_silences(settings: ServeSettings) -> Option<u64>
-    ensures { result ≡ idle_of settings }
-{
-    let seconds = u64::from(settings.idle?);
-    match settings.pace {
-        Pace::Silences => Some((seconds * 1000).div_ceil(u64::from(settings.silence.max(1)))),
-        Pace::Clock(rate) => Some(seconds * u64::from(rate.frames_per_second())),
+/// The word of how a server's turns ended.
+pub(crate) fn word_of(end: TurnsEnd) -> &'static str {
+    match end {
+        TurnsEnd::Closed => "closed",
+        TurnsEnd::GivenUp => "idle",
+        TurnsEnd::Spent => "spent",
     }
 }
 
 // Listens, and serves the port to one connection, or to one after another.
-fn serve_port<R: Net + AllocGlobal + Clock, C: Catalogue + Drop, L: io::Write + Drop, W: io::Write>(
-    rt: &R,
+fn serve_port<
+    'a,
+    R: Net + AllocGlobal + Clock,
+    C: Catalogue + Drop,
+    L: io::Write + Drop,
+    W: io::Write,
+>(
+    rt: &'a R,
     address: SocketAddrV4,
     port: Port<C>,
     settings: ServeSettings,
-    log: &Log<L>,
+    log: &'a Log<L>,
     panel: Option<Panel>,
     out: &mut W,
 ) -> Result<(), Failure<'static>> {
@@ -197,16 +161,17 @@ fn serve_port<R: Net + AllocGlobal + Clock, C: Catalogue + Drop, L: io::Write + 
 
 // Takes a connection, and serves it.
 fn serve_first<
+    'a,
     R: Net + AllocGlobal + Clock,
     C: Catalogue + Drop,
     L: io::Write + Drop,
     W: io::Write,
 >(
-    rt: &R,
+    rt: &'a R,
     address: SocketAddrV4,
     port: Port<C>,
     settings: ServeSettings,
-    log: &Log<L>,
+    log: &'a Log<L>,
     out: &mut W,
 ) -> Result<(), Failure<'static>> {
     let stream = match accept_one(rt, address, out) {
@@ -214,29 +179,40 @@ fn serve_first<
         Err(AcceptFault::Bind) => return Err(Failure::Bind),
         Err(AcceptFault::Writer) => return Err(Failure::Writer),
     };
-    match line_over(rt, stream, settings) {
-        Ok(line) => serve_line(port, line, settings, log, out),
-        Err(_) => Err(Failure::LineFailed),
+    let Ok(line) = line_over(stream, settings, log) else {
+        return Err(Failure::LineFailed);
+    };
+    let mut hooks = Hooks::new(rt, log, settings.rate, None);
+    let turns = u64::from(settings.turns);
+    match serve_over(port, line, None, settings, turns, &mut hooks) {
+        (_, Ok(end)) => write_end(end, out).map_err(|_| Failure::Writer),
+        (_, Err(DriveFault::Device)) => Err(Failure::LineFailed),
     }
 }
 
 // Takes one connection after another, and serves them.
-fn serve_each<R: Net + AllocGlobal + Clock, C: Catalogue + Drop, L: io::Write + Drop, W: io::Write>(
-    rt: &R,
+fn serve_each<
+    'a,
+    R: Net + AllocGlobal + Clock,
+    C: Catalogue + Drop,
+    L: io::Write + Drop,
+    W: io::Write,
+>(
+    rt: &'a R,
     address: SocketAddrV4,
     port: Port<C>,
     settings: ServeSettings,
-    log: &Log<L>,
+    log: &'a Log<L>,
     panel: Option<Panel>,
     out: &mut W,
 ) -> Result<(), Failure<'static>> {
     let mut entrance = entrance_at(rt, address, settings, log, out)?;
     let panel = port_panel(rt, panel, settings.rate)?;
-    let mut watcher = Watcher::new(log, settings.rate, panel);
-    if stay(port, &mut entrance, settings, &mut watcher).is_err() {
+    let mut hooks = Hooks::new(rt, log, settings.rate, panel);
+    if stay(port, &mut entrance, settings, &mut hooks).is_err() {
         return Err(Failure::Bind);
     }
-    write_end(ServeEnd::Spent, out).map_err(|_| Failure::Writer)
+    write_end(TurnsEnd::Spent, out).map_err(|_| Failure::Writer)
 }
 
 // Listens at an address. What it gives takes the connections there.
@@ -271,46 +247,8 @@ fn port_panel<R: AllocGlobal + Clock>(
     }
 }
 
-// Serves a port over a line, and tells how that ended.
-fn serve_line<'f, C: Catalogue + Drop, S: Hears + Drop, L: io::Write + Drop, W: io::Write>(
-    port: Port<C>,
-    wire: S,
-    settings: ServeSettings,
-    log: &Log<L>,
-    out: &mut W,
-) -> Result<(), Failure<'f>>
-    requires { S.failures wire ≡ 0 }
-{
-    let wire = Idling::new(
-        Logged::new(wire, log, Hearing::AtSilences),
-        idle_silences(settings),
-        0,
-    );
-    let mut server = Server::new(port, wire);
-    match serve_turns(&mut server, settings, &mut AirLog::new(log, settings.rate)) {
-        Ok(ran) => {
-            let end = ServeEnd::of_turns(ran, server.wire().has_given_up());
-            write_end(end, out).map_err(|_| Failure::Writer)
-        }
-        Err(DriveFault::Device) => Err(Failure::LineFailed),
-    }
-}
-
-// Makes at most as many turns of a server as the settings say.
-fn serve_turns<C: Catalogue, S: Hears, V: WatchPort<C>>(
-    server: &mut Server<C, Idling<S>>,
-    settings: ServeSettings,
-    watcher: &mut V,
-) -> Result<Ran, DriveFault>
-    requires { server.old.wire.most ≡ idle_of settings }
-    ensures { ServeLeaves (IdlingDoes S.does) (λ _. ⊤) (idling_failures S.failures) settings.turns server.old server.new
-        result }
-{
-    server.serve(u64::from(settings.turns), watcher)
-}
-
 // Tells how the turns of a server ended.
-fn write_end<W: io::Write>(end: ServeEnd, out: &mut W) -> io::Result<()> {
-    writeln!(out, "{}", end.word())?;
+fn write_end<W: io::Write>(end: TurnsEnd, out: &mut W) -> io::Result<()> {
+    writeln!(out, "{}", word_of(end))?;
     out.flush()
 }

@@ -1,17 +1,13 @@
 //! A port that is kept from one connection to the next.
-ghost use Rattle.std.specs.Prelude.{ℕ, ◌≡◌, ◌*◌, Result, ⊤, IfOk};
-ghost use Rattle.vdcp_drive.specs.ServeLeaves.{ServeLeaves};
-ghost use Rattle.vdcp_serve.specs.Idle.{IdlingDoes, has_given_up, idle_of, idling_failures};
-ghost use Rattle.vdcp_serve.specs.Stay.{IsKept, coming_of, ended_by, left_after, silences_after};
-ghost use Rattle.vdcp_drive.specs.declared.line.DriveFault.{DriveFault};
+ghost use Rattle.std.specs.Prelude.{◌≡◌, IfOk};
+ghost use Rattle.vdcp_serve.specs.Stay.{IsKept, IsServed, coming_of, hearing_of};
 
-use crate::idling::{Hears, Idling};
-use crate::serve::{ServeEnd, ServeSettings, idle_silences};
-use crate::watcher::Watcher;
+use crate::hooks::Hooks;
+use crate::serve::ServeSettings;
 use std::io;
 use std::net::SocketAddr;
 use std::rt::Clock;
-use vdcp_drive::{DriveFault, Ran, Server, WatchPort};
+use vdcp_drive::{DriveFault, Hearing, Server, TurnsEnd};
 use vdcp_port::{Catalogue, Port};
 use vdcp_wire::{Wire, WireFault};
 
@@ -38,18 +34,18 @@ pub trait Connections<W: Wire> {
     /// The address at the other end of the last line, if it is known.
     fn from(&self) -> Option<SocketAddr>;
 
-    /// It is told how the last connection ended, or that it failed to be a line.
-    fn tell_end(&mut self, end: Result<ServeEnd, DriveFault>);
+    /// It is told how the last connection ended, or that it failed, also to be a line.
+    fn tell_end(&mut self, end: Result<TurnsEnd, DriveFault>);
 }
 
-/// Serves a port over one line after another, for the turns of the settings in all, each a wait for a line, for bytes or for
-/// a silence. While there is no line a frame passes at each silence. A line ends if the other end closes it, if it
-/// is given up after as many silences one after another as the settings say, and if it fails; the port stays as it is, and
-/// `connections` is told of each end. A line that waited while the one before it was idle for too long is given up at its
-/// first silence. Err if nobody can be waited for.
+/// Serves a port over one line after another, for the turns of the settings in all, each a wait for a line, a listen or a
+/// frame. While there is no line a frame passes at each wait. A line ends if the other end closes it, if it is
+/// given up since nothing comes for too long, and if it fails; the port stays as it is, and `connections` is told of each
+/// end. A line that waited while the one before it was idle for too long is given up after its first listen in vain.
+/// Err if nobody can be waited for.
 pub fn stay<
     C: Catalogue + Drop,
-    W: Hears + Drop,
+    W: Wire + Drop,
     D: Connections<W>,
     R: Clock + AllocGlobal,
     L: io::Write + Drop,
@@ -57,68 +53,67 @@ pub fn stay<
     port: Port<C>,
     connections: &mut D,
     settings: ServeSettings,
-    watcher: &mut Watcher<'_, R, L>,
+    hooks: &mut Hooks<'_, R, L>,
 ) -> Result<Port<C>, WireFault>
-    ensures { IfOk result (λ kept. (silences : ℕ) ×
-        IsKept W.does W.failures (idle_of settings) port settings.turns kept 0 silences) }
+    ensures { IfOk result (λ kept. IsKept W.does W.failures settings port hooks.old kept 0 hooks.new) }
 {
-    let most = idle_silences(settings);
     let mut port = port;
     let mut left = u64::from(settings.turns);
-    let mut silences = 0;
     'turns: while left > 0 {
         left -= 1;
         let end = match connections.wait()? {
             Coming::Nobody => {
-                silences = 0;
+                hooks.timing.miss_line();
                 port.frame();
-                watcher.look(&port, None);
+                hooks.show(&port, None);
                 continue;
             }
-            Coming::Failed => Err(DriveFault::Device),
+            Coming::Failed => {
+                hooks.timing.miss_line();
+                Err(DriveFault::Device)
+            }
             Coming::Line(line) => {
-                watcher.connected(connections.from());
-                let mut server = Server::new(port, Idling::new(line, most, silences));
-                let (rest, end) = serve_one(&mut server, left, watcher);
-                left = rest;
-                (port, _) = server.into_parts();
-                watcher.connected(None);
+                let from = connections.from();
+                let (rest, end) = serve_over(port, line, from, settings, left, hooks);
+                port = rest;
+                left = left.saturating_sub(hooks.timing.turns());
                 end
             }
         };
-        silences = silences_after(end, most);
         connections.tell_end(end);
     }
     Ok(port)
 }
 
-// Serves over one line for at most the turns that are left: those that are left then, and how the line ended.
-fn serve_one<C: Catalogue + Drop, W: Hears + Drop, R: Clock + AllocGlobal, L: io::Write + Drop>(
-    server: &mut Server<C, Idling<W>>,
-    left: u64,
-    watcher: &mut Watcher<'_, R, L>,
-) -> (u64, Result<ServeEnd, DriveFault>)
-    ensures { (answer : Result Ran DriveFault) ×
-        ServeLeaves (IdlingDoes W.does) (λ _. ⊤) (idling_failures W.failures) left server.old server.new answer
-        × (result.0 ≡ left_after answer left server.new.wire.listens)
-        × (result.1 ≡ ended_by answer (has_given_up server.new.wire.patience)) }
+/// Serves a port over a line from there, for this many turns at most: gives the port as it is then, and how they ended.
+pub fn serve_over<C: Catalogue + Drop, W: Wire + Drop, R: Clock + AllocGlobal, L: io::Write + Drop>(
+    port: Port<C>,
+    line: W,
+    from: Option<SocketAddr>,
+    settings: ServeSettings,
+    turns: u64,
+    hooks: &mut Hooks<'_, R, L>,
+) -> (Port<C>, Result<TurnsEnd, DriveFault>)
+    requires { W.failures line ≡ 0 }
+    ensures { IsServed W.does W.failures settings turns port line hooks.old result.0 result.1 hooks.new }
 {
-    let answer = server.serve(left, watcher);
-    let line = server.wire();
-    let end = match answer {
-        Ok(ran) => Ok(ServeEnd::of_turns(ran, line.has_given_up())),
-        Err(fault) => Err(fault),
-    };
-    (left_after(answer, left, line.listens()), end)
+    hooks.connected(from);
+    hooks.timing.begin_line(settings);
+    let mut server = Server::new(port, hearing_of(settings), line);
+    let end = server.serve(turns, hooks);
+    let (port, _) = server.into_parts();
+    hooks.connected(None);
+    (port, end)
 }
 
-// For how many silences the next line was silent already, if it waited.
-fn silences_after(end: Result<ServeEnd, DriveFault>, most: Option<u64>) -> u64
-    ensures { result ≡ silences_after end most }
+/// How a server hears.
+pub fn hearing_of(settings: ServeSettings) -> Hearing
+    ensures { result ≡ hearing_of settings }
 {
-    match (end, most) {
-        (Ok(ServeEnd::Idle), Some(most)) => most.saturating_sub(1),
-        (Ok(_) | Err(_), _) => 0,
+    if settings.by_clock {
+        Hearing::AtOnce
+    } else {
+        Hearing::AtSilences
     }
 }
 
@@ -129,15 +124,5 @@ pub fn coming_of<W>(line: io::Result<W>) -> Coming<W>
     match line {
         Ok(line) => Coming::Line(line),
         Err(_) => Coming::Failed,
-    }
-}
-
-// The turns that are left of these, if a server answered so and listened this often.
-fn left_after(answer: Result<Ran, DriveFault>, left: u64, made: u64) -> u64
-    ensures { result ≡ left_after answer left made }
-{
-    match answer {
-        Ok(Ran::Spent) => 0,
-        Ok(Ran::Closed | Ran::Ended) | Err(DriveFault::Device) => left.saturating_sub(made),
     }
 }

@@ -1,0 +1,21 @@
+use Rattle.std.proofs.Common.{◌∙◌, sym}
+use Rattle.vdcp_serve.proofs.stay.serve_over.Goals as goal
+
+pub returns : goal.returns
+returns g c =
+    let made = c.new-server.ensures in record {
+      begun = record c.connected.new.self { timing = c.begin_line.new.self };
+      ended = c.serve-end.new.hooks;
+      old = c.new-server.result;
+      new = c.serve-end.new.self;
+      begins = rw (sym c.connected.ensures) c.begin_line.ensures;
+      is_new = record {
+        port_is = made.port;
+        wire_is = made.wire;
+        hearing_is = made.hearing ∙ c.hearing_of.ensures;
+        at_start = made.reader;
+      };
+      leaves = c.serve-end.ensures.leaves;
+      port_is = c.into_parts-port.ensures.port;
+      timing_is = c.connected-2.ensures;
+    }

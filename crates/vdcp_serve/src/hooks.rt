@@ -1,0 +1,71 @@
+//! What takes part in a server's turns: time, the log and the page.
+ghost use Rattle.std.specs.Prelude.{◌≡◌};
+
+use crate::panel::PortPanel;
+use crate::timing::Timing;
+use std::io;
+use std::net::SocketAddr;
+use std::rt::Clock;
+use vdcp_drive::{DriveFault, Due, ServerHooks, Turned};
+use vdcp_log::{AirLog, Log};
+use vdcp_port::{Catalogue, Port};
+use vdcp_value::{Item, Rate};
+
+/// Says what is due by its timing, tells a log what goes to air, and shows a panel, if there is one, how the port is.
+#[derive(Drop)]
+pub struct Hooks<'a, R: Clock, L: io::Write> {
+    /// When frames pass, and when the line is given up.
+    pub timing: Timing<'a, R>,
+    log: AirLog<'a, L>,
+    panel: Option<PortPanel<'a, R>>,
+}
+
+impl<'a, R: Clock + AllocGlobal, L: io::Write + Drop> Hooks<'a, R, L> {
+    /// Of a port that has put nothing to air yet.
+    pub fn new(rt: &'a R, log: &'a Log<L>, rate: Rate, panel: Option<PortPanel<'a, R>>) -> Self {
+        Hooks {
+            timing: Timing::new(rt),
+            log: AirLog::new(log, rate),
+            panel,
+        }
+    }
+
+    /// From here the port is driven now, or nobody drives it.
+    pub fn connected(&mut self, from: Option<SocketAddr>)
+        ensures { self.new.timing ≡ self.old.timing }
+    {
+        if let Some(panel) = &mut self.panel {
+            panel.connected(from);
+        }
+    }
+
+    /// The port is as it is now, and this went to air.
+    pub fn show<C: Catalogue>(&mut self, port: &Port<C>, aired: Option<Item>)
+        ensures { self.new.timing ≡ self.old.timing }
+    {
+        if let Some(item) = aired {
+            self.log.tell(item);
+        }
+        if let Some(panel) = &mut self.panel {
+            if let Some(item) = aired {
+                panel.note(item);
+            }
+            panel.show(port);
+        }
+    }
+}
+
+impl<C: Catalogue, R: Clock + AllocGlobal, L: io::Write + Drop> ServerHooks<C> for Hooks<'_, R, L> {
+    ghost use Rattle.vdcp_serve.specs.Timing.{TimingDoes};
+
+    ghost does = { λ step old new. TimingDoes step old.timing new.timing };
+
+    fn due(&mut self) -> Due {
+        self.timing.due()
+    }
+
+    fn look(&mut self, port: &Port<C>, aired: Option<Item>, turned: Result<Turned, DriveFault>) {
+        self.timing.note(turned);
+        self.show(port, aired);
+    }
+}

@@ -1,0 +1,149 @@
+//! When a frame passes on a line, and when a line is given up.
+ghost use Rattle.std.specs.Prelude.{◌≡◌, ◌≤◌, false};
+ghost use Rattle.vdcp_serve.specs.Timing.{after_turn, begun_anew, frames_of, is_too_long, with_next_line, HasAsked, HasTurned, IsBegun};
+
+use crate::frame_clock::{FrameClock, Stopwatch};
+use crate::serve::ServeSettings;
+use std::rt::Clock;
+use vdcp_drive::{DriveFault, Due, Turned};
+use vdcp_wire::Came;
+
+/// The patience with a line: it is given up once nothing has come for too long, and a listen that began then has brought
+/// nothing either. (So what waits is read before.)
+#[derive(Clone, Copy, Debug)]
+pub struct Patience {
+    // For how many seconds nothing may come; None: for ever.
+    seconds: Option<u32>,
+    // When something came last, in nanoseconds.
+    heard: u64,
+    gives_up: bool,
+}
+
+impl Patience {
+    // With the next line, from this time on; but if the one before it was given up, it has waited all the while, and
+    // nothing came from it either.
+    fn with_next_line(self, seconds: Option<u32>, now: u64) -> Patience
+        ensures { result ≡ with_next_line seconds now self }
+    {
+        Patience {
+            seconds,
+            heard: if self.gives_up { self.heard } else { now },
+            gives_up: false,
+        }
+    }
+
+    // After a turn that began at one time and ended at the other one.
+    fn after_turn(self, turned: Result<Turned, DriveFault>, began: u64, ended: u64) -> Patience
+        ensures { result ≡ after_turn turned began ended self }
+    {
+        match turned {
+            Ok(Turned::Listen(Came::Bytes(0) | Came::Silence)) => Patience {
+                gives_up: self.is_too_long(began),
+                ..self
+            },
+            Ok(Turned::Listen(Came::Bytes(_))) => Patience {
+                heard: ended,
+                ..self
+            },
+            Ok(Turned::Listen(Came::Closed) | Turned::Frame) | Err(_) => self,
+        }
+    }
+
+    // Whether nothing had come for too long at this time.
+    fn is_too_long(self, time: u64) -> bool
+        ensures { result ≡ is_too_long time self }
+    {
+        match self.seconds {
+            Some(seconds) => u64::from(seconds) * 1_000_000_000 <= time.saturating_sub(self.heard),
+            None => false,
+        }
+    }
+}
+
+/// What a server's turns over a line go by.
+#[derive(Drop)]
+pub struct Timing<'a, R: Clock> {
+    clock: Stopwatch<'a, R>,
+    // None if frames pass at silences.
+    frames: Option<FrameClock>,
+    patience: Patience,
+    // How many turns the line has had.
+    turns: u64,
+}
+
+impl<'a, R: Clock> Timing<'a, R> {
+    /// Before the first line.
+    pub fn new(clock: &'a R) -> Self {
+        Timing {
+            clock: Stopwatch::new(clock),
+            frames: None,
+            patience: Patience {
+                seconds: None,
+                heard: 0,
+                gives_up: false,
+            },
+            turns: 0,
+        }
+    }
+
+    /// The next line begins.
+    pub fn begin_line(&mut self, settings: ServeSettings)
+        ensures { IsBegun settings self.old self.new }
+    {
+        let now = self.clock.read();
+        self.frames = frames_of(settings, now);
+        self.patience = self.patience.with_next_line(settings.idle, now);
+        self.turns = 0;
+    }
+
+    /// No line was waiting while the last one was idle.
+    pub fn miss_line(&mut self)
+        ensures { self.new ≡ begun_anew self.old }
+    {
+        self.patience.gives_up = false;
+    }
+
+    /// How many turns the line has had.
+    pub fn turns(&self) -> u64
+        ensures { result ≡ self.now.turns }
+    {
+        self.turns
+    }
+
+    /// What is due: the line is given up, or a frame passes if one is over, or it is listened to.
+    pub fn due(&mut self) -> Due
+        ensures { HasAsked result self.old self.new }
+    {
+        let now = self.clock.read();
+        self.turns = self.turns.saturating_add(1);
+        if self.patience.gives_up {
+            return Due::GiveUp;
+        }
+        if let Some(frames) = &mut self.frames
+            && frames.count(now)
+        {
+            return Due::Frame;
+        }
+        Due::Listen
+    }
+
+    /// A turn is over, which was this.
+    pub fn note(&mut self, turned: Result<Turned, DriveFault>)
+        ensures { HasTurned turned self.old self.new }
+    {
+        let began = self.clock.time();
+        let ended = self.clock.read();
+        self.patience = self.patience.after_turn(turned, began, ended);
+    }
+}
+
+// The frames of a line that begins now, if they pass by the clock.
+fn frames_of(settings: ServeSettings, now: u64) -> Option<FrameClock>
+    ensures { result ≡ frames_of settings now }
+{
+    if settings.by_clock {
+        Some(FrameClock::new(settings.rate, now))
+    } else {
+        None
+    }
+}
