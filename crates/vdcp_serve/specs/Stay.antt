@@ -1,5 +1,5 @@
 -- A port that is kept from one connection to the next.
-use Rattle.std.specs.Prelude.{ℕ, suc, ◌≡◌, ◌-◌, true, ⊤, [], Result, Ok, Err, if◌then◌else◌}
+use Rattle.std.specs.Prelude.{ℕ, suc, ◌≡◌, ◌-◌, true, ⊤, [], Result, if◌then◌else◌}
 use Rattle.vdcp_frame.specs.Progress.{reading}
 use Rattle.vdcp_port.specs.Clock.{ClockedPort, after_frame}
 use Rattle.vdcp_drive.specs.ServeLeaves.{ServeLeaves}
@@ -10,7 +10,7 @@ use Rattle.vdcp_drive.specs.declared.hearing.Hearing.TheVariants.{AtOnce, AtSile
 use Rattle.vdcp_drive.specs.declared.line.DriveFault.{DriveFault}
 use Rattle.vdcp_drive.specs.declared.line.TurnsEnd.{TurnsEnd}
 use Rattle.vdcp_wire.specs.Acts.{Act}
-use Rattle.vdcp_serve.specs.Timing.{IsBegun, TimingDoes, begun_anew}
+use Rattle.vdcp_serve.specs.Timing.{LineBegins, TimingDoes, begun_anew}
 use Rattle.vdcp_serve.specs.declared.hooks.Hooks.{Hooks}
 use Rattle.vdcp_serve.specs.declared.serve.ServeSettings.{ServeSettings}
 use Rattle.vdcp_serve.specs.declared.stay.Coming.{Coming}
@@ -21,10 +21,6 @@ abbrev pub IfLine : {W : Type 0} → Coming W → (W → Type 0) → Type 0
 IfLine comings.Nobody P = ⊤
 IfLine comings.Failed P = ⊤
 IfLine (comings.Line line) P = P line
-
-abbrev pub coming_of : {W E : Type 0} → Result W E → Coming W
-coming_of (Ok line) = comings.Line line
-coming_of (Err error) = comings.Failed
 
 abbrev pub hearing_of : ServeSettings → Hearing
 hearing_of s = if s.by_clock then AtOnce else AtSilences
@@ -47,7 +43,7 @@ pub record IsServed {W R L : Type 0} (does : Act → W → W → Type 0) (failur
   pub ended : Hooks R L
   pub old : Serving W
   pub new : Serving W
-  pub begins : IsBegun settings before.timing begun.timing
+  pub begins : LineBegins settings before.timing begun.timing
   pub is_new : IsNew settings port line old
   pub leaves : ServeLeaves does true (λ steps. Chain HooksDo steps begun ended) failures turns old new answer
   pub port_is : port' ≡ new.port

@@ -63,10 +63,10 @@ abbrev pub frames_of : ServeSettings → ℕ → Option FrameClock
 frames_of s now = if s.by_clock then Some (record { rate = s.rate; began = now; frames = 0 }) else None
 
 -- a line begins
-pub record IsBegun {R : Type 0} (settings : ServeSettings) (before begun : Timing R) : Type 0 where
-  pub later : before.clock.time ≤ begun.clock.time
-  pub frames : begun.frames ≡ frames_of settings begun.clock.time
-  pub patience : begun.patience ≡ with_next_line settings.idle begun.clock.time before.patience
+pub record LineBegins {R : Type 0} (settings : ServeSettings) (before begun : Timing R) : Type 0 where
+  pub later : before.time ≤ begun.time
+  pub frames : begun.frames ≡ frames_of settings begun.time
+  pub patience : begun.patience ≡ with_next_line settings.idle begun.time before.patience
   pub turns : begun.turns ≡ 0
 
 -- no line was waiting while the last one was idle
@@ -82,20 +82,20 @@ frames_by due.Frame (Some c) = Some (counted true c)
 frames_by _ frames = frames
 
 -- it was asked what is due: a turn more
-pub record HasAsked {R : Type 0} (answer : Due) (old new : Timing R) : Type 0 where
-  pub later : old.clock.time ≤ new.clock.time
-  pub is_due : answer ≡ due_at new.clock.time old.frames old.patience
+pub record WasAsked {R : Type 0} (answer : Due) (old new : Timing R) : Type 0 where
+  pub later : old.time ≤ new.time
+  pub is_due : answer ≡ due_at new.time old.frames old.patience
   pub frames : new.frames ≡ frames_by answer old.frames
   pub patience : new.patience ≡ old.patience
   pub turns : new.turns ≡ min (old.turns + 1) (2 ^ 64 - 1)
 
 -- and told what the turn was
-pub record HasTurned {R : Type 0} (turned : Result Turned DriveFault) (old new : Timing R) : Type 0 where
-  pub later : old.clock.time ≤ new.clock.time
+pub record WasTold {R : Type 0} (turned : Result Turned DriveFault) (old new : Timing R) : Type 0 where
+  pub later : old.time ≤ new.time
   pub frames : new.frames ≡ old.frames
-  pub patience : new.patience ≡ after_turn turned old.clock.time new.clock.time old.patience
+  pub patience : new.patience ≡ after_turn turned old.time new.time old.patience
   pub turns : new.turns ≡ old.turns
 
 abbrev pub TimingDoes : {R : Type 0} → HookStep → Timing R → Timing R → Type 0
-TimingDoes (asked answer) old new = HasAsked answer old new
-TimingDoes (lent look) old new = HasTurned look.turned old new
+TimingDoes (asked answer) old new = WasAsked answer old new
+TimingDoes (lent look) old new = WasTold look.turned old new

@@ -7,7 +7,7 @@ ghost use Rattle.vdcp_value.specs.Clock.{frames_after};
 ghost use Rattle.vdcp_wire.specs.Streams.{failures_of};
 
 use crate::serve::{ServeSettings, word_of};
-use crate::stay::{Coming, Connections, coming_of};
+use crate::stay::{Coming, Connections};
 use mio::unix::SourceFd;
 use mio::{Events, Interest, Poll, Token};
 use std::alloc::Global;
@@ -90,20 +90,6 @@ impl<'a, R: Net + AllocGlobal, L: io::Write + Drop> Entrance<'a, R, L> {
             Err(_) => None,
         }
     }
-
-    // What comes of a connection, or of none.
-    fn coming(&self, stream: Option<R::Stream>) -> Coming<Logged<'a, StreamWire<R::Stream>, L>>
-        ensures works { IfLine result (λ line. failures_of line.wire.connection ≡ 0) }
-    {
-        let Some(stream) = stream else {
-            return Coming::Nobody;
-        };
-        let line = line_over(stream, self.settings, self.log);
-        if line.is_ok() {
-            self.log.tell(&"taken");
-        }
-        coming_of(line)
-    }
 }
 
 impl<'a, R: Net + AllocGlobal, L: io::Write + Drop> Connections<
@@ -119,7 +105,16 @@ impl<'a, R: Net + AllocGlobal, L: io::Write + Drop> Connections<
             self.pause()?;
             taken = self.take();
         }
-        Ok(self.coming(taken))
+        let Some(stream) = taken else {
+            return Ok(Coming::Nobody);
+        };
+        match line_over(stream, self.settings, self.log) {
+            Ok(line) => {
+                self.log.tell(&"taken");
+                Ok(Coming::Line(line))
+            }
+            Err(_) => Ok(Coming::Failed),
+        }
     }
 
     fn from(&self) -> Option<SocketAddr> {

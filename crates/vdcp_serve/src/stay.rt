@@ -1,6 +1,6 @@
 //! A port that is kept from one connection to the next.
 ghost use Rattle.std.specs.Prelude.{◌≡◌, IfOk};
-ghost use Rattle.vdcp_serve.specs.Stay.{IsKept, IsServed, coming_of, hearing_of};
+ghost use Rattle.vdcp_serve.specs.Stay.{IsKept, IsServed, hearing_of};
 
 use crate::hooks::Hooks;
 use crate::serve::ServeSettings;
@@ -114,15 +114,5 @@ pub fn hearing_of(settings: ServeSettings) -> Hearing
         Hearing::AtOnce
     } else {
         Hearing::AtSilences
-    }
-}
-
-/// What comes of a connection that was made a line, or refused to be one: its failure is no other one's.
-pub fn coming_of<W>(line: io::Result<W>) -> Coming<W>
-    ensures { result ≡ coming_of line }
-{
-    match line {
-        Ok(line) => Coming::Line(line),
-        Err(_) => Coming::Failed,
     }
 }

@@ -1,8 +1,8 @@
 //! When a frame passes on a line, and when a line is given up.
 ghost use Rattle.std.specs.Prelude.{◌≡◌, ◌≤◌, false};
-ghost use Rattle.vdcp_serve.specs.Timing.{after_turn, begun_anew, frames_of, is_too_long, with_next_line, HasAsked, HasTurned, IsBegun};
+ghost use Rattle.vdcp_serve.specs.Timing.{after_turn, begun_anew, frames_of, is_too_long, with_next_line, WasAsked, WasTold, LineBegins};
 
-use crate::frame_clock::{FrameClock, Stopwatch};
+use crate::frame_clock::FrameClock;
 use crate::serve::ServeSettings;
 use std::rt::Clock;
 use vdcp_drive::{DriveFault, Due, Turned};
@@ -10,7 +10,7 @@ use vdcp_wire::Came;
 
 /// The patience with a line: it is given up once nothing has come for too long, and a listen that began then has brought
 /// nothing either. (So what waits is read before.)
-#[derive(Clone, Copy, Debug)]
+#[derive(Clone, Copy)]
 pub struct Patience {
     // For how many seconds nothing may come; None: for ever.
     seconds: Option<u32>,
@@ -60,10 +60,12 @@ impl Patience {
     }
 }
 
-/// What a server's turns over a line go by.
+/// What a server's turns over a line go by. A clock that can't be read stands still.
 #[derive(Drop)]
 pub struct Timing<'a, R: Clock> {
-    clock: Stopwatch<'a, R>,
+    clock: &'a R,
+    // When it was read last, in nanoseconds.
+    time: u64,
     // None if frames pass at silences.
     frames: Option<FrameClock>,
     patience: Patience,
@@ -75,7 +77,8 @@ impl<'a, R: Clock> Timing<'a, R> {
     /// Before the first line.
     pub fn new(clock: &'a R) -> Self {
         Timing {
-            clock: Stopwatch::new(clock),
+            clock,
+            time: 0,
             frames: None,
             patience: Patience {
                 seconds: None,
@@ -88,9 +91,9 @@ impl<'a, R: Clock> Timing<'a, R> {
 
     /// The next line begins.
     pub fn begin_line(&mut self, settings: ServeSettings)
-        ensures { IsBegun settings self.old self.new }
+        ensures { LineBegins settings self.old self.new }
     {
-        let now = self.clock.read();
+        let now = self.read_clock();
         self.frames = frames_of(settings, now);
         self.patience = self.patience.with_next_line(settings.idle, now);
         self.turns = 0;
@@ -110,11 +113,24 @@ impl<'a, R: Clock> Timing<'a, R> {
         self.turns
     }
 
+    // Reads the clock, which never goes back.
+    fn read_clock(&mut self) -> u64
+        ensures time { result ≡ self.new.time }
+        ensures later { self.old.time ≤ self.new.time }
+        ensures keeps { self.new ≡ record self.old { time = self.new.time } }
+    {
+        if let Ok(time) = self.clock.monotonic() {
+            let nanoseconds = u64::try_from(time.as_nanos()).unwrap_or(u64::MAX);
+            self.time = self.time.max(nanoseconds);
+        }
+        self.time
+    }
+
     /// What is due: the line is given up, or a frame passes if one is over, or it is listened to.
     pub fn due(&mut self) -> Due
-        ensures { HasAsked result self.old self.new }
+        ensures { WasAsked result self.old self.new }
     {
-        let now = self.clock.read();
+        let now = self.read_clock();
         self.turns = self.turns.saturating_add(1);
         if self.patience.gives_up {
             return Due::GiveUp;
@@ -129,10 +145,10 @@ impl<'a, R: Clock> Timing<'a, R> {
 
     /// A turn is over, which was this.
     pub fn note(&mut self, turned: Result<Turned, DriveFault>)
-        ensures { HasTurned turned self.old self.new }
+        ensures { WasTold turned self.old self.new }
     {
-        let began = self.clock.time();
-        let ended = self.clock.read();
+        let began = self.time;
+        let ended = self.read_clock();
         self.patience = self.patience.after_turn(turned, began, ended);
     }
 }
