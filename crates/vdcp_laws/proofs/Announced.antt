@@ -1,14 +1,27 @@
 -- The PLAY that the state heard last announces, and that may have gone out without its row.
-use Rattle.std.proofs.Common.{◌≡◌, ℕ, All, Bool, true, false, List, [], ◌∷◌, ◌++◌, Option, None, Some, append-nil, append_assoc, refl, sym, ap, ap₂, length, subst, ◌∙◌, true≢false}
+use Rattle.std.proofs.Common.{◌≡◌, ℕ, ◌+◌, arith, All, Bool, true, false, List, [], ◌∷◌, ◌++◌, Option, None, Some, append-nil, append_assoc, refl, sym, ap, ap₂, length, subst, ◌∙◌, true≢false}
 use Rattle.std.specs.Option.{option_map, option_to_list}
 use Rattle.std.specs.Prelude.{IsSome, IsTrue, if◌then◌else◌, is_some, not, ◌&&◌, remove}
-use Rattle.vdcp_auto.specs.Commands.{is_sense}
+use Rattle.std.specs.Prelude.{nat_le, slice_get}
+use Rattle.vdcp_value.specs.declared.clip_id.ClipId.{ClipId}
+use Rattle.vdcp_value.specs.declared.part.Item.{Item}
+use Rattle.vdcp_value.specs.declared.part.Part.{Part}
+use Rattle.vdcp_auto.specs.Commands.{cue_for, cue_of, is_sense}
+use Rattle.vdcp_auto.specs.Log.{answer_in, is_counted}
+use Rattle.vdcp_auto.specs.Table.{on_no_answer, on_refusal, on_reply}
+use Rattle.vdcp_auto.specs.declared.outcome.Outcome.TheVariants.{Lost}
+use Rattle.vdcp_auto.specs.declared.phase.Phase.{Phase}
+use Rattle.vdcp_auto.specs.declared.phase.Phase.TheVariants as phase
+use Rattle.vdcp_auto.specs.declared.phase.Transition.TheVariants.{Ends}
+use Rattle.vdcp_world.specs.LateLine.Asking.{asked_in}
+use Rattle.vdcp_world.specs.LateLine.Asking.{Question}
+use Rattle.vdcp_world.specs.LateLine.Asking as question
 use Rattle.vdcp_auto.specs.Course.{logged}
 use Rattle.vdcp_auto.specs.Heard.{heard_in}
 use Rattle.vdcp_auto.specs.Plan.{Plan}
-use Rattle.vdcp_auto.specs.Replies.{is_receipt}
+use Rattle.vdcp_auto.specs.Replies.{is_receipt, is_refusal}
 use Rattle.vdcp_auto.specs.State.{Stage, Ready, Awaiting, Ended, State}
-use Rattle.vdcp_auto.specs.Turn.{awaited, came_to, ended_by, exchange_of, given, given_in, taken, tick_in, ticked}
+use Rattle.vdcp_auto.specs.Turn.{awaited, came_to, ended_by, ended_in, exchange_of, given, given_in, phase_to_send, stage_after, taken, tick_in, ticked, transition_of, transition_on}
 use Rattle.vdcp_auto.specs.declared.exchange.Exchange.{Exchange}
 use Rattle.vdcp_auto.specs.declared.exchange.Heard.{Heard}
 use Rattle.vdcp_auto.specs.declared.exchange.Heard.TheVariants as heard
@@ -47,6 +60,7 @@ UnitStays = ((p : ClockedPort) (burst : List ℕ) → (after_burst p burst).stat
 unit_stays : UnitStays → (c : LateChannel) (e : LateEvent)
     → (after_late_event c e).port.state.unit ≡ c.port.state.unit
 unit_stays stays c event.Tick = refl
+unit_stays stays c (event.Ask question) = refl
 unit_stays stays c event.Down = stays.0 c.port (oldest c.down)
 unit_stays stays c event.Up = refl
 unit_stays stays c event.DownCopy = stays.0 c.port (oldest c.down)
@@ -346,11 +360,173 @@ unended : (c : LateChannel) (by : Option Exchange) → ended_by c.plan None c.st
 unended c None is none = (ap (left_by c.plan c.state) is, ap (logged c.log) is)
 unended c (Some e) is none = cc none
 
+-- What is asked beside the controller: if PLAY may come next the controller would ask the same, and may after it, too. So
+-- it may have been asked then.
+
+abbrev to_play : Stage → Bool
+to_play (Ready (phase.Play k)) = true
+to_play _ = false
+
+abbrev from_play : Phase → Bool
+from_play (phase.Wait k) = true
+from_play (phase.Probe k) = true
+from_play _ = false
+
+no_id : (o : Option Item) → option_map (λ item. command.IdRequest item.id) o ≡ Some command.Play → ⊥
+no_id None is = cc is
+no_id (Some item) is = cc is
+
+one_is : {c d : Command} → Some c ≡ Some d → c ≡ d
+one_is is = cc
+
+not_play : (id : ClipId) (part : Option Part) → cue_for id part ≡ command.Play → ⊥
+not_play id None is = cc is
+not_play id (Some part) is = cc is
+
+no_cue : (o : Option Item) → option_map cue_of o ≡ Some command.Play → ⊥
+no_cue None is = cc is
+no_cue (Some item) is = not_play item.id item.part (one_is is)
+
+after_play : (plan : Plan) (stop : Bool) (stage : Stage) → given_in plan stop stage ≡ Some command.Play
+    → to_play stage ≡ true
+after_play plan true (Ready p) is = cc is
+after_play plan false (Ready (phase.Play k)) is = refl
+after_play plan false (Ready (phase.Exists k)) is = absurd (no_id (slice_get plan.list k) is)
+after_play plan false (Ready (phase.Cue k)) is = absurd (no_cue (slice_get plan.list k) is)
+after_play plan false (Ready p) is = cc is
+after_play plan stop (Awaiting p) is = cc is
+after_play plan stop (Ended outcome) is = cc is
+
+on_reply_plays : (mode : Mode) (list : List Item) (limit : ℕ) (take : Bool) (tries : ℕ) (p : Phase) (r : Reply)
+    → to_play (stage_after (on_reply mode list limit take tries p r)) ≡ true → from_play p ≡ true
+on_reply_plays mode list limit take tries (phase.Wait k) r e = refl
+on_reply_plays mode list limit take tries (phase.Probe k) r e = refl
+on_reply_plays mode list limit take tries phase.Open r e = grind (arith)
+on_reply_plays mode list limit take tries phase.Select r e = grind (arith)
+on_reply_plays mode list limit take tries phase.Seen r e = grind (arith)
+on_reply_plays mode list limit take tries (phase.Exists k) r e = grind (arith)
+on_reply_plays mode list limit take tries (phase.Check k) r e = grind (arith)
+on_reply_plays mode list limit take tries phase.Drain r e = grind (arith)
+on_reply_plays mode list limit take tries p r e = cc
+
+on_refusal_plays : (n : ℕ) (p : Phase) → to_play (stage_after (on_refusal n p)) ≡ true → from_play p ≡ true
+on_refusal_plays n phase.Halt e = cc
+on_refusal_plays n p e = cc
+
+on_silence_plays : (mode : Mode) (p : Phase) → to_play (stage_after (on_no_answer mode p)) ≡ true → from_play p ≡ true
+on_silence_plays Plain (phase.Wait k) e = refl
+on_silence_plays Plain (phase.Probe k) e = refl
+on_silence_plays Plain (phase.Play k) e = cc
+on_silence_plays Plain p e = cc
+on_silence_plays Confirming (phase.Wait k) e = refl
+on_silence_plays Confirming (phase.Probe k) e = refl
+on_silence_plays Confirming (phase.Play k) e = cc
+on_silence_plays Confirming p e = cc
+
+leads_to_play : (plan : Plan) (take : Bool) (tries unanswered : ℕ) (counts : Bool) (p : Phase) (o : Option Reply)
+    → to_play (stage_after (transition_on plan take tries unanswered counts p o)) ≡ true → from_play p ≡ true
+leads_to_play plan take tries unanswered counts p (Some r) = by (is_refusal r)
+  where
+    by : (b : Bool) → to_play (stage_after (if b then on_refusal (length plan.list) p
+        else on_reply plan.mode plan.list plan.limit take tries p r)) ≡ true → from_play p ≡ true
+    by true e = on_refusal_plays (length plan.list) p e
+    by false e = on_reply_plays plan.mode plan.list plan.limit take tries p r e
+leads_to_play plan take tries unanswered counts p None = by (counts && nat_le plan.limit (unanswered + 1))
+  where
+    by : (b : Bool) → to_play (stage_after (if b then Ends Lost else on_no_answer plan.mode p)) ≡ true
+        → from_play p ≡ true
+    by true e = cc
+    by false e = on_silence_plays plan.mode p e
+
+-- the controller awaits the answer to this phase's command
+came_play : (plan : Plan) (p : Phase) (t : State) (by : Option Exchange) → t.stage ≡ Awaiting p
+    → given plan (left_by plan t by) ≡ Some command.Play
+    → (to_play (left_by plan t by).stage ≡ true) × (from_play p ≡ true)
+came_play plan p t None at is =
+    absurd (none_some (sym (ap (given_in plan t.stop) at) ∙ is))
+came_play plan p t (Some e) at is =
+    subst (λ (stage : Stage). given plan (ended_in plan stage e t) ≡ Some command.Play
+    → (to_play (ended_in plan stage e t).stage ≡ true) × (from_play p ≡ true)) (sym at) here is
+  where
+    here : given plan (ended_in plan (Awaiting p) e t) ≡ Some command.Play
+        → (to_play (ended_in plan (Awaiting p) e t).stage ≡ true) × (from_play p ≡ true)
+    here is =
+        let goes = after_play plan t.stop (stage_after (transition_of plan t p e)) is in (
+          goes,
+          leads_to_play plan t.take t.tries t.unanswered (is_counted plan.mode e) p (answer_in e) goes,
+        )
+
+asks_there : (plan : Plan) (stage : Stage) → to_play stage ≡ true
+    → asked_in plan question.State stage ≡ Some (command.Status 1)
+asks_there plan (Ready (phase.Play k)) e = refl
+asks_there plan stage e = cc
+
+-- asks the state, as its controller would, if what it asks leads to PLAY
+asks_as_it : (plan : Plan) (stop : Bool) (p : Phase) (asks : Question) (d : Command)
+    → from_play (phase_to_send stop p) ≡ true → asked_in plan asks (Ready p) ≡ Some d
+    → (asks ≡ question.State) × (d ≡ command.Status 1) × (given_in plan stop (Ready p) ≡ Some (command.Status 1))
+asks_as_it plan true p asks d e is = absurd (true≢false (sym e))
+asks_as_it plan false (phase.Wait k) question.State d e is = (refl, sym (one_is is), refl)
+asks_as_it plan false (phase.Probe k) question.State d e is = (refl, sym (one_is is), refl)
+asks_as_it plan false (phase.Wait k) question.Open d e is = absurd (none_some is)
+asks_as_it plan false (phase.Probe k) question.Open d e is = absurd (none_some is)
+asks_as_it plan false (phase.Wait k) question.Select d e is = absurd (none_some is)
+asks_as_it plan false (phase.Probe k) question.Select d e is = absurd (none_some is)
+asks_as_it plan false p asks d e is = absurd (true≢false (sym e))
+
+record AsksSame (plan : Plan) (s : State) (h : Heard) (asks : Question) (d : Command) : Type 0 where
+  gives : given plan s ≡ Some d
+  then_too : asked_in plan asks (came_again plan h s).stage ≡ Some d
+
+asks_same : (plan : Plan) (s : State) (h : Heard) (asks : Question) (d : Command) → Plays plan s h
+    → asked_in plan asks s.stage ≡ Some d → AsksSame plan s h asks d
+asks_same plan s h asks d plays is = at s.stage refl
+  where
+    at : (stage : Stage) → s.stage ≡ stage → AsksSame plan s h asks d
+    at (Ready p) e =
+        let t : State = taken (ticked s) in
+        let on : t.stage ≡ Awaiting (phase_to_send s.stop p) = ap (λ (x : Stage). (tick_in x s).stage) e in
+        let came = came_play plan (phase_to_send s.stop p) t (ended_by plan (Some h) t) on plays in
+        let so = asks_as_it plan s.stop p asks d came.1 (ap (asked_in plan asks) (sym e) ∙ is) in
+        record {
+          gives = ap (given_in plan s.stop) e ∙ so.2 ∙ ap (λ (c : Command). Some c) (sym so.1);
+          then_too = ap (λ (q : Question). asked_in plan q (came_again plan h s).stage) so.0
+              ∙ asks_there plan (came_again plan h s).stage came.0 ∙ ap (λ (c : Command). Some c) (sym so.1);
+        }
+    at (Awaiting p) e = absurd (none_some (ap (asked_in plan asks) (sym e) ∙ is))
+    at (Ended outcome) e = absurd (none_some (ap (asked_in plan asks) (sym e) ∙ is))
+
+asked_beside : (h : Heard) (c : LateChannel) (notes : List Note) (asks : Question) (o : Option Command)
+    → asked_in c.plan asks c.state.stage ≡ o → Plays c.plan c.state h → IsAgain h c notes
+    → IsAgain h (record c { down = c.down ++ command_bursts c.port.state.unit o }) notes
+asked_beside h c notes asks None is plays again =
+    subst (λ (q : List (List ℕ)). IsAgain h (record c { down = q }) notes) (sym (append-nil c.down)) again
+asked_beside h c notes asks (Some d) is plays again =
+    let unit : ℕ = c.port.state.unit in
+    let same = asks_same c.plan c.state h asks d plays is in
+    let s : State = came_to c.plan (Some h) (taken (ticked c.state)) in
+    let l : List Exchange = logged c.log (ended_by c.plan (Some h) (taken (ticked c.state))) in
+    let n : List Note = notes ++ (sent_of (given c.plan c.state) ++ note.Take ∷ note.Heard h ∷ []) in
+    let run : IsRun (record c {
+      state = s;
+      log = l;
+      down = (c.down ++ command_bursts unit (given c.plan c.state)) ++ command_bursts unit (asked_in c.plan asks s.stage);
+    }) n = no_notes (happened again (event.Ask asks) tt) in
+    subst (λ (q : List (List ℕ)). IsRun (record c { state = s; log = l; down = q }) n)
+    (ap₂ (λ (x y : Option Command). (c.down ++ command_bursts unit x) ++ command_bursts unit y) same.gives same.then_too
+    ∙ ap (λ (x : Option Command). (c.down ++ command_bursts unit (Some d)) ++ command_bursts unit x) (sym same.gives))
+    run
+
 pub again_of : UnitStays → (h : Heard) (c : LateChannel) (notes : List Note) → IsRun c notes → heard_last notes ≡ Some h
     → Plays c.plan c.state h → IsAgain h c notes
 again_of stays h _ _ (begun plan port down up can_start) last plays = absurd (none_some last)
 again_of stays h _ _ (happened {c} {notes} run event.Tick of_run) last plays =
     asks_it h c notes (given c.plan c.state) refl of_run (again_of stays h c notes run) last plays
+again_of stays h _ _ (happened {c} {notes} run (event.Ask question) of_run) last plays =
+    let before : heard_last notes ≡ Some h = ap heard_last (sym (append-nil notes)) ∙ last in
+    subst (IsAgain h (after_late_event c (event.Ask question))) (sym (append-nil notes))
+    (asked_beside h c notes question (asked_in c.plan question c.state.stage) refl plays
+    (again_of stays h c notes run before plays))
 again_of stays h _ _ (happened {c} {notes} run event.Down of_run) last plays =
     passes stays h c notes event.Down tt refl refl refl (again_of stays h c notes run) last plays
 again_of stays h _ _ (happened {c} {notes} run event.Up of_run) last plays =

@@ -1,10 +1,10 @@
 -- The two ends, over one connection after another and over kills, and the late channel beside them.
-use Rattle.std.proofs.Common.{ℕ, ◌≡◌, ◌<◌, ◌≤◌, inl, inr, All, List, [], ◌∷◌, ◌++◌, map, refl, sym, ap, ap₂, subst, ◌∙◌, append-nil, lit<}
+use Rattle.std.proofs.Common.{ℕ, ◌≡◌, ◌<◌, ◌≤◌, inr, All, List, [], ◌∷◌, ◌++◌, map, refl, sym, ap, ap₂, subst, ◌∙◌, append-nil}
 use Rattle.std.proofs.lemmas.List.Elements.{All-cons, All-head, All-nil, All-tail}
 use Rattle.std.specs.Option.{option_to_list}
 use Rattle.std.specs.Prelude.{Option, Some, None, is_some}
 use Rattle.vdcp_frame.specs.Message.{Content, Fits, spelling}
-use Rattle.vdcp_words.specs.Commands.{command_message, IsWritableCommand}
+use Rattle.vdcp_words.specs.Commands.{command_message}
 use Rattle.vdcp_words.specs.declared.command.Command.{Command}
 use Rattle.vdcp_words.specs.declared.command.Command.TheVariants as command
 use Rattle.vdcp_port.specs.Clock.{ClockedPort}
@@ -26,13 +26,14 @@ use Rattle.vdcp_drive.specs.Traces.{bytes_of}
 use Rattle.vdcp_drive.specs.ServerEars.{in_stream}
 use Rattle.vdcp_world.specs.LateLine.LateChannel.{AsksOnly, LateChannel, IsQuestion, after_late_event, command_bursts, made_anew, new_late_channel}
 use Rattle.vdcp_world.specs.LateLine.LateEvent as event
-use Rattle.vdcp_laws.specs.TwoEnds.{AreJoined, begun, went_on, gave, came_up, came_down, waited, passed, paused, shut, took, halted, resumed, restarted}
+use Rattle.vdcp_laws.specs.TwoEnds.{AreJoined, begun, went_on, gave, asks, came_up, came_down, waited, passed, paused, shut, took, halted, resumed, restarted}
 use Rattle.vdcp_laws.specs.TwoEnds.{GoesOn, as_announced, as_noted}
 use Rattle.vdcp_laws.specs.TwoEnds.{CanJoin, Ends, IsLateChannel, aired_now, commands_sent, connected_anew, log_now, new_ends, port_now, with_command, with_take, heard_again}
 use Rattle.vdcp_laws.proofs.Bytes.{nothing_unfinished}
 use Rattle.vdcp_laws.proofs.Commands.{commands_receives, timed_out}
 use Rattle.vdcp_laws.proofs.Noting.{are_reached}
 use Rattle.vdcp_laws.proofs.Queues.{Takes, bytes_to, logged_behind, loses_down, loses_up, messages_to, nothing_taken, with_queues}
+use Rattle.vdcp_laws.proofs.Asks.{asks_next, writable}
 use Rattle.vdcp_laws.proofs.Announced.{again_of, plays_so, sent_of}
 use Rattle.vdcp_laws.proofs.Held.{ahead}
 use Rattle.vdcp_laws.proofs.Journaled.{run_reached}
@@ -46,11 +47,6 @@ use Rattle.vdcp_laws.proofs.Joining.{AreBeside, IsBeside, Laws, comes_down, come
 pub record AreAsked (plan : Plan) (unit : ℕ) (asked : List Command) : Type 0 where
   pub fits : All Fits (messages_to unit asked)
   pub only : All (AsksOnly plan unit) (map spelling (messages_to unit asked))
-
-writable : (port : ℕ) (c : Command) → port < 256 → IsQuestion port c → IsWritableCommand c
-writable port c small (inl is) = subst IsWritableCommand (sym is) (small, lit< tt)
-writable port c small (inr (inl is)) = subst IsWritableCommand (sym is) small
-writable port c small (inr (inr is)) = subst IsWritableCommand (sym is) (lit< tt)
 
 are_asked : (law : Laws) (plan : Plan) (unit : ℕ) (asked : List Command) → unit ≤ 15 → plan.port < 256
     → All (IsQuestion plan.port) asked → AreAsked plan unit asked
@@ -223,6 +219,9 @@ beside law plan port asked _ can begun = begins law plan port asked can
 beside law plan port asked _ can (went_on {e} j gave) =
     let r = beside law plan port asked e can j in
     record { channel = _; beside = gives_next law plan port asked e r.channel can (ready law plan port asked e can j) r.beside }
+beside law plan port asked _ can (went_on {e} j (asks q d is none)) =
+    let r = beside law plan port asked e can j in
+    record { channel = _; beside = asks_next law plan port asked e r.channel q d can is none r.beside }
 beside law plan port asked _ can (went_on {e} j (came_up piece rest is)) =
     let r = beside law plan port asked e can j in
     comes_up law plan port e piece rest r.channel r.beside is

@@ -13,7 +13,7 @@ use Rattle.vdcp_laws.specs.Automation.{Prompt, hears, hears_all}
 use Rattle.vdcp_drive.specs.Reading.{completed}
 use Rattle.vdcp_world.specs.LateLine.LateHeadline.{is_late_complete}
 use Rattle.vdcp_laws.specs.TwoEnds.{AreJoined, AreLed, CanJoin, Ends, GoesOn, Step, aired_now, as_announced, as_noted, begun, went_on}
-use Rattle.vdcp_laws.specs.TwoEnds.{gave, came_up, came_down, waited, passed, paused, shut, took, halted, resumed, restarted}
+use Rattle.vdcp_laws.specs.TwoEnds.{gave, asks, came_up, came_down, waited, passed, paused, shut, took, halted, resumed, restarted}
 use Rattle.vdcp_laws.proofs.Commands.{hears_comes, still}
 use Rattle.vdcp_laws.proofs.Headline.{Laws, of_ends}
 
@@ -64,6 +64,7 @@ step_rests : (plan : Plan) (unit : ℕ) (e e' : Ends) (o : Outcome) → Step pla
     → e.automation.state.stage ≡ Ended o → Rests o e.automation.state e'.automation.state
 step_rests plan unit e _ o gave is =
     rests o e.automation.state (ticked e.automation.state) is (ap (λ (t : Stage). tick_in t e.automation.state) is)
+step_rests plan unit e _ o (asks question c asked none) is = (is, refl)
 step_rests plan unit e _ o (came_up piece rest sent) is =
     rests o e.automation.state (hears_all plan unit (completed e.automation.held piece) e.automation).state is
     (still_heard plan unit (completed e.automation.held piece) e.automation o is)

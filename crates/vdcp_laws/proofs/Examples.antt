@@ -335,6 +335,42 @@ old_play_airs_another : (length : Timecode)
     ≡ whole clip_1 ∷ []
 old_play_airs_another length = refl
 
+-- What is asked where it may not be.
+
+abbrev empty_bytes : List ℕ
+empty_bytes = 0x02 ∷ 0x04 ∷ 0x30 ∷ 0x85 ∷ 0x01 ∷ 0x01 ∷ 0x49 ∷ []
+
+-- an automation that goes on and asks whether its PLAY was lost
+abbrev probing : Prompt
+probing = record {
+  held = holds [];
+  state = record { stage = Ready (phase.Probe 0); take = false; stop = false; unanswered = 1; settled = 0; tries = 0 };
+  log = [];
+}
+
+-- Another run asks a server that was started anew OPEN and SELECT, and no row says so: the run before it goes on, and takes
+-- the empty port for one that has aired its event.
+questions_without_a_row_report_an_event : (length : Timecode)
+    → (served (port length) (bytes open_bytes ∷ bytes select_bytes ∷ bytes status_bytes ∷ [])
+    ≡ granted_bytes ++ 0x04 ∷ empty_bytes)
+    × (items_served (port length) (bytes open_bytes ∷ bytes select_bytes ∷ bytes status_bytes ∷ []) ≡ [])
+    × ((led plan 0 probing (arrives (bytes empty_bytes) ∷ [])).state.settled ≡ 1)
+questions_without_a_row_report_an_event length = (refl, refl, refl)
+
+-- STATUS is asked between two cues: its answer, that the first one is done, is heard behind the first one's ACK, and the
+-- second one's ACK for that of the PLAY, which didn't come.
+abbrev between_cues : List Arrival
+between_cues = bytes open_bytes ∷ bytes select_bytes ∷ bytes exists_bytes ∷ bytes (cue_front ++ cue_rest) ∷ silence
+    ∷ bytes status_bytes ∷ bytes (cue_front ++ cue_rest) ∷ []
+
+state_between_cues_reports_an_event : (length : Timecode)
+    → (served (port length) between_cues
+    ≡ granted_bytes ++ 0x04 ∷ present_bytes ++ 0x04 ∷ done_bytes ++ 0x04 ∷ [])
+    × (items_served (port length) between_cues ≡ [])
+    × ((prompted plan 0 (bytes granted_bytes ∷ bytes (0x04 ∷ []) ∷ bytes present_bytes ∷ silence ∷ bytes (0x04 ∷ [])
+    ∷ bytes done_bytes ∷ bytes (0x04 ∷ []) ∷ [])).state.settled ≡ 1)
+state_between_cues_reports_an_event length = (refl, refl, refl)
+
 -- What was asked before a run.
 
 -- OPEN was asked, and its answer is heard for the run's own, and that to the run's own OPEN for that of SELECT.

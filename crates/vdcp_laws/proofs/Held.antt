@@ -171,6 +171,7 @@ alters t x notes place bytes (inr is) run = with_downs t notes _ _ (ap (λ (q : 
 pub ahead_one : (t : LateChannel) (s : State) (l : List Exchange) (x : List (List ℕ)) (notes : List Note) (e : LateEvent)
     → IsNoTick e → IsRun (ahead t s l x) notes → IsRun (ahead (after_late_event t e) s l x) notes
 ahead_one t s l x notes event.Tick quiet run = absurd quiet
+ahead_one t s l x notes (event.Ask question) quiet run = absurd quiet
 ahead_one t s l x notes event.Down quiet run = reads t s l x notes t.down run
 ahead_one t s l x notes event.Up quiet run =
     subst (λ (up : List (List ℕ)). IsRun (record t { state = s; log = l; down = t.down ++ x; up = up }) notes)

@@ -65,6 +65,7 @@ ticked_then c (Some command) is some = refl
 noted : (c : LateChannel) (e : LateEvent) → IsOfRun c e
     → after_notes c.plan c.state (notes_of c e) ≡ (after_late_event c e).state
 noted c event.Tick of_run = ticked_then c (given c.plan c.state) refl of_run
+noted c (event.Ask question) of_run = refl
 noted c event.Down of_run = refl
 noted c event.Up of_run = heard_then c (heard_in c.port.state.unit (oldest c.up))
 noted c event.DownCopy of_run = refl
@@ -88,6 +89,7 @@ noted c (event.StrayNak byte) of_run = strayed c c.plan.mode (Nak byte)
 
 pub plan_stays : (c : LateChannel) (e : LateEvent) → (after_late_event c e).plan ≡ c.plan
 plan_stays c event.Tick = refl
+plan_stays c (event.Ask question) = refl
 plan_stays c event.Down = refl
 plan_stays c event.Up = refl
 plan_stays c event.DownCopy = refl
@@ -161,6 +163,7 @@ tick_told c (Some command) is = (is, tt)
 
 event_told : (c : LateChannel) (e : LateEvent) → IsOfRun c e → AllTold c.plan c.state (notes_of c e)
 event_told c event.Tick of_run = tick_told c (given c.plan c.state) refl
+event_told c (event.Ask question) of_run = tt
 event_told c event.Down of_run = tt
 event_told c event.Up of_run = heard_told c (heard_in c.port.state.unit (oldest c.up))
 event_told c event.DownCopy of_run = tt

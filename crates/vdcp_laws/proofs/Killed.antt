@@ -19,7 +19,7 @@ use Rattle.vdcp_words.specs.declared.command.Command.TheVariants as command
 use Rattle.vdcp_drive.specs.Serving.{begins, items_in, left_by, hook_steps}
 use Rattle.vdcp_drive.specs.declared.hearing.Hearing.TheVariants as hearing
 use Rattle.vdcp_laws.specs.TwoEnds.{AreJoined, Ends, IsLateChannel, IsSince, aired_now, at_once, commands_sent, connected_anew, heard_again, later, note_for, notes_ended, notes_given, port_now, went_on, with_command, with_kept}
-use Rattle.vdcp_laws.specs.TwoEnds.{gave, came_up, came_down, waited, passed, paused, shut, took, halted, resumed, restarted}
+use Rattle.vdcp_laws.specs.TwoEnds.{gave, asks, came_up, came_down, waited, passed, paused, shut, took, halted, resumed, restarted}
 use Rattle.vdcp_laws.specs.Announced.{Announces, came_again, played_notes}
 use Rattle.vdcp_laws.specs.Automation.{end_notes}
 use Rattle.vdcp_laws.proofs.Announced.{ends_again, sent_of}
@@ -42,6 +42,7 @@ keeps_on : (plan : Plan) (port : ClockedPort) (asked : List Command) (kept now :
     → IsSince plan port.state.unit kept now → KeepsOn plan port asked kept now
 keeps_on plan port asked kept _ j at_once = record { joined = j; port_is = refl; before_is = refl; commands = refl }
 keeps_on plan port asked kept _ j (later {e} since gave none) = absurd none
+keeps_on plan port asked kept _ j (later {e} since (asks question c is first) none) = absurd none
 keeps_on plan port asked kept _ j (later {e} since (resumed goes) none) = absurd none
 keeps_on plan port asked kept _ j (later {e} since (restarted goes) none) = absurd none
 keeps_on plan port asked kept _ j (later {e} since (came_up piece rest is) none) =

@@ -28,3 +28,4 @@ mod Running
 mod Untorn
 mod AsrunRows
 mod LossyGoings
+mod Asks

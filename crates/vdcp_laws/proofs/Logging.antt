@@ -21,7 +21,7 @@ use Rattle.vdcp_drive.specs.Steps.{end_of, given_notes}
 use Rattle.vdcp_laws.specs.Automation.{end_notes}
 use Rattle.vdcp_laws.specs.Automation.{Prompt, hears, hears_all}
 use Rattle.vdcp_drive.specs.Reading.{completed}
-use Rattle.vdcp_laws.specs.TwoEnds.{AreJoined, begun, went_on, gave, came_up, came_down, waited, passed, paused, shut, took, halted, resumed, restarted}
+use Rattle.vdcp_laws.specs.TwoEnds.{AreJoined, begun, went_on, gave, asks, came_up, came_down, waited, passed, paused, shut, took, halted, resumed, restarted}
 use Rattle.vdcp_laws.specs.TwoEnds.{Ends, GoesOn, as_announced, as_noted, log_now, note_for, notes_ended, notes_given, notes_heard, with_command, with_heard, with_take}
 use Rattle.vdcp_laws.proofs.Commands.{awaits_none_in, ends_alone, exchange_is, hears_comes}
 
@@ -208,6 +208,8 @@ connects_logged plan e logged_so =
 pub are_logged : (plan : Plan) (port : ClockedPort) (asked : List Command) (e : Ends) → AreJoined plan port asked e → IsLogged plan e
 are_logged plan port asked _ begun = record { open_is = refl; closed_is = refl }
 are_logged plan port asked _ (went_on {e} j gave) = gave_logged plan e (are_logged plan port asked e j)
+are_logged plan port asked _ (went_on {e} j (asks question c is none)) =
+    let l = are_logged plan port asked e j in record { open_is = l.open_is; closed_is = l.closed_is }
 are_logged plan port asked _ (went_on {e} j (came_up piece rest is)) =
     let p : Prompt = e.automation in
     let ms : List Content = completed p.held piece in

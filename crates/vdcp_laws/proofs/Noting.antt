@@ -17,7 +17,7 @@ use Rattle.vdcp_auto.specs.declared.exchange.Heard.{Heard}
 use Rattle.vdcp_auto.specs.declared.phase.Mode.{Mode}
 use Rattle.vdcp_laws.specs.Automation.{Prompt, hears, hears_all}
 use Rattle.vdcp_drive.specs.Reading.{completed}
-use Rattle.vdcp_laws.specs.TwoEnds.{AreJoined, begun, went_on, gave, came_up, came_down, waited, passed, paused, shut, took, halted, resumed, restarted}
+use Rattle.vdcp_laws.specs.TwoEnds.{AreJoined, begun, went_on, gave, asks, came_up, came_down, waited, passed, paused, shut, took, halted, resumed, restarted}
 use Rattle.vdcp_laws.specs.TwoEnds.{CanJoin, Ends, GoesOn, as_announced, as_noted, log_now}
 use Rattle.vdcp_laws.proofs.Commands.{hears_comes}
 use Rattle.vdcp_laws.proofs.Queues.{logged_behind}
@@ -83,6 +83,7 @@ pub are_reached : (plan : Plan) (port : ClockedPort) (asked : List Command) (e :
     → AreJoined plan port asked e → Reached plan e.automation.state (log_now e)
 are_reached plan port asked _ can begun = course.begun can.can_start.some can.can_start.few
 are_reached plan port asked _ can (went_on {e} j gave) = called (are_reached plan port asked e can j) Tick
+are_reached plan port asked _ can (went_on {e} j (asks question c is none)) = are_reached plan port asked e can j
 are_reached plan port asked _ can (went_on {e} j (came_up piece rest is)) =
     hears_reached plan port.state.unit e.log_before (completed e.automation.held piece) e.automation
     (are_reached plan port asked e can j)

@@ -7,7 +7,7 @@ use Rattle.vdcp_words.specs.declared.command.Command.{Command}
 use Rattle.vdcp_port.specs.Clock.{ClockedPort}
 use Rattle.vdcp_auto.specs.Course.{logged}
 use Rattle.vdcp_auto.specs.Plan.{Plan}
-use Rattle.vdcp_auto.specs.State.{State}
+use Rattle.vdcp_auto.specs.State.{Stage, State}
 use Rattle.vdcp_auto.specs.Heard.{heard_as}
 use Rattle.vdcp_auto.specs.Turn.{came_to, ended_by, given, outcome_of, stopped, taken}
 use Rattle.vdcp_auto.specs.declared.exchange.Exchange.{Exchange}
@@ -28,6 +28,7 @@ use Rattle.vdcp_drive.specs.Serving.{Service, acts_of, begins, items_in, left_by
 use Rattle.vdcp_drive.specs.Traces.{bytes_of, sent_in}
 use Rattle.vdcp_drive.specs.Turns.{Turn, arrivals, listen, frame}
 use Rattle.vdcp_drive.specs.declared.hearing.Hearing.TheVariants as hearing
+use Rattle.vdcp_world.specs.LateLine.Asking.{Question, asked_in}
 use Rattle.vdcp_world.specs.LateLine.LateChannel.{LateChannel, CanStart, IsLateReached, IsQuestion, made_anew}
 
 -- Both ends of a connection: what was asked over it before the run; the automation, with the exchanges since it began,
@@ -130,6 +131,18 @@ wishing state p = record p { state = state }
 
 -- What the automation does, with its notes.
 
+-- this is asked beside the controller
+abbrev pub asking : Command → Ends → Ends
+asking c e = record e { asked = e.asked ++ c ∷ [] }
+
+-- these are
+abbrev pub asking_all : List Command → Ends → Ends
+asking_all cs e = record e { asked = e.asked ++ cs }
+
+-- this may be asked beside a controller that is at this stage
+abbrev pub MayAsk : Plan → Stage → Command → Type 0
+MayAsk plan stage c = (q : Question) × (asked_in plan q stage ≡ Some c)
+
 -- the next command is given
 abbrev pub with_command : Plan → Ends → Ends
 with_command plan e = with_automation (gives e.automation) (notes_given plan e.automation.state) e
@@ -172,6 +185,10 @@ connected_anew plan port e =
 pub data Step (plan : Plan) (unit : ℕ) (e : Ends) : Ends → Type 0 where
   -- the automation gives its next command, if none is awaited and it hasn't ended
   gave : Step plan unit e (with_command plan e)
+  -- before its first command over this connection it asks what it may ask beside its controller, and hears what it likes of
+  -- the answers
+  asks : (question : Question) (c : Command) → asked_in plan question e.automation.state.stage ≡ Some c
+      → commands_in plan e.automation ≡ [] → Step plan unit e (asking c e)
   came_up : (piece rest : List ℕ) → sent_up e ≡ e.ups ++ (piece ++ rest) → Step plan unit e (with_up piece
       (with_automation (listens plan unit (bytes piece) e.automation)
       (notes_heard plan unit (completed e.automation.held piece) e.automation) e))
@@ -205,6 +222,7 @@ AreJoined plan port asked e = AreLed plan port.state.unit (new_ends port asked) 
 -- no command is given in it
 abbrev pub GivesNone : {plan : Plan} {unit : ℕ} {e e' : Ends} → Step plan unit e e' → Type 0
 GivesNone gave = ⊥
+GivesNone (asks question c is none) = ⊥
 GivesNone (resumed goes) = ⊥
 GivesNone (restarted goes) = ⊥
 GivesNone _ = Unit {0}

@@ -23,5 +23,5 @@ pub use two_ends::{
     a_carried_run_keeps_the_headline, a_journal_makes_the_automation, a_kill_loses_what_came_since,
     an_untorn_run_keeps_the_headline, nothing_airs_after_a_complete_end,
     several_runs_air_each_event_once, two_ends_are_a_late_channel, two_ends_keep_the_headline,
-    undisturbed_ends_play_the_list, untorn_turns_are_at_once,
+    undisturbed_ends_play_the_list, untorn_turns_are_at_once, what_is_asked_beside_joins,
 };

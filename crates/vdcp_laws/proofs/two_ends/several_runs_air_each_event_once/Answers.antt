@@ -1,4 +1,4 @@
-use Rattle.std.proofs.Common.{◌+◌, ◌++◌, ◌≡◌, ◌≤◌, ℕ, length, sym, ap, subst, ◌∙◌, List}
+use Rattle.std.proofs.Common.{◌+◌, ◌++◌, ◌≤◌, ℕ, length, sym, ap, subst, ◌∙◌, List}
 use Rattle.vdcp_value.specs.declared.part.Item.{Item}
 use Rattle.vdcp_journal.specs.Airings.{settled_in}
 use Rattle.vdcp_laws.specs.TwoEnds.{aired_now, with_kept}
