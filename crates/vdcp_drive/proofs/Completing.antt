@@ -19,7 +19,7 @@ use Rattle.vdcp_auto.specs.Heard.{heard_as}
 use Rattle.vdcp_auto.specs.declared.exchange.Heard.{Heard}
 use Rattle.vdcp_drive.specs.HearingLaws.{completed_both, held_both}
 use Rattle.vdcp_drive.specs.Below.{Below}
-use Rattle.vdcp_drive.specs.Reading.{Held, holds, skips, held_with, held_after, held_by, completed, IsAfoot, IsReader}
+use Rattle.vdcp_drive.specs.Reading.{Held, holds, skips, held_with, held_after, held_by, completed, IsAfoot}
 use Rattle.vdcp_drive.specs.Hearing.{heard_by}
 
 -- Bytes that begin a message and are no whole one.
@@ -200,89 +200,17 @@ completes_nothing (x ∷ xs) = completes_nothing xs
 
 -- What is read, by what the reader gave for these bytes.
 
--- these bytes were read, and this is heard in the message that they complete, if they complete one
-pub record HasRead (unit : ℕ) (at : Held) (piece : List ℕ) (at' : Held) (heard : Option Heard) : Type 0 where
-  pub takes : at' ≡ held_after at piece
-  pub hears : option_to_list heard ≡ heard_by unit at piece
-
-pub read_none : (unit : ℕ) (xs : List ℕ) → HasRead unit skips xs skips None
-read_none unit xs =
-    record { takes = sym (completes_nothing xs).1; hears = sym (ap (map (heard_as unit)) (completes_nothing xs).0) }
-
-pub read_message : (law : Below) (unit : ℕ) (p : Progress) (piece : List ℕ) (n : ℕ) (m : Content) (h : Heard)
-    → IsReader (Some p)
-    → Gives p piece n (message m) → h ≡ heard_as unit m
-    → HasRead unit (held_by (Some p)) (take n piece) (holds []) (Some h)
-read_message law unit (reading taken held) piece n m h begun t is =
-    let c = completes law held (take n piece) m (omega (arith, t.some, length-take-le n piece t.within)) t.spelt
-    in record {
-      takes = sym c.1;
-      hears = ap (λ (x : Heard). x ∷ []) is ∙ sym (ap (map (heard_as unit)) c.0);
-    }
-read_message law unit failed piece n m h begun t is = absurd begun
-
-pub read_more : (law : Below) (unit : ℕ) (p : Progress) (piece : List ℕ) (n : ℕ) → IsReader (Some p)
-    → Gives p piece n more → HasRead unit (held_by (Some p)) (take n piece) (held_by (Some (fed p piece n more))) None
-read_more law unit (reading taken held) piece n begun t =
-    let c = completes_none law held (take n piece) t.unfinished in
-    record { takes = sym c.1; hears = sym (ap (map (heard_as unit)) c.0) }
-read_more law unit failed piece n begun t = absurd begun
-
-wrong_so : (law : Below) (unit : ℕ) (taken : ℕ) (held piece : List ℕ) (n : ℕ) (which : Fault) (place : ℕ)
-    → IsUnfinished held → AreOctets piece
-    → TakesWrong taken held piece n which → Reads (held ++ take n piece) [] (fault which place)
-    → HasRead unit (holds held) (take n piece) skips None
-wrong_so law unit taken held piece n which place u fits t r =
-    let all : AreOctets (held ++ take n piece) =
-    All-append (λ b. b < 256) held (take n piece) (unfinished_octets law held u) (All-take (λ b. b < 256) n piece fits)
-    in
-    let c = completes_fault law held (take n piece) which which place (omega (arith, t.some, length-take-le n piece t.within))
-    all t.first r in
-    record { takes = sym c.1; hears = sym (ap (map (heard_as unit)) c.0) }
-
-wrong_by : (law : Below) (unit : ℕ) (taken : ℕ) (held piece : List ℕ) (n : ℕ) (which : Fault) (place : ℕ)
-    → taken ≡ length held → IsUnfinished held
-    → AreOctets piece → TakesFault taken held piece n which → Reads (held ++ take n piece) [] (fault which place)
-    → HasRead unit (holds held) (take n piece) skips None
-wrong_by law unit taken held piece n Long place is u fits t r = absurd (never_long law taken n held piece is t)
-wrong_by law unit taken held piece n which place is u fits t r =
-    wrong_so law unit taken held piece n which place u fits t r
-
-pub read_wrong : (law : Below) (unit : ℕ) (p : Progress) (piece : List ℕ) (n : ℕ) (which : Fault) (place : ℕ)
-    (then_is : Progress) → IsReader (Some p)
-    → AreOctets piece → Gives p piece n (wrong which place)
-    → ((burst : List ℕ) (ms : List Content) → Follows burst ms p
-    → FollowsNext (burst ++ take n piece) ms (wrong which place) then_is)
-    → HasRead unit (held_by (Some p)) (take n piece) skips None
-read_wrong law unit (reading taken held) piece n which place then_is begun fits t follows =
-    let f : Follows held [] (reading taken held) =
-    subst (λ (k : ℕ). Follows held [] (reading k held)) (sym begun.0) (follows_held law held begun.1) in
-    let r : Reads ((held ++ take n piece) ++ []) [] (fault which place) = (follows held [] f).0 [] in
-    wrong_by law unit taken held piece n which place begun.0 begun.1 fits t.0
-    (subst (λ (b : List ℕ). Reads b [] (fault which place)) (append-nil (held ++ take n piece)) r)
-read_wrong law unit failed piece n which place then_is begun fits t follows = absurd begun
-
-pub begun_more : (p : Progress) (piece : List ℕ) (n : ℕ) → IsReader (Some p) → Gives p piece n more
-    → IsReader (Some (fed p piece n more))
-begun_more (reading taken held) piece n begun t = (
-  omega (arith, begun.0, t.all, length-append held (take n piece), length-take-le n piece (omega (arith, t.all))),
-  t.unfinished,
-)
-begun_more failed piece n begun t = absurd begun
-
--- What the reader of a server gave for them.
-
 -- these bytes were read, which complete these messages
 pub record HasTold (held : Held) (piece : List ℕ) (held' : Held) (ms : List Content) : Type 0 where
   pub takes : held' ≡ held_after held piece
   pub gives : completed held piece ≡ ms
 
-told_wrong : (law : Below) (taken : ℕ) (held piece : List ℕ) (n : ℕ) (which other : Fault) (place : ℕ)
+wrong_by : (law : Below) (taken : ℕ) (held piece : List ℕ) (n : ℕ) (which other : Fault) (place : ℕ)
     → taken ≡ length held → IsUnfinished held
     → AreOctets (take n piece) → TakesFault taken held piece n which → Reads (held ++ take n piece) [] (fault other place)
     → HasTold (holds held) (take n piece) skips []
-told_wrong law taken held piece n Long other place is u fits t r = absurd (never_long law taken n held piece is t)
-told_wrong law taken held piece n which other place is u fits t r =
+wrong_by law taken held piece n Long other place is u fits t r = absurd (never_long law taken n held piece is t)
+wrong_by law taken held piece n which other place is u fits t r =
     let all : AreOctets (held ++ take n piece) =
     All-append (λ b. b < 256) held (take n piece) (unfinished_octets law held u) fits in
     let c = completes_fault law held (take n piece) which other place (omega (arith, t.some, length-take-le n piece t.within))
@@ -299,7 +227,7 @@ pub told_by : (law : Below) (p : Progress) (piece : List ℕ) (n : ℕ) (answer 
     → AreOctets (take n piece) → Gives p piece n answer
     → ((burst : List ℕ) (ms : List Content) → Follows burst ms p
     → Follows (burst ++ take n piece) (ms ++ with_message answer []) (fed p piece n answer))
-    → HasTold (held_by (Some p)) (take n piece) (held_by (Some (renewed answer (fed p piece n answer))))
+    → HasTold (held_by p) (take n piece) (held_by (renewed answer (fed p piece n answer)))
     (with_message answer []) × IsAfoot (renewed answer (fed p piece n answer))
 told_by law (reading taken held) piece n (message m) begun fits t follows =
     let c = completes law held (take n piece) m (omega (arith, t.some, length-take-le n piece t.within)) t.spelt in
@@ -317,7 +245,7 @@ told_by law (reading taken held) piece n (wrong which place) begun fits t follow
     subst (λ (k : ℕ). Follows held [] (reading k held)) (sym begun.0) (follows_held law held begun.1) in
     let g = follows held [] f in
     let r : Reads ((held ++ take n piece) ++ []) [] (fault g.0 g.1) = g.2 [] in (
-      told_wrong law taken held piece n which g.0 g.1 begun.0 begun.1 fits t.0
+      wrong_by law taken held piece n which g.0 g.1 begun.0 begun.1 fits t.0
           (subst (λ (b : List ℕ). Reads b [] (fault g.0 g.1)) (append-nil (held ++ take n piece)) r),
       tt,
     )
@@ -326,6 +254,22 @@ told_by law failed piece n more begun fits t follows =
     let c = completes_nothing (take n piece) in
     (record { takes = sym c.1; gives = c.0 }, tt)
 told_by law failed piece n (wrong which place) begun fits t follows = absurd t
+
+-- and heard by an automation
+pub record HasHeard (unit : ℕ) (held : Held) (piece : List ℕ) (held' : Held) (hs : List Heard) : Type 0 where
+  pub takes : held' ≡ held_after held piece
+  pub hears : hs ≡ heard_by unit held piece
+
+pub heard_of : (law : Below) (unit : ℕ) (p : Progress) (piece : List ℕ) (n : ℕ) (answer : Answer) → IsAfoot p
+    → AreOctets piece → Gives p piece n answer
+    → ((burst : List ℕ) (ms : List Content) → Follows burst ms p
+    → FollowsNext (burst ++ take n piece) ms answer (fed p piece n answer))
+    → HasHeard unit (held_by p) (take n piece) (held_by (renewed answer (fed p piece n answer)))
+    (map (heard_as unit) (with_message answer [])) × IsAfoot (renewed answer (fed p piece n answer))
+heard_of law unit p piece n answer begun fits gives follows =
+    let t = told_by law p piece n answer begun (All-take (λ b. b < 256) n piece fits) gives
+    (λ burst ms f. law.further (burst ++ take n piece) ms answer (fed p piece n answer) (follows burst ms f)) in
+    (record { takes = t.0.takes; hears = ap (map (heard_as unit)) (sym t.0.gives) }, t.1)
 
 -- whole messages, and then a beginning of one
 

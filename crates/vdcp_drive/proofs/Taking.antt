@@ -136,7 +136,7 @@ called law AtOnce (in_burst burst) reader new rest behind answer h r fits = absu
 called law AtOnce (in_stream held) reader new rest behind answer h r fits =
     let t = told_by law reader rest r.count answer h.afoot fits r.gives
     (λ burst ms f. subst (Follows (burst ++ take r.count rest) (ms ++ with_message answer [])) r.after (r.follows burst ms f)) in
-    let told : HasTold held (take r.count rest) (held_by (Some (renewed answer new))) (with_message answer []) =
+    let told : HasTold held (take r.count rest) (held_by (renewed answer new)) (with_message answer []) =
     rw (h.is, r.after) t.0 in record {
       messages = told.gives;
       has_read = record { is = sym told.takes; afoot = rw r.after t.1 };

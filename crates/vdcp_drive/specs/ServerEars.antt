@@ -1,5 +1,5 @@
 -- How a server hears what comes: as bursts, each ended by a silence, or as one stream.
-use Rattle.std.specs.Prelude.{ℕ, ◌≡◌, List, [], ◌∷◌, ◌++◌, length, drop, Some}
+use Rattle.std.specs.Prelude.{ℕ, ◌≡◌, List, [], ◌∷◌, ◌++◌, length, drop}
 use Rattle.vdcp_frame.specs.Burst.{messages_of, end_of}
 use Rattle.vdcp_frame.specs.Message.{Content, AreOctets}
 use Rattle.vdcp_frame.specs.Progress.{Progress}
@@ -55,7 +55,7 @@ pub record HasFollowed (burst : List ℕ) (reader : Progress) : Type 0 where
   pub follows : Follows burst (messages_of burst) reader
 
 pub record HasHeld (held : Held) (reader : Progress) : Type 0 where
-  pub is : held ≡ held_by (Some reader)
+  pub is : held ≡ held_by reader
   pub afoot : IsAfoot reader
 
 abbrev pub HasRead : Hearing → ServerEar → Progress → Type 0

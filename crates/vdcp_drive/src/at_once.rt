@@ -1,6 +1,6 @@
 //! The ear for a line that keeps order: it doesn't wait for silences.
-ghost use Rattle.std.specs.Prelude.{◌≡◌, [], Some};
-ghost use Rattle.vdcp_drive.specs.Reading.{IsReader, held_by, holds};
+ghost use Rattle.std.specs.Prelude.{◌≡◌, []};
+ghost use Rattle.vdcp_drive.specs.Reading.{holds};
 
 use crate::ear::Ear;
 use crate::laws;
@@ -12,18 +12,17 @@ use vdcp_frame::{Got, Reader};
 /// read on; only after a fault is all passed over until the next silence. Nothing that waits is dropped.
 #[derive(Drop)]
 pub struct AtOnce {
-    // none after a fault
-    reader: Option<Reader>,
+    reader: Reader,
 }
 
 impl Model for AtOnce {
-    ghost use Rattle.vdcp_drive.specs.Reading.{Held, IsReader, held_by};
+    ghost use Rattle.vdcp_drive.specs.Reading.{Held, IsAfoot, held_by};
 
     ghost Value = { Held };
 
     ghost view = { λ e. held_by e.reader };
 
-    ghost invariant = { λ e. IsReader e.reader };
+    ghost invariant = { λ e. IsAfoot e.reader };
 }
 
 impl AtOnce {
@@ -32,7 +31,7 @@ impl AtOnce {
         ensures { result ≡ holds [] }
     {
         AtOnce {
-            reader: Some(new_reader()),
+            reader: Reader::new(),
         }
     }
 }
@@ -50,38 +49,24 @@ impl Ear for AtOnce {
     #[inline]
     fn read(&mut self, unit: u8, piece: &[u8]) -> (usize, Option<Heard>) {
         laws::laws_below();
-        let Some(reader) = &mut self.reader else {
-            return (piece.len(), None);
-        };
-        let (taken, got) = reader.feed(piece);
+        let (taken, got) = self.reader.feed(piece);
         match got {
             Got::Message(message) => {
                 let heard = Heard::of_message(&message, unit);
-                reader.silence();
+                self.reader.silence();
                 (taken, Some(heard))
             }
             Got::More => (taken, None),
-            Got::Fault(_, _) => {
-                self.reader = None;
-                (taken, None)
-            }
+            Got::Fault(_, _) => (taken, None),
         }
     }
 
     fn rest(&mut self) -> Option<Heard> {
-        if self.reader.is_none() {
-            self.reader = Some(new_reader());
+        if self.reader.has_failed() {
+            self.reader.silence();
         }
         None
     }
 
     ghost pieces = { at_once_in_pieces };
-}
-
-// A reader that is between two messages.
-fn new_reader() -> Reader
-    ensures place { IsReader (Some result) }
-    ensures holds { held_by (Some result) ≡ holds [] }
-{
-    Reader::new()
 }

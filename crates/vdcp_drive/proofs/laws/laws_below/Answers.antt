@@ -7,6 +7,7 @@ returns c = record {
   octets = c.what_is_spelt_is_bytes.ensures.message;
   size = c.what_is_spelt_is_bytes.ensures.size;
   start = c.what_is_fed_is_followed.ensures.start;
+  further = c.what_is_fed_is_followed.ensures.next;
   alone = c.a_spelling_is_its_message.ensures.messages;
   before = c.a_spelling_is_its_message.ensures.before;
   some = c.one_reading.ensures.some;
