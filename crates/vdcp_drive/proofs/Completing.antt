@@ -4,14 +4,12 @@ use Rattle.std.proofs.Common.{append_assoc, append-nil, length-append, arith}
 use Rattle.std.proofs.Math.Seq.{take-append_seam}
 use Rattle.std.proofs.lemmas.List.{length-take-le}
 use Rattle.std.proofs.lemmas.List.Elements.{All-append, All-take}
-use Rattle.std.specs.Option.{option_to_list}
-use Rattle.std.specs.Prelude.{Option, Some, None}
 use Rattle.vdcp_frame.specs.Burst.{messages_of, end_of}
 use Rattle.vdcp_frame.specs.Head.{IsWrong}
 use Rattle.vdcp_frame.specs.Message.{Content, AreOctets, Spells}
 use Rattle.vdcp_frame.specs.Progress.{Progress, reading, failed}
 use Rattle.vdcp_frame.specs.Pieces.{with_message}
-use Rattle.vdcp_frame.specs.Reader.{Answer, message, more, wrong, Gives, fed, Follows, FollowsNext, TakesFault, TakesWrong, TakesLong}
+use Rattle.vdcp_frame.specs.Reader.{Answer, message, more, wrong, Gives, fed, Follows, FollowsNext, TakesFault, TakesLong}
 use Rattle.vdcp_frame.specs.Reading.{End, clean, cut, fault, Reads, Begins, IsUnfinished, SpellsAll}
 use Rattle.vdcp_frame.specs.declared.message.Fault.{Fault}
 use Rattle.vdcp_frame.specs.declared.message.Fault.TheVariants.{Long}

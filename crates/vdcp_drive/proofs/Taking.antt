@@ -3,7 +3,8 @@ use Rattle.std.proofs.Common.{ℕ, ◌≡◌, ◌<◌, ◌≤◌, ◌+◌, get_o
 use Rattle.std.proofs.Math.Seq.{drop-append_seam}
 use Rattle.std.proofs.lemmas.Grind.{common_steps}
 use Rattle.std.proofs.lemmas.List.{length-take, map-append, take-append-drop}
-use Rattle.std.proofs.lemmas.List.Elements.{All-append, All-drop, All-from_get_or}
+use Rattle.std.proofs.lemmas.List.Elements.{All-append, All-drop, All-from_get_or, All-take}
+use Rattle.std.specs.Option.{option_to_list}
 use Rattle.std.specs.Prelude.{Option, Some, Result, Ok, Err, OnErr, min}
 use Rattle.vdcp_value.specs.declared.part.Item.{Item}
 use Rattle.vdcp_frame.specs.Burst.{messages_of, end_of}
@@ -14,8 +15,8 @@ use Rattle.vdcp_frame.specs.Reader.{Answer, message, more, wrong, Follows}
 use Rattle.vdcp_frame.specs.declared.message.Fault.{Fault}
 use Rattle.vdcp_frame.specs.Reading.{Reads, ReadsShort, burst_limit}
 use Rattle.vdcp_words.specs.declared.reply.Reply.{Reply}
-use Rattle.vdcp_port.specs.Answers.{after_messages, aired_on_way, answers_to, bytes_for, reply_bytes}
-use Rattle.vdcp_port.specs.Clock.{ClockedPort}
+use Rattle.vdcp_port.specs.Answers.{after_messages, aired_on_way, answers_to, bytes_for, items_for, reply_bytes}
+use Rattle.vdcp_port.specs.Clock.{after_message, answer_to, ClockedPort}
 use Rattle.vdcp_wire.specs.Acts.{Act, sends, OfFront}
 use Rattle.vdcp_drive.specs.Below.{Below}
 use Rattle.vdcp_drive.specs.ServeLeaves.{HasBroken, HasTaken}
@@ -175,11 +176,13 @@ pub parts_on : (piece front rest left : List ℕ) (count : ℕ) → piece ≡ fr
     → piece ≡ (front ++ take count rest) ++ left
 parts_on piece front rest left count parts leaves = rw (parts, leaves) (simp (append_assoc, take-append-drop))
 
--- nothing is left
-pub read_whole : (piece front rest left : List ℕ) (count : ℕ) → piece ≡ front ++ rest → left ≡ drop count rest
-    → left ≡ [] → front ++ take count rest ≡ piece
-read_whole piece front rest left count parts leaves none =
-    sym (simp (none, append-nil) at (parts_on piece front rest left count parts leaves))
+pub fitting : (piece : List ℕ) → ((i : ℕ) → get_or piece i 0 < 256) → AreOctets piece
+fitting piece h = All-from_get_or (λ b. b < 256) piece 0 (λ i _. h i)
+
+octets_rest : (piece front rest : List ℕ) → piece ≡ front ++ rest → AreOctets piece → AreOctets rest
+octets_rest piece front rest is h =
+    subst AreOctets (ap (drop (length front)) is ∙ drop-append_seam front rest)
+    (All-drop (λ b. b < 256) (length front) piece h)
 
 -- Calls after calls.
 
@@ -268,14 +271,6 @@ pub on_err_of : {T E P : Type 0} (r : Result T E) → P → OnErr r P
 on_err_of (Ok x) p = tt
 on_err_of (Err e) p = p
 
-pub fitting : (piece : List ℕ) → ((i : ℕ) → get_or piece i 0 < 256) → AreOctets piece
-fitting piece h = All-from_get_or (λ b. b < 256) piece 0 (λ i _. h i)
-
-pub behind : (piece front rest : List ℕ) → piece ≡ front ++ rest → AreOctets piece → AreOctets rest
-behind piece front rest is h =
-    subst AreOctets (ap (drop (length front)) is ∙ drop-append_seam front rest)
-    (All-drop (λ b. b < 256) (length front) piece h)
-
 -- The reader behind a call, by how the server hears.
 
 pub left_once : (hearing : Hearing) (m : Content) (new : Progress) → hearing ≡ AtOnce
@@ -295,5 +290,90 @@ pub left_wrong : (hearing : Hearing) (which : Fault) (place : ℕ) (new : Progre
 left_wrong AtSilences which place new = refl
 left_wrong AtOnce which place new = refl
 
-pub ahead : (piece front rest : List ℕ) → piece ≡ front ++ rest → AreOctets piece → AreOctets front
-ahead piece front rest is fits = octets_front front rest (subst AreOctets is fits)
+-- What was taken of a piece so far, and answered.
+pub record IsTaken {W : Type 0} (does : Act → W → W → Type 0) (hearing : Hearing) (port₀ : ClockedPort) (reader₀ : Progress)
+    (aired₀ : Option Item) (wire₀ : W) (piece rest : List ℕ) (port : ClockedPort) (reader : Progress) (aired : Option Item)
+    (wire : W) : Type 0 where
+  pub front : List ℕ
+  pub parts : piece ≡ front ++ rest
+  pub taken : (ear : ServerEar) → HasRead hearing ear reader₀
+      → HasTaken does hearing (record { port = port₀; ear = ear }) aired₀ wire₀ front port reader aired wire
+
+pub begins_so : {W : Type 0} (does : Act → W → W → Type 0) (hearing : Hearing) (port : ClockedPort) (reader : Progress)
+    (aired : Option Item) (wire : W) (piece : List ℕ) → IsTaken does hearing port reader aired wire piece piece port reader aired wire
+begins_so does hearing port reader aired wire piece = record {
+  front = [];
+  parts = refl;
+  taken = λ ear h. taken_none does hearing (record { port = port; ear = ear }) reader aired wire h;
+}
+
+pub goes_further : {W : Type 0} {does : Act → W → W → Type 0} {hearing : Hearing} {port₀ port₁ port₂ : ClockedPort}
+    {reader₀ reader₁ reader₂ : Progress} {aired₀ aired₁ aired₂ : Option Item} {wire₀ wire₁ wire₂ : W}
+    {piece rest later : List ℕ} {answer : Answer} (law : Below) (reader' : Progress) → AreOctets piece
+    → IsTaken does hearing port₀ reader₀ aired₀ wire₀ piece rest port₁ reader₁ aired₁ wire₁
+    → ReadsOn reader₁ rest answer later reader₂ → left hearing answer reader₂ ≡ reader'
+    → port₂ ≡ after_messages port₁ (with_message answer [])
+    → aired₂ ≡ last_aired aired₁ (aired_on_way port₁ (with_message answer []))
+    → Chain does (sending port₁.state.unit (answers_to port₁ (with_message answer []))) wire₁ wire₂
+    → IsTaken does hearing port₀ reader₀ aired₀ wire₀ piece later port₂ reader' aired₂ wire₂
+goes_further {W} {does} {hearing} {port₀} {port₁} {port₂} {reader₀} {reader₁} {reader₂} {aired₀} {aired₁} {aired₂} {wire₀}
+    {wire₁} {wire₂} {piece} {rest} {later} {answer} law reader' fits h r is leaves puts sent =
+    let some : AreOctets (take r.count rest) =
+    All-take (λ b. b < 256) r.count rest (octets_rest piece h.front rest h.parts fits) in
+    let before : AreOctets h.front = octets_front h.front rest (subst AreOctets h.parts fits) in record {
+      front = h.front ++ take r.count rest;
+      parts = parts_on piece h.front rest later r.count h.parts r.leaves;
+      taken = λ ear read. subst (λ (x : Progress). HasTaken does hearing (record { port = port₀; ear = ear }) aired₀ wire₀
+          (h.front ++ take r.count rest) port₂ x aired₂ wire₂) is
+          (taken_on does law hearing (record { port = port₀; ear = ear }) port₁ port₂ reader₁ reader₂ aired₀ aired₁ aired₂
+          wire₀ wire₁ wire₂ h.front rest later answer (fit hearing ear reader₀ read) before (h.taken ear read) r some leaves
+          puts sent);
+    }
+
+-- a message was answered
+pub answers_further : {W : Type 0} {does : Act → W → W → Type 0} {hearing : Hearing} {port₀ port₁ port₂ : ClockedPort}
+    {reader₀ reader₁ reader₂ : Progress} {aired₀ aired₁ aired₂ : Option Item} {wire₀ wire₁ wire₂ : W}
+    {piece rest later : List ℕ} {m : Content} (law : Below)
+    (one : (p : ClockedPort) (n : Content) → aired_on_way p (n ∷ []) ≡ items_for p n) (reader' : Progress)
+    → AreOctets piece → IsTaken does hearing port₀ reader₀ aired₀ wire₀ piece rest port₁ reader₁ aired₁ wire₁
+    → ReadsOn reader₁ rest (message m) later reader₂ → left hearing (message m) reader₂ ≡ reader'
+    → port₂ ≡ after_message port₁ m → aired₂ ≡ last_aired aired₁ (items_for port₁ m)
+    → Chain does (sending port₁.state.unit (option_to_list (answer_to port₁ m))) wire₁ wire₂
+    → IsTaken does hearing port₀ reader₀ aired₀ wire₀ piece later port₂ reader' aired₂ wire₂
+answers_further {W} {does} {hearing} {port₀} {port₁} {port₂} {reader₀} {reader₁} {reader₂} {aired₀} {aired₁} {aired₂} {wire₀}
+    {wire₁} {wire₂} {piece} {rest} {later} {m} law one reader' fits h r is leaves puts sent =
+    goes_further law reader' fits h r is leaves
+    (puts ∙ ap (λ (items : List Item). last_aired aired₁ items) (sym (one port₁ m)))
+    (subst (λ (l : List Reply). Chain does (sending port₁.state.unit l) wire₁ wire₂)
+    (sym (append-nil (option_to_list (answer_to port₁ m)))) sent)
+
+pub breaks_off : {W : Type 0} {does : Act → W → W → Type 0} {hearing : Hearing} {port₀ port₁ port₂ : ClockedPort}
+    {reader₀ reader₁ reader₂ : Progress} {aired₀ aired₁ aired₂ : Option Item} {wire₀ wire₁ wire₂ : W}
+    {piece rest later : List ℕ} {m : Content} (law : Below)
+    (one : (p : ClockedPort) (n : Content) → aired_on_way p (n ∷ []) ≡ items_for p n) → AreOctets piece
+    → IsTaken does hearing port₀ reader₀ aired₀ wire₀ piece rest port₁ reader₁ aired₁ wire₁
+    → ReadsOn reader₁ rest (message m) later reader₂
+    → port₂ ≡ after_message port₁ m → aired₂ ≡ last_aired aired₁ (items_for port₁ m)
+    → OfFront (bytes_for port₁ m) (λ b. does (sends b) wire₁ wire₂) → (ear : ServerEar) → HasRead hearing ear reader₀
+    → HasBroken does (record { port = port₀; ear = ear }) aired₀ wire₀ piece port₂ aired₂ wire₂
+breaks_off {W} {does} {hearing} {port₀} {port₁} {port₂} {reader₀} {reader₁} {reader₂} {aired₀} {aired₁} {aired₂} {wire₀}
+    {wire₁} {wire₂} {piece} {rest} {later} {m} law one fits h r leaves puts sent ear read =
+    let all : AreOctets rest = octets_rest piece h.front rest h.parts fits in
+    let before : AreOctets h.front = octets_front h.front rest (subst AreOctets h.parts fits) in
+    subst (λ (b : List ℕ). HasBroken does (record { port = port₀; ear = ear }) aired₀ wire₀ b port₂ aired₂ wire₂)
+    (sym h.parts)
+    (broken_on does law hearing (record { port = port₀; ear = ear }) port₁ port₂ reader₁ reader₂ aired₀ aired₁ aired₂ wire₀
+    wire₁ wire₂ h.front rest later m (fit hearing ear reader₀ read) before (h.taken ear read) r
+    (All-take (λ b. b < 256) r.count rest all)
+    (subst AreOctets (sym r.leaves) (All-drop (λ b. b < 256) r.count rest all)) leaves
+    (puts ∙ ap (λ (items : List Item). last_aired aired₁ items) (sym (one port₁ m))) sent)
+
+-- nothing is left
+pub is_whole : {W : Type 0} {does : Act → W → W → Type 0} {hearing : Hearing} {port₀ port : ClockedPort}
+    {reader₀ reader : Progress} {aired₀ aired : Option Item} {wire₀ wire : W} {piece rest : List ℕ}
+    → IsTaken does hearing port₀ reader₀ aired₀ wire₀ piece rest port reader aired wire → rest ≡ [] → (ear : ServerEar)
+    → HasRead hearing ear reader₀
+    → HasTaken does hearing (record { port = port₀; ear = ear }) aired₀ wire₀ piece port reader aired wire
+is_whole {W} {does} {hearing} {port₀} {port} {reader₀} {reader} {aired₀} {aired} {wire₀} {wire} {piece} {rest} h none ear read =
+    subst (λ (b : List ℕ). HasTaken does hearing (record { port = port₀; ear = ear }) aired₀ wire₀ b port reader aired wire)
+    (sym (simp (none, append-nil) at h.parts)) (h.taken ear read)

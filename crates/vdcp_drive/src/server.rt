@@ -29,12 +29,18 @@ use vdcp_words::Reply;
 /// goes out as soon as its message is read.
 #[derive(Drop)]
 pub struct Server<C: Catalogue, W: Wire> {
-    port: Port<C>,
+    listener: Listener<C>,
     wire: W,
+    failed: bool,
+}
+
+// What a server is but for its wire.
+#[derive(Drop)]
+struct Listener<C: Catalogue> {
+    port: Port<C>,
     hearing: Hearing,
     reader: Reader,
     aired: Option<Item>,
-    failed: bool,
 }
 
 impl<C: Catalogue, W: Wire> Model for Server<C, W> {
@@ -43,7 +49,13 @@ impl<C: Catalogue, W: Wire> Model for Server<C, W> {
 
     ghost Value = { Serving W };
 
-    ghost view = { λ s. record { port = s.port; wire = s.wire; hearing = s.hearing; reader = s.reader; aired = s.aired } };
+    ghost view = { λ s. record {
+      port = s.listener.port;
+      wire = s.wire;
+      hearing = s.listener.hearing;
+      reader = s.listener.reader;
+      aired = s.listener.aired;
+    } };
 
     ghost invariant = { λ s. W.failures s.wire ≡ (if s.failed then 1 else 0) };
 }
@@ -59,11 +71,13 @@ impl<C: Catalogue, W: Wire> Server<C, W> {
         ensures aired { result.aired ≡ None }
     {
         Server {
-            port,
+            listener: Listener {
+                port,
+                hearing,
+                reader: Reader::new(),
+                aired: None,
+            },
             wire,
-            hearing,
-            reader: Reader::new(),
-            aired: None,
             failed: false,
         }
     }
@@ -79,7 +93,7 @@ impl<C: Catalogue, W: Wire> Server<C, W> {
     pub fn port(&self) -> &Port<C>
         ensures { result.now ≡ self.now.port }
     {
-        &self.port
+        &self.listener.port
     }
 
     /// Its port and its wire; the port is as its turns have left it, for another server.
@@ -87,14 +101,14 @@ impl<C: Catalogue, W: Wire> Server<C, W> {
         ensures port { result.0 ≡ self.port }
         ensures wire { result.1 ≡ self.wire }
     {
-        (self.port, self.wire)
+        (self.listener.port, self.wire)
     }
 
     /// The item that the last turn put to air, if it put one there.
     pub fn aired(&self) -> Option<Item>
         ensures { result ≡ self.now.aired }
     {
-        self.aired
+        self.listener.aired
     }
 
     /// Takes this many turns, or fewer if the other end closes or the hooks give the line up. At each these are asked what
@@ -116,7 +130,7 @@ impl<C: Catalogue, W: Wire> Server<C, W> {
             let Some(turned) = self.turn_due(hooks) else {
                 return Ok(TurnsEnd::GivenUp);
             };
-            hooks.look(&self.port, self.aired, turned);
+            hooks.look(&self.listener.port, self.listener.aired, turned);
             if turned?.closes() {
                 return Ok(TurnsEnd::Closed);
             }
@@ -154,8 +168,8 @@ impl<C: Catalogue, W: Wire> Server<C, W> {
     pub fn pass_frame(&mut self)
         ensures { self.new ≡ record self.old { port = after_frame self.old.port; aired = None } }
     {
-        self.aired = None;
-        self.port.frame();
+        self.listener.aired = None;
+        self.listener.port.frame();
     }
 
     /// Listens once on the wire, and answers what came. `Device` if the wire fails or has failed before.
@@ -172,13 +186,7 @@ impl<C: Catalogue, W: Wire> Server<C, W> {
         if self.failed {
             return Err(DriveFault::Device);
         }
-        match hear(
-            self.hearing,
-            &mut self.reader,
-            &mut self.port,
-            &mut self.aired,
-            &mut self.wire,
-        ) {
+        match self.listener.hear(&mut self.wire) {
             Ok(came) => Ok(came),
             Err(WireFault) => {
                 self.failed = true;
@@ -188,67 +196,59 @@ impl<C: Catalogue, W: Wire> Server<C, W> {
     }
 }
 
-// Listens once, and answers what came.
-fn hear<C: Catalogue, W: Wire>(
-    hearing: Hearing,
-    reader: &mut Reader,
-    port: &mut Port<C>,
-    aired: &mut Option<Item>,
-    wire: &mut W,
-) -> Result<Came, WireFault>
-    requires { W.failures wire.old ≡ 0 }
-    ensures serves { (can : Bool) (ear : ServerEar) → HasRead hearing ear reader.old →
-        HasTurned W.does can hearing (record { port = port.old; ear = ear }) wire.old (listened result) port.new reader.new
-        aired.new wire.new }
-    ensures works { OnOk result (W.failures wire.new ≡ 0) }
-    ensures failed { OnErr result (W.failures wire.new ≡ 1) }
-{
-    *aired = None;
-    let mut buffer = [0; PIECE];
-    let came = wire.listen(&mut buffer)?;
-    match came {
-        Came::Bytes(n) => take_piece(hearing, reader, port, aired, wire, &buffer[..n])?,
-        Came::Silence => {
-            let reply = rest(hearing, reader);
-            end_burst(hearing, reply, port, wire)?;
-        }
-        Came::Closed => {}
-    }
-    Ok(came)
-}
-
-// Takes bytes, and answers each message once it is whole.
-fn take_piece<C: Catalogue, W: Wire>(
-    hearing: Hearing,
-    reader: &mut Reader,
-    port: &mut Port<C>,
-    aired: &mut Option<Item>,
-    wire: &mut W,
-    piece: &[u8],
-) -> Result<(), WireFault>
-    requires { W.failures wire.old ≡ 0 }
-    ensures taken { (ear : ServerEar) → HasRead hearing ear reader.old → OnOk result (HasTaken W.does hearing
-        (record { port = port.old; ear = ear }) aired.old wire.old piece.now port.new reader.new aired.new
-        wire.new) }
-    ensures broken { (ear : ServerEar) → HasRead hearing ear reader.old → OnErr result (HasBroken W.does
-        (record { port = port.old; ear = ear }) aired.old wire.old piece.now port.new aired.new wire.new) }
-    ensures fits { AreOctets piece.now }
-    ensures works { OnOk result (W.failures wire.new ≡ 0) }
-    ensures failed { OnErr result (W.failures wire.new ≡ 1) }
-{
-    laws::laws_below();
-    answers::one_alone();
-    let mut rest = piece;
-    'piece: loop {
-        match reader.next(&mut rest) {
-            Got::Message(message) => {
-                answer(port, aired, wire, &message)?;
-                if let Hearing::AtOnce = hearing {
-                    reader.silence();
-                }
+impl<C: Catalogue> Listener<C> {
+    // Listens once, and answers what came.
+    fn hear<W: Wire>(&mut self, wire: &mut W) -> Result<Came, WireFault>
+        requires { W.failures wire.old ≡ 0 }
+        ensures serves { (can : Bool) (ear : ServerEar) → HasRead self.old.hearing ear self.old.reader →
+            HasTurned W.does can self.old.hearing (record { port = self.old.port; ear = ear }) wire.old (listened result)
+            self.new.port self.new.reader self.new.aired wire.new }
+        ensures hears { self.new.hearing ≡ self.old.hearing }
+        ensures works { OnOk result (W.failures wire.new ≡ 0) }
+        ensures failed { OnErr result (W.failures wire.new ≡ 1) }
+    {
+        self.aired = None;
+        let mut buffer = [0; PIECE];
+        let came = wire.listen(&mut buffer)?;
+        match came {
+            Came::Bytes(n) => self.take_piece(wire, &buffer[..n])?,
+            Came::Silence => {
+                let reply = rest(self.hearing, &mut self.reader);
+                end_burst(self.hearing, reply, &mut self.port, wire)?;
             }
-            Got::Fault(_, _) => {}
-            Got::More => return Ok(()),
+            Came::Closed => {}
+        }
+        Ok(came)
+    }
+
+    // Takes bytes, and answers each message once it is whole.
+    fn take_piece<W: Wire>(&mut self, wire: &mut W, piece: &[u8]) -> Result<(), WireFault>
+        requires { W.failures wire.old ≡ 0 }
+        ensures taken { (ear : ServerEar) → HasRead self.old.hearing ear self.old.reader → OnOk result (HasTaken W.does
+            self.old.hearing (record { port = self.old.port; ear = ear }) self.old.aired wire.old piece.now self.new.port
+            self.new.reader self.new.aired wire.new) }
+        ensures broken { (ear : ServerEar) → HasRead self.old.hearing ear self.old.reader → OnErr result (HasBroken W.does
+            (record { port = self.old.port; ear = ear }) self.old.aired wire.old piece.now self.new.port self.new.aired
+            wire.new) }
+        ensures hears { self.new.hearing ≡ self.old.hearing }
+        ensures fits { AreOctets piece.now }
+        ensures works { OnOk result (W.failures wire.new ≡ 0) }
+        ensures failed { OnErr result (W.failures wire.new ≡ 1) }
+    {
+        laws::laws_below();
+        answers::one_alone();
+        let mut rest = piece;
+        'piece: loop {
+            match self.reader.next(&mut rest) {
+                Got::Message(message) => {
+                    answer(&mut self.port, &mut self.aired, wire, &message)?;
+                    if let Hearing::AtOnce = self.hearing {
+                        self.reader.silence();
+                    }
+                }
+                Got::Fault(_, _) => {}
+                Got::More => return Ok(()),
+            }
         }
     }
 }

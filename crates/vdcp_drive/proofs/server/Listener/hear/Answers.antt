@@ -12,27 +12,27 @@ use Rattle.vdcp_drive.specs.Serving.{Service, at_end, in_answer, in_listen, send
 use Rattle.vdcp_drive.specs.Turns.{listen}
 use Rattle.vdcp_drive.specs.declared.server_hooks.Turned.TheVariants as turned
 use Rattle.vdcp_drive.proofs.Serving.{cut_so, rested}
-use Rattle.vdcp_drive.proofs.server.hear.Goals as goal
+use Rattle.vdcp_drive.proofs.server.Listener.hear.Goals as goal
 
 pub returns-in_err-came-clause-serves : goal.returns-in_err-came-clause-serves
 returns-in_err-came-clause-serves g c can ear h =
-    let at : Service = record { port = c.args.port.now; ear = ear } in
-    cut_so g.W.Wire.does can c.args.hearing at c.args.wire.now (listened c.from_residual.result) c.args.port.now
-    c.args.reader.now None
+    let at : Service = record { port = c.args.self.now.port; ear = ear } in
+    cut_so g.W.Wire.does can c.args.self.now.hearing at c.args.wire.now (listened c.from_residual.result) c.args.self.now.port
+    c.args.self.now.reader None
     c.listen.new.self (search rules) (fails ∷ []) (in_listen refl refl refl) (c.listen.new.self, c.in_err-came.ensures.fails, refl)
 
 pub returns-in_err-take_piece-in-Bytes-clause-serves : goal.returns-in_err-take_piece-in-Bytes-clause-serves
 returns-in_err-take_piece-in-Bytes-clause-serves g c can ear h =
     let does = g.W.Wire.does in
-    let at : Service = record { port = c.args.port.now; ear = ear } in
+    let at : Service = record { port = c.args.self.now.port; ear = ear } in
     let n : ℕ = c.in-Bytes.n in
     let piece : List ℕ = take n c.listen.new.buffer in
-    let t = c.take_piece.new in
+    let t = c.take_piece.new.self in
     let brought = rw c.in-Bytes.is at c.in_ok-came.ensures.brings in
     let b = c.in_err-take_piece-in-Bytes.ensures.broken ear h in
-    cut_so does can c.args.hearing at c.args.wire.now (listened c.from_residual-in_err-take_piece-in-Bytes.result) t.port
+    cut_so does can c.args.self.now.hearing at c.args.wire.now (listened c.from_residual-in_err-take_piece-in-Bytes.result) t.port
     t.reader t.aired
-    t.wire (search rules) _
+    c.take_piece.new.wire (search rules) _
     (in_answer piece b.before b.last b.others b.sent.front b.sent.rest c.take_piece.ensures.fits b.messages b.sent.parts refl
     b.port_is b.aired_is)
     (c.listen.new.self, brought, b.sent.is_so)
@@ -40,15 +40,15 @@ returns-in_err-take_piece-in-Bytes-clause-serves g c can ear h =
 pub returns-in_err-end_burst-in-Silence-clause-serves : goal.returns-in_err-end_burst-in-Silence-clause-serves
 returns-in_err-end_burst-in-Silence-clause-serves g c can ear h =
     let does = g.W.Wire.does in
-    let at : Service = record { port = c.args.port.now; ear = ear } in
+    let at : Service = record { port = c.args.self.now.port; ear = ear } in
     let said = c.rest-reply.ensures.says ear h in
     let brought = rw c.in-Silence.is at c.in_ok-came.ensures.brings in
     let t = c.end_burst.new in
     let e = c.in_err-end_burst-in-Silence.ensures in
-    cut_so does can c.args.hearing at c.args.wire.now (listened c.from_residual-in_err-end_burst-in-Silence.result) t.port
+    cut_so does can c.args.self.now.hearing at c.args.wire.now (listened c.from_residual-in_err-end_burst-in-Silence.result) t.port
     c.rest-reply.new.reader None t.wire (search rules) (brings silence ∷ sends e.front.front ∷ [])
     (at_end e.front.front e.front.rest
-    (ap (answer_bytes c.args.port.now.state.unit) (sym said) ∙ e.front.parts) refl e.unended refl)
+    (ap (answer_bytes c.args.self.now.port.state.unit) (sym said) ∙ e.front.parts) refl e.unended refl)
     (c.listen.new.self, brought, (t.wire, e.front.is_so, refl))
 
 pub returns-in_ok-take_piece-in-Bytes-clause-serves : goal.returns-in_ok-take_piece-in-Bytes-clause-serves
@@ -81,10 +81,10 @@ returns-in_ok-end_burst-in-Silence-clause-serves g c can ear h =
       done = (
         c.listen.new.self,
         rw c.in-Silence.is at c.in_ok-came.ensures.brings,
-        subst (λ (l : List Reply). Chain does (sending c.args.port.now.state.unit l) c.listen.new.self c.end_burst.new.wire)
+        subst (λ (l : List Reply). Chain does (sending c.args.self.now.port.state.unit l) c.listen.new.self c.end_burst.new.wire)
             said e.sent,
       );
-      port_is = rested c.args.hearing ear c.args.reader.now c.args.port.now c.end_burst.new.port h e.bursts e.streams;
+      port_is = rested c.args.self.now.hearing ear c.args.self.now.reader c.args.self.now.port c.end_burst.new.port h e.bursts e.streams;
       aired_is = refl;
       has_read = c.rest-reply.ensures.rests ear h;
     }
