@@ -10,4 +10,5 @@ mod memory;
 mod messages;
 mod scripts;
 mod server;
+mod server_hooks;
 mod wire;

@@ -5,7 +5,7 @@ use super::scripts::wire_of;
 use std::alloc::{AllocError, Global};
 use std::test::Fail;
 use vdcp_auto::Controller;
-use vdcp_drive::{AutoDriver, Server};
+use vdcp_drive::{AutoDriver, Hearing, Server};
 use vdcp_port::Port;
 use vdcp_testing::two_clips;
 use vdcp_wire::ScriptWire;
@@ -21,15 +21,15 @@ pub fn port(frames: u32) -> Result<Port<Clips>, Fail> {
 }
 
 /// A server with a new port of unit 0 and number 1, to which these pieces come.
-pub fn server(alloc: Global, pieces: &[&[u8]]) -> Result<Serving, Fail> {
-    Ok(Server::new(port(250)?, wire_of(alloc, pieces)?))
+pub fn server(alloc: Global, hearing: Hearing, pieces: &[&[u8]]) -> Result<Serving, Fail> {
+    Ok(Server::new(port(250)?, hearing, wire_of(alloc, pieces)?))
 }
 
-/// The same over a wire whose call of this number fails after two bytes of a send.
+/// The same, which hears at silences, over a wire whose call of this number fails after two bytes of a send.
 pub fn failing_server(alloc: Global, pieces: &[&[u8]], call: u64) -> Result<Serving, Fail> {
     let mut wire = wire_of(alloc, pieces)?;
     wire.fail_at(call, 2);
-    Ok(Server::new(port(250)?, wire))
+    Ok(Server::new(port(250)?, Hearing::AtSilences, wire))
 }
 
 /// An automation of no clips, to which these pieces come.

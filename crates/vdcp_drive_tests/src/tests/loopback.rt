@@ -9,8 +9,8 @@ use std::net::TcpStream;
 use std::test::Fail;
 use std::time::Duration;
 use vdcp_auto::{Controller, Outcome};
-use vdcp_drive::{AutoDriver, Line, Server};
-use vdcp_wire::StreamWire;
+use vdcp_drive::{AutoDriver, Hearing, Server};
+use vdcp_wire::{Came, StreamWire};
 
 /// The two ends of a connection, the second of which has sent a NAK.
 fn streams(rt: &HostRuntime) -> Result<(TcpStream, TcpStream), Fail> {
@@ -30,13 +30,14 @@ fn ends(
     let (near, far) = streams(rt)?;
     let near = StreamWire::new(near, Duration::from_millis(20))?;
     let far = StreamWire::new(far, Duration::from_millis(4))?;
-    Ok((AutoDriver::new(controller, 0, near), Server::new(port, far)))
+    let server = Server::new(port, Hearing::AtSilences, far);
+    Ok((AutoDriver::new(controller, 0, near), server))
 }
 
 /// The server takes turns until it has answered a burst.
 fn answer(server: &mut Server<Clips, StreamWire>) -> Result<(), Fail> {
     for _ in 0..1000 {
-        if turn(server)? == Line::Ended {
+        if turn(server)? == Came::Silence {
             return Ok(());
         }
     }

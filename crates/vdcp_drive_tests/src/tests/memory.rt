@@ -7,15 +7,15 @@ use super::ends::{controller, port};
 use super::expecting::expect;
 use linked_list_allocator::LocalHeap;
 use std::test::Fail;
-use vdcp_drive::{AutoDriver, DriveFault, Line, Server};
+use vdcp_drive::{AutoDriver, DriveFault, Hearing, Server};
 use vdcp_port::Port;
-use vdcp_wire::{Entry, ScriptWire, Wire};
+use vdcp_wire::{Came, Entry, ScriptWire, Wire};
 
 /// What the first turn of a new server over this wire answers.
-fn first_turn<W: Wire + Drop>(port: Port<Clips>, wire: W) -> Result<Line, DriveFault>
+fn first_turn<W: Wire + Drop>(port: Port<Clips>, wire: W) -> Result<Came, DriveFault>
     requires { W.failures wire ≡ 0 }
 {
-    turn(&mut Server::new(port, wire))
+    turn(&mut Server::new(port, Hearing::AtSilences, wire))
 }
 
 // In a heap that has no room, the first growth is refused: of what each listen gave.

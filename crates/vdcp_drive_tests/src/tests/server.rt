@@ -6,14 +6,15 @@ use super::messages::{ACK, GRANTED, IDLE, OPEN, SELECT, STATUS};
 use super::scripts::{SILENCE, spells};
 use std::alloc::Global;
 use std::test::Fail;
-use vdcp_drive::Ran;
+use vdcp_drive::{Hearing, TurnsEnd, Unwatched};
 
-/// What comes to a new server in this many turns, what it sends, and how that ends.
+/// What comes to a new server that hears so in this many turns, what it sends, and how that ends.
 struct Row {
+    hearing: Hearing,
     came: &'static [&'static [u8]],
     turns: u64,
     sent: &'static [&'static [u8]],
-    ran: Ran,
+    end: TurnsEnd,
 }
 
 const OPENING: &'static [&'static [u8]] = &[
@@ -26,16 +27,38 @@ const OPENING: &'static [&'static [u8]] = &[
     SILENCE,
 ];
 
+const TORN: &'static [&'static [u8]] = &[
+    OPEN,
+    SILENCE,
+    b"\x02\x03\x20",
+    SILENCE,
+    b"\x22\x01\xBD",
+    STATUS,
+    SILENCE,
+];
+
+const FAULTY: &'static [&'static [u8]] = &[
+    OPEN,
+    SELECT,
+    b"\x02\x03\x20\x22\x01\xBE",
+    STATUS,
+    SILENCE,
+    STATUS,
+    SILENCE,
+];
+
 // The other end closes after the last piece.
-static ROWS: [Row; 4] = [
+static ROWS: [Row; 7] = [
     Row {
+        hearing: Hearing::AtSilences,
         came: OPENING,
         turns: 100,
         sent: &[GRANTED, ACK, IDLE],
-        ran: Ran::Closed,
+        end: TurnsEnd::Closed,
     },
     // PLAY and STOP in two pieces
     Row {
+        hearing: Hearing::AtSilences,
         came: &[
             OPEN,
             SELECT,
@@ -46,9 +69,10 @@ static ROWS: [Row; 4] = [
         ],
         turns: 6,
         sent: &[GRANTED, ACK, ACK, ACK],
-        ran: Ran::Spent,
+        end: TurnsEnd::Spent,
     },
     Row {
+        hearing: Hearing::AtSilences,
         came: &[
             OPEN,
             SELECT,
@@ -59,28 +83,52 @@ static ROWS: [Row; 4] = [
         ],
         turns: 6,
         sent: &[GRANTED, ACK, ACK, ACK],
-        ran: Ran::Spent,
+        end: TurnsEnd::Spent,
     },
     // a close inside of the second PLAY
     Row {
+        hearing: Hearing::AtSilences,
         came: &[OPEN, SELECT, SILENCE, b"\x02\x02\x10\x01\xEF\x02\x02\x10"],
         turns: 100,
         sent: &[GRANTED, ACK, ACK],
-        ran: Ran::Closed,
+        end: TurnsEnd::Closed,
+    },
+    // a silence inside of SELECT, which tears it or doesn't
+    Row {
+        hearing: Hearing::AtSilences,
+        came: TORN,
+        turns: 100,
+        sent: &[GRANTED, b"\x05\x80", b"\x05\x04"],
+        end: TurnsEnd::Closed,
+    },
+    Row {
+        hearing: Hearing::AtOnce,
+        came: TORN,
+        turns: 100,
+        sent: &[GRANTED, ACK, IDLE],
+        end: TurnsEnd::Closed,
+    },
+    // after a wrong sum all is passed over until a silence, where it is answered
+    Row {
+        hearing: Hearing::AtOnce,
+        came: FAULTY,
+        turns: 100,
+        sent: &[GRANTED, ACK, b"\x05\x04", IDLE],
+        end: TurnsEnd::Closed,
     },
 ];
 
 /// How a new server's turns end, and whether it sent these messages.
-fn served(alloc: Global, row: &Row) -> Result<(Ran, bool), Fail> {
-    let mut server = server(alloc, row.came)?;
-    let ran = serve(&mut server, row.turns)?;
-    Ok((ran, spells(server.wire().sent(), row.sent)))
+fn served(alloc: Global, row: &Row) -> Result<(TurnsEnd, bool), Fail> {
+    let mut server = server(alloc, row.hearing, row.came)?;
+    let end = serve(&mut server, row.turns, &mut Unwatched)?;
+    Ok((end, spells(server.wire().sent(), row.sent)))
 }
 
 #[test]
 fn what_comes_is_answered(rt: HostRuntime) -> Result<(), Fail> {
     for (k, row) in ROWS.iter().enumerate() {
-        expect_row(&rt, k, &served(rt.alloc(), row)?, &(row.ran, true));
+        expect_row(&rt, k, &served(rt.alloc(), row)?, &(row.end, true));
     }
     Ok(())
 }
@@ -89,7 +137,8 @@ fn what_comes_is_answered(rt: HostRuntime) -> Result<(), Fail> {
 /// fail, and how many bytes were sent.
 fn failed_at(alloc: Global, call: u64) -> Result<(bool, usize), Fail> {
     let mut server = failing_server(alloc, OPENING, call)?;
-    let fails = serve(&mut server, 100).is_err() && serve(&mut server, 0).is_err();
+    let fails = serve(&mut server, 100, &mut Unwatched).is_err()
+        && serve(&mut server, 0, &mut Unwatched).is_err();
     Ok((fails, server.wire().sent().len()))
 }
 
