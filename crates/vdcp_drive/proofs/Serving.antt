@@ -1,5 +1,5 @@
 -- The turns of a server, one after another.
-use Rattle.std.proofs.Common.{ℕ, ◌≡◌, ◌<◌, ◌≤◌, ◌+◌, false, true, List, [], ◌∷◌, ◌++◌, length, refl, sym, ap, subst, ◌∙◌, append_assoc, append-nil, length-append, arith}
+use Rattle.std.proofs.Common.{ℕ, ◌≡◌, ◌<◌, ◌+◌, false, true, List, [], ◌∷◌, ◌++◌, length, refl, sym, ap, subst, ◌∙◌, append_assoc, append-nil, length-append, arith}
 use Rattle.std.proofs.lemmas.List.Elements.{All-append, All-cons, All-nil}
 use Rattle.std.specs.Option.{option_to_list}
 use Rattle.std.specs.Prelude.{All, Bool, Option, Some, Result, Ok, Err, IsErr}
@@ -14,7 +14,7 @@ use Rattle.vdcp_port.specs.Answers.{end_answers, reply_at_end}
 use Rattle.vdcp_port.specs.Clock.{ClockedPort, after_frame}
 use Rattle.vdcp_wire.specs.Acts.{Act}
 use Rattle.vdcp_drive.specs.Turns.{AreOctetsAt, IsMade, Turn, closes, listen, frame, are_closed, due_of, turned_of, until_closed}
-use Rattle.vdcp_drive.specs.ServeLeaves.{HasServed, HasTurned, ServeLeaves, Serves, ServesTo, by_itself, cut_short, due_by, end_steps}
+use Rattle.vdcp_drive.specs.ServeLeaves.{HasTurned, ServeLeaves, Serves, ServesTo, by_itself, cut_short, due_by, end_steps}
 use Rattle.vdcp_drive.specs.Below.{Below}
 use Rattle.vdcp_drive.specs.Steps.{Chain}
 use Rattle.vdcp_drive.specs.ServerEars.{ServerEar, HasRead, after_rest, in_burst, in_stream, rests, says}
@@ -24,7 +24,6 @@ use Rattle.vdcp_drive.specs.declared.hearing.Hearing.TheVariants.{AtSilences, At
 use Rattle.vdcp_drive.specs.declared.line.DriveFault.{DriveFault}
 use Rattle.vdcp_drive.specs.declared.line.DriveFault.TheVariants.{Device}
 use Rattle.vdcp_drive.specs.declared.line.TurnsEnd.{TurnsEnd}
-use Rattle.vdcp_drive.specs.declared.line.TurnsEnd.TheVariants as ends
 use Rattle.vdcp_drive.specs.declared.server_hooks.Due.{Due}
 use Rattle.vdcp_drive.specs.declared.server_hooks.Due.TheVariants as due
 use Rattle.vdcp_drive.specs.declared.server_hooks.Turned.{Turned}
@@ -140,22 +139,20 @@ asks_for : (t : Turned) (what : Turn) → t ≡ turned_of what → due_by {F = D
 asks_for t (listen what) is = rw is refl
 asks_for t frame is = rw is refl
 
-pub one_turn : {W H : Type 0} (does : Act → W → W → Type 0) (can : Bool) (doing : HookStep → H → H → Type 0) (made : ℕ)
-    (hearing : Hearing) (s : Service)
-    (port port' : ClockedPort) (reader reader' : Progress) (aired' : Option Item) (wire wire₁ wire₂ : W)
-    (hooks hooks₁ hooks₂ hooks₃ : H) (t : Turned)
-    → (h : Stands does can doing made hearing s port reader wire wire₁ hooks hooks₁ false)
-    → Serves does can hearing (record { port = port; ear = (left_by s h.turns).ear }) wire₁ t port' reader' aired' wire₂
+one_turn : {W H : Type 0} (does : Act → W → W → Type 0) (can : Bool) (doing : HookStep → H → H → Type 0) (made : ℕ)
+    (hearing : Hearing) (s : Service) (old new : Serving W) (wire : W) (hooks hooks₁ hooks₂ hooks₃ : H) (t : Turned)
+    → (h : Stands does can doing made hearing s old.port old.reader wire old.wire hooks hooks₁ false)
+    → Serves does can hearing (record { port = old.port; ear = (left_by s h.turns).ear }) old.wire t new.port new.reader
+    new.aired new.wire
     → doing (asked (due_by {F = DriveFault} (Some (Ok t)))) hooks₁ hooks₂
-    → doing (lent (record { port = port'; aired = aired'; turned = Ok t })) hooks₂ hooks₃
-    → Stands does can doing (made + 1) hearing s port' reader' wire wire₂ hooks hooks₃ (closes t)
-one_turn {W} {H} does can doing made hearing s port port' reader reader' aired' wire wire₁ wire₂ hooks hooks₁ hooks₂ hooks₃ t
-    h o due seen =
+    → doing (lent (record { port = new.port; aired = new.aired; turned = Ok t })) hooks₂ hooks₃
+    → Stands does can doing (made + 1) hearing s new.port new.reader wire new.wire hooks hooks₃ (closes t)
+one_turn {W} {H} does can doing made hearing s old new wire hooks hooks₁ hooks₂ hooks₃ t h o due seen =
     let b : Service = left_by s h.turns in
-    let now : Service = record { port = port; ear = b.ear } in
-    let is : now ≡ b = same_service port b h.port_is in
+    let now : Service = record { port = old.port; ear = b.ear } in
+    let is : now ≡ b = same_service old.port b h.port_is in
     let end : left_by s (h.turns ++ o.what ∷ []) ≡ serves o.what b = left_both s h.turns (o.what ∷ []) in
-    let look : Look = record { port = port'; aired = aired'; turned = Ok t } in
+    let look : Look = record { port = new.port; aired = new.aired; turned = Ok t } in
     let looks : look ≡ look_at o.what b = rw (o.port_is, o.aired_is, o.turned_is) (ap (look_at o.what) is) in
     record {
       turns = h.turns ++ o.what ∷ [];
@@ -169,9 +166,9 @@ one_turn {W} {H} does can doing made hearing s port port' reader reader' aired' 
       port_is = rw end (o.port_is ∙ ap (λ (x : Service). (serves o.what x).port) is);
       has_read = rw end (rw is at o.has_read);
       acted = rw (acts_both s h.turns (o.what ∷ [])) (chain_both does (acts_of s h.turns) (acts_of b (o.what ∷ []))
-          wire wire₁ wire₂ h.acted (subst (λ (x : List Act). Chain does x wire₁ wire₂)
+          wire old.wire new.wire h.acted (subst (λ (x : List Act). Chain does x old.wire new.wire)
           (sym (append-nil (turn_acts o.what b)))
-          (subst (λ (x : Service). Chain does (turn_acts o.what x) wire₁ wire₂) is o.done)));
+          (subst (λ (x : Service). Chain does (turn_acts o.what x) old.wire new.wire) is o.done)));
       steps = rw (steps_both s h.turns (o.what ∷ [])) (chain_both doing (hook_steps s h.turns)
           (hook_steps b (o.what ∷ [])) hooks hooks₁ hooks₃ h.steps (
             hooks₂,
@@ -180,105 +177,98 @@ one_turn {W} {H} does can doing made hearing s port port' reader reader' aired' 
           ));
     }
 
--- How the turns end.
+-- Where turns have led a server and its hooks, whatever it had taken before.
+pub record HasMade {W H : Type 0} (does : Act → W → W → Type 0) (can : Bool) (doing : HookStep → H → H → Type 0)
+    (failures : W → ℕ) (made : ℕ) (old new : Serving W) (hooks hooks' : H) (is_closed : Bool) : Type 0 where
+  pub works : failures new.wire ≡ 0
+  pub hears : new.hearing ≡ old.hearing
+  pub stands : (ear : ServerEar) → HasRead old.hearing ear old.reader
+      → Stands does can doing made old.hearing (record { port = old.port; ear = ear }) new.port new.reader old.wire new.wire
+      hooks hooks' is_closed
 
-pub served_so : {W H : Type 0} (does : Act → W → W → Type 0) (can : Bool) (doing : HookStep → H → H → Type 0)
-    (made count : ℕ) (s : Service) (old new : Serving W) (hooks hooks₁ hooks' : H) (is_closed : Bool) (e : TurnsEnd)
-    → (h : Stands does can doing made old.hearing s new.port new.reader old.wire new.wire hooks hooks₁ is_closed)
-    → ServesTo can e count h.turns → Chain doing (end_steps e) hooks₁ hooks'
-    → HasServed does can (λ steps. Chain doing steps hooks hooks') count s old new (Ok e)
-served_so does can doing made count s old new hooks hooks₁ hooks' is_closed e h to last = record {
-  turns = h.turns;
-  octets = h.octets;
-  made = h.are_made;
-  closes_last = h.closes_last;
-  done = [];
-  last = end_steps e;
-  acted = subst (λ (l : List Act). Chain does l old.wire new.wire) (sym (append-nil (acts_of s h.turns))) h.acted;
-  steps = chain_both doing (hook_steps s h.turns) (end_steps e) hooks hooks₁ hooks' h.steps last;
-  ending = by_itself e refl to refl refl h.port_is h.has_read;
-}
-
-pub served_spent : {W H : Type 0} (does : Act → W → W → Type 0) (can : Bool) (doing : HookStep → H → H → Type 0)
-    (made count : ℕ) (s : Service) (old new : Serving W) (hooks hooks' : H)
-    → Stands does can doing made old.hearing s new.port new.reader old.wire new.wire hooks hooks' false → made ≡ count
-    → HasServed does can (λ steps. Chain doing steps hooks hooks') count s old new (Ok ends.Spent)
-served_spent does can doing made count s old new hooks hooks' h all =
-    served_so does can doing made count s old new hooks hooks' hooks' false ends.Spent h (h.closed_is, h.count ∙ all) refl
-
-pub served_closed : {W H : Type 0} (does : Act → W → W → Type 0) (can : Bool) (doing : HookStep → H → H → Type 0)
-    (made count : ℕ) (s : Service) (old new : Serving W) (hooks hooks' : H)
-    → Stands does can doing made old.hearing s new.port new.reader old.wire new.wire hooks hooks' true → made ≤ count
-    → HasServed does can (λ steps. Chain doing steps hooks hooks') count s old new (Ok ends.Closed)
-served_closed does can doing made count s old new hooks hooks' h few =
-    served_so does can doing made count s old new hooks hooks' hooks' true ends.Closed h
-    (h.closed_is, omega (arith, h.count, few)) refl
-
-pub served_given_up : {W H : Type 0} (does : Act → W → W → Type 0) (can : Bool) (doing : HookStep → H → H → Type 0)
-    (made count : ℕ) (s : Service) (old new : Serving W) (hooks hooks₁ hooks' : H)
-    → Stands does can doing made old.hearing s new.port new.reader old.wire new.wire hooks hooks₁ false → made ≤ count
-    → can ≡ true → doing (asked due.GiveUp) hooks₁ hooks'
-    → HasServed does can (λ steps. Chain doing steps hooks hooks') count s old new (Ok ends.GivenUp)
-served_given_up does can doing made count s old new hooks hooks₁ hooks' h few may asks =
-    served_so does can doing made count s old new hooks hooks₁ hooks' false ends.GivenUp h
-    (h.closed_is, omega (arith, h.count, few), may) (hooks', asks, refl)
-
-pub served_short : {W H : Type 0} (does : Act → W → W → Type 0) (can : Bool) (doing : HookStep → H → H → Type 0)
-    (made count : ℕ) (s : Service) (port : ClockedPort) (reader : Progress) (old new : Serving W) (wire₁ : W)
-    (hooks hooks₁ hooks₂ hooks₃ : H) (done : List Act) (e : DriveFault)
-    → (h : Stands does can doing made old.hearing s port reader old.wire wire₁ hooks hooks₁ false)
-    → IsCutShort (record { port = port; ear = (left_by s h.turns).ear }) done new.port new.aired
-    → Chain does done wire₁ new.wire → doing (asked due.Listen) hooks₁ hooks₂
-    → doing (lent (record { port = new.port; aired = new.aired; turned = Err e })) hooks₂ hooks₃
-    → HasServed does can (λ steps. Chain doing steps hooks hooks₃) count s old new (Err Device)
-served_short does can doing made count s port reader old new wire₁ hooks hooks₁ hooks₂ hooks₃ done Device h cut acted
-    asks seen =
-    let b : Service = left_by s h.turns in
-    record {
-      turns = h.turns;
-      octets = h.octets;
-      made = h.are_made;
-      closes_last = h.closes_last;
-      done = done;
-      last = broken_steps new.port new.aired;
-      acted = chain_both does (acts_of s h.turns) done old.wire wire₁ new.wire h.acted acted;
-      steps = chain_both doing (hook_steps s h.turns) (broken_steps new.port new.aired) hooks hooks₁ hooks₃ h.steps
-          (hooks₂, asks, (hooks₃, seen, refl));
-      ending = cut_short new.aired refl h.closed_is
-          (subst (λ (x : Service). IsCutShort x done new.port new.aired) (same_service port b h.port_is) cut) refl;
+pub goes_on : {W H : Type 0} {does : Act → W → W → Type 0} {can : Bool} {doing : HookStep → H → H → Type 0} {failures : W → ℕ}
+    {made : ℕ} {old new new' : Serving W} {hooks hooks₁ hooks₂ hooks₃ : H} (t : Turned)
+    → HasMade does can doing failures made old new hooks hooks₁ false
+    → ((ear : ServerEar) → HasRead new.hearing ear new.reader
+    → Serves does can new.hearing (record { port = new.port; ear = ear }) new.wire t new'.port new'.reader new'.aired
+    new'.wire)
+    → doing (asked (due_by {F = DriveFault} (Some (Ok t)))) hooks₁ hooks₂ → new'.hearing ≡ new.hearing
+    → failures new'.wire ≡ 0 → doing (lent (record { port = new'.port; aired = new'.aired; turned = Ok t })) hooks₂ hooks₃
+    → HasMade does can doing failures (made + 1) old new' hooks hooks₃ (closes t)
+goes_on {W} {H} {does} {can} {doing} {failures} {made} {old} {new} {new'} {hooks} {hooks₁} {hooks₂} {hooks₃} t h o due same
+    works seen = record {
+      works = works;
+      hears = same ∙ h.hears;
+      stands = λ ear read.
+          let s : Service = record { port = old.port; ear = ear } in
+          let st = h.stands ear read in
+          one_turn does can doing made old.hearing s new new' old.wire hooks hooks₁ hooks₂ hooks₃ t st
+          (rw h.hears at (o (left_by s st.turns).ear (rw h.hears st.has_read))) due seen;
     }
 
--- What the turns leave, if the wire had not failed before.
+-- How the turns end, of a server whose wire had not failed before: by themselves, or since it fails now.
 
-pub leaves_answer : {W : Type 0} (does : Act → W → W → Type 0) (can : Bool) (hooked : List HookStep → Type 0)
-    (failures : W → ℕ) (count : ℕ) (old new : Serving W) (e : TurnsEnd) → failures old.wire ≡ 0 → failures new.wire ≡ 0
-    → new.hearing ≡ old.hearing
-    → ((ear : ServerEar) → HasRead old.hearing ear old.reader
-    → HasServed does can hooked count (record { port = old.port; ear = ear }) old new (Ok e))
-    → ServeLeaves does can hooked failures count old new (Ok e)
-leaves_answer does can hooked failures count old new e works worked same h = record {
-  serves = λ _. h;
-  hears = same;
-  works = worked;
+pub ends_so : {W H : Type 0} {does : Act → W → W → Type 0} {can : Bool} {doing : HookStep → H → H → Type 0} {failures : W → ℕ}
+    {made : ℕ} {old new : Serving W} {hooks hooks₁ hooks' : H} {is_closed : Bool} (count : ℕ) (e : TurnsEnd)
+    → HasMade does can doing failures made old new hooks hooks₁ is_closed → failures old.wire ≡ 0
+    → ((turns : List Turn) → length turns ≡ made → are_closed turns ≡ is_closed → ServesTo can e count turns)
+    → Chain doing (end_steps e) hooks₁ hooks'
+    → ServeLeaves does can (λ steps. Chain doing steps hooks hooks') failures count old new (Ok e)
+ends_so {W} {H} {does} {can} {doing} {failures} {made} {old} {new} {hooks} {hooks₁} {hooks'} count e h worked to last = record {
+  serves = λ _ ear read.
+      let s : Service = record { port = old.port; ear = ear } in
+      let st = h.stands ear read in record {
+        turns = st.turns;
+        octets = st.octets;
+        made = st.are_made;
+        closes_last = st.closes_last;
+        done = [];
+        last = end_steps e;
+        acted = subst (λ (l : List Act). Chain does l old.wire new.wire) (sym (append-nil (acts_of s st.turns))) st.acted;
+        steps = chain_both doing (hook_steps s st.turns) (end_steps e) hooks hooks₁ hooks' st.steps last;
+        ending = by_itself e refl (to st.turns st.count st.closed_is) refl refl st.port_is st.has_read;
+      };
+  hears = h.hears;
+  works = h.works;
   device = tt;
-  stays = λ failed. absurd (omega (arith, works, failed));
+  stays = λ failed. absurd (omega (arith, worked, failed));
 }
 
-pub leaves_fault : {W : Type 0} (does : Act → W → W → Type 0) (can : Bool) (hooked : List HookStep → Type 0)
-    (failures : W → ℕ) (count : ℕ) (old new : Serving W) (answer : Result TurnsEnd DriveFault) → IsErr answer
-    → failures old.wire ≡ 0 → failures new.wire ≡ 1
-    → new.hearing ≡ old.hearing
-    → ((ear : ServerEar) → HasRead old.hearing ear old.reader
-    → HasServed does can hooked count (record { port = old.port; ear = ear }) old new (Err Device))
-    → ServeLeaves does can hooked failures count old new answer
-leaves_fault does can hooked failures count old new (Ok e) is works fails same h = absurd cc
-leaves_fault does can hooked failures count old new (Err Device) is works fails same h = record {
-  serves = λ _. h;
-  hears = same;
-  works = tt;
-  device = fails;
-  stays = λ failed. absurd (omega (arith, works, failed));
-}
+pub breaks_so : {W H : Type 0} {does : Act → W → W → Type 0} {can : Bool} {doing : HookStep → H → H → Type 0}
+    {failures : W → ℕ} {made : ℕ} {old new new' : Serving W} {hooks hooks₁ hooks₂ hooks₃ : H} (count : ℕ)
+    (answer : Result TurnsEnd DriveFault) (f : DriveFault) → IsErr answer
+    → HasMade does can doing failures made old new hooks hooks₁ false → failures old.wire ≡ 0
+    → ((ear : ServerEar) → HasRead new.hearing ear new.reader
+    → (done : List Act) × IsCutShort (record { port = new.port; ear = ear }) done new'.port new'.aired
+    × Chain does done new.wire new'.wire)
+    → doing (asked due.Listen) hooks₁ hooks₂ → new'.hearing ≡ new.hearing → failures new'.wire ≡ 1
+    → doing (lent (record { port = new'.port; aired = new'.aired; turned = Err f })) hooks₂ hooks₃
+    → ServeLeaves does can (λ steps. Chain doing steps hooks hooks₃) failures count old new' answer
+breaks_so count (Ok e) f is h worked cut due same fails seen = absurd cc
+breaks_so {W} {H} {does} {can} {doing} {failures} {made} {old} {new} {new'} {hooks} {hooks₁} {hooks₂} {hooks₃} count
+    (Err Device) Device is h worked cut due same fails seen = record {
+      serves = λ _ ear read.
+          let s : Service = record { port = old.port; ear = ear } in
+          let st = h.stands ear read in
+          let b : Service = left_by s st.turns in
+          let o = cut b.ear (rw h.hears st.has_read) in record {
+            turns = st.turns;
+            octets = st.octets;
+            made = st.are_made;
+            closes_last = st.closes_last;
+            done = o.0;
+            last = broken_steps new'.port new'.aired;
+            acted = chain_both does (acts_of s st.turns) o.0 old.wire new.wire new'.wire st.acted o.2;
+            steps = chain_both doing (hook_steps s st.turns) (broken_steps new'.port new'.aired) hooks hooks₁ hooks₃ st.steps
+                (hooks₂, due, (hooks₃, seen, refl));
+            ending = cut_short new'.aired refl st.closed_is
+                (subst (λ (x : Service). IsCutShort x o.0 new'.port new'.aired) (same_service new.port b st.port_is) o.1) refl;
+          };
+      hears = same ∙ h.hears;
+      works = tt;
+      device = fails;
+      stays = λ failed. absurd (omega (arith, worked, failed));
+    }
 
 -- What hooks tell.
 

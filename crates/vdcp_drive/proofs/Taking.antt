@@ -24,7 +24,7 @@ use Rattle.vdcp_drive.specs.Steps.{Chain}
 use Rattle.vdcp_drive.specs.ServerEars.{ServerEar, HasRead, completed, completes, in_burst, in_stream, takes}
 use Rattle.vdcp_drive.specs.HearingLaws.{completed_both, held_both}
 use Rattle.vdcp_drive.specs.Reading.{held_by}
-use Rattle.vdcp_drive.specs.Serving.{Service, last_aired, sending}
+use Rattle.vdcp_drive.specs.Serving.{last_aired, sending}
 use Rattle.vdcp_drive.specs.declared.hearing.Hearing.{Hearing}
 use Rattle.vdcp_drive.specs.declared.hearing.Hearing.TheVariants.{AtSilences, AtOnce}
 use Rattle.vdcp_drive.proofs.Completing.{HasTold, octets_front, renewed, told_by}
@@ -184,89 +184,6 @@ octets_rest piece front rest is h =
     subst AreOctets (ap (drop (length front)) is ∙ drop-append_seam front rest)
     (All-drop (λ b. b < 256) (length front) piece h)
 
--- Calls after calls.
-
-pub taken_none : {W : Type 0} (does : Act → W → W → Type 0) (hearing : Hearing) (s : Service) (reader : Progress)
-    (aired : Option Item) (wire : W) → HasRead hearing s.ear reader → HasTaken does hearing s aired wire [] s.port reader aired wire
-taken_none does hearing s reader aired wire h =
-    let none : completes s.ear [] ≡ [] = completes_none s.ear in
-    record {
-      has_read = subst (λ (e : ServerEar). HasRead hearing e reader) (sym (takes_none s.ear)) h;
-      port_is = sym (ap (after_messages s.port) none);
-      aired_is = sym (ap (λ (l : List Content). last_aired aired (aired_on_way s.port l)) none);
-      sent = subst (λ (l : List Content). Chain does (sending s.port.state.unit (answers_to s.port l)) wire wire)
-          (sym none) refl;
-    }
-
-pub taken_on : {W : Type 0} (does : Act → W → W → Type 0) (law : Below) (hearing : Hearing) (s : Service)
-    (port₁ port₂ : ClockedPort) (reader₁ reader₂ : Progress) (aired₀ aired₁ aired₂ : Option Item) (wire₀ wire₁ wire₂ : W)
-    (front rest behind : List ℕ) (answer : Answer) → IsFit s.ear → AreOctets front
-    → HasTaken does hearing s aired₀ wire₀ front port₁ reader₁ aired₁ wire₁
-    → (r : ReadsOn reader₁ rest answer behind reader₂) → AreOctets (take r.count rest)
-    → port₂ ≡ after_messages port₁ (with_message answer [])
-    → aired₂ ≡ last_aired aired₁ (aired_on_way port₁ (with_message answer []))
-    → Chain does (sending port₁.state.unit (answers_to port₁ (with_message answer []))) wire₁ wire₂
-    → HasTaken does hearing s aired₀ wire₀ (front ++ take r.count rest) port₂ (left hearing answer reader₂) aired₂ wire₂
-taken_on {W} does law hearing s port₁ port₂ reader₁ reader₂ aired₀ aired₁ aired₂ wire₀ wire₁ wire₂ front rest behind
-    answer begun before a r fits leaves puts sent =
-    let ns : List Content = with_message answer [] in
-    let piece : List ℕ = take r.count rest in
-    let c : List Content = completes s.ear front in
-    let q : ClockedPort = after_messages s.port c in
-    let m : Called hearing (takes s.ear front) piece ns (left hearing answer reader₂) =
-    called law hearing (takes s.ear front) reader₁ reader₂ rest behind answer a.has_read r fits in
-    let all : completes s.ear (front ++ piece) ≡ c ++ ns =
-    completes_both law s.ear front piece begun before fits ∙ ap (λ (l : List Content). c ++ l) m.messages in
-    record {
-      has_read = subst (λ (e : ServerEar). HasRead hearing e (left hearing answer reader₂)) (sym (takes_both s.ear front piece)) m.has_read;
-      port_is = rw (leaves, a.port_is, all, law.next s.port c ns) refl;
-      aired_is = rw (puts, a.aired_is, a.port_is, all) (aired_both law s.port c ns aired₀);
-      sent = rw (all, ← answering_both law s.port c ns)
-          (chain_both does (sending s.port.state.unit (answers_to s.port c)) (sending q.state.unit (answers_to q ns))
-          wire₀ wire₁ wire₂ a.sent (rw a.port_is at sent));
-    }
-
--- the wire fails in the answer
-pub broken_on : {W : Type 0} (does : Act → W → W → Type 0) (law : Below) (hearing : Hearing) (s : Service)
-    (port₁ port₂ : ClockedPort) (reader₁ reader₂ : Progress) (aired₀ aired₁ aired₂ : Option Item) (wire₀ wire₁ wire₂ : W)
-    (front rest behind : List ℕ) (m : Content) → IsFit s.ear → AreOctets front
-    → HasTaken does hearing s aired₀ wire₀ front port₁ reader₁ aired₁ wire₁
-    → (r : ReadsOn reader₁ rest (message m) behind reader₂) → AreOctets (take r.count rest) → AreOctets behind
-    → port₂ ≡ after_messages port₁ (m ∷ [])
-    → aired₂ ≡ last_aired aired₁ (aired_on_way port₁ (m ∷ []))
-    → OfFront (bytes_for port₁ m) (λ b. does (sends b) wire₁ wire₂)
-    → HasBroken does s aired₀ wire₀ (front ++ rest) port₂ aired₂ wire₂
-broken_on {W} does law hearing s port₁ port₂ reader₁ reader₂ aired₀ aired₁ aired₂ wire₀ wire₁ wire₂ front rest behind m
-    begun before a r fits fits_left leaves puts sent =
-    let ns : List Content = m ∷ [] in
-    let piece : List ℕ = take r.count rest in
-    let c : List Content = completes s.ear front in
-    let w : Called hearing (takes s.ear front) piece ns (left hearing (message m) reader₂) =
-    called law hearing (takes s.ear front) reader₁ reader₂ rest behind (message m) a.has_read r fits in
-    let others : List Content = completes (takes (takes s.ear front) piece) behind in
-    let parts : rest ≡ piece ++ behind = sym (ap (λ (l : List ℕ). piece ++ l) r.leaves ∙ take-append-drop r.count rest) in
-    let all : completes s.ear (front ++ rest) ≡ c ++ (ns ++ others) =
-    ap (λ (l : List ℕ). completes s.ear (front ++ l)) parts
-    ∙ completes_both law s.ear front (piece ++ behind) begun before (All-append (λ x. x < 256) piece behind fits fits_left)
-    ∙ ap (λ (l : List Content). c ++ l) (completes_both law (takes s.ear front) piece behind
-    (fit_more s.ear front begun before) fits fits_left
-    ∙ ap (λ (l : List Content). l ++ others) w.messages) in
-    record {
-      before = c;
-      last = m;
-      others = others;
-      messages = all;
-      port_is = rw (leaves, a.port_is, law.next s.port c ns) refl;
-      aired_is = rw (puts, a.aired_is, a.port_is) (aired_both law s.port c ns aired₀);
-      sent = record {
-        front = sent.front;
-        rest = sent.rest;
-        parts = ap (λ (p : ClockedPort). bytes_for p m) (sym a.port_is) ∙ sent.parts;
-        is_so = chain_both does (sending s.port.state.unit (answers_to s.port c)) (sends sent.front ∷ []) wire₀ wire₁ wire₂
-            a.sent (wire₂, sent.is_so, refl);
-      };
-    }
-
 pub on_err_of : {T E P : Type 0} (r : Result T E) → P → OnErr r P
 on_err_of (Ok x) p = tt
 on_err_of (Err e) p = p
@@ -304,7 +221,13 @@ pub begins_so : {W : Type 0} (does : Act → W → W → Type 0) (hearing : Hear
 begins_so does hearing port reader aired wire piece = record {
   front = [];
   parts = refl;
-  taken = λ ear h. taken_none does hearing (record { port = port; ear = ear }) reader aired wire h;
+  taken = λ ear h. record {
+    has_read = subst (λ (e : ServerEar). HasRead hearing e reader) (sym (takes_none ear)) h;
+    port_is = sym (ap (after_messages port) (completes_none ear));
+    aired_is = sym (ap (λ (l : List Content). last_aired aired (aired_on_way port l)) (completes_none ear));
+    sent = subst (λ (l : List Content). Chain does (sending port.state.unit (answers_to port l)) wire wire)
+        (sym (completes_none ear)) refl;
+  };
 }
 
 pub goes_further : {W : Type 0} {does : Act → W → W → Type 0} {hearing : Hearing} {port₀ port₁ port₂ : ClockedPort}
@@ -318,16 +241,29 @@ pub goes_further : {W : Type 0} {does : Act → W → W → Type 0} {hearing : H
     → IsTaken does hearing port₀ reader₀ aired₀ wire₀ piece later port₂ reader' aired₂ wire₂
 goes_further {W} {does} {hearing} {port₀} {port₁} {port₂} {reader₀} {reader₁} {reader₂} {aired₀} {aired₁} {aired₂} {wire₀}
     {wire₁} {wire₂} {piece} {rest} {later} {answer} law reader' fits h r is leaves puts sent =
-    let some : AreOctets (take r.count rest) =
-    All-take (λ b. b < 256) r.count rest (octets_rest piece h.front rest h.parts fits) in
+    let ns : List Content = with_message answer [] in
+    let more : List ℕ = take r.count rest in
+    let some : AreOctets more = All-take (λ b. b < 256) r.count rest (octets_rest piece h.front rest h.parts fits) in
     let before : AreOctets h.front = octets_front h.front rest (subst AreOctets h.parts fits) in record {
-      front = h.front ++ take r.count rest;
+      front = h.front ++ more;
       parts = parts_on piece h.front rest later r.count h.parts r.leaves;
-      taken = λ ear read. subst (λ (x : Progress). HasTaken does hearing (record { port = port₀; ear = ear }) aired₀ wire₀
-          (h.front ++ take r.count rest) port₂ x aired₂ wire₂) is
-          (taken_on does law hearing (record { port = port₀; ear = ear }) port₁ port₂ reader₁ reader₂ aired₀ aired₁ aired₂
-          wire₀ wire₁ wire₂ h.front rest later answer (fit hearing ear reader₀ read) before (h.taken ear read) r some leaves
-          puts sent);
+      taken = λ ear read.
+          let a = h.taken ear read in
+          let c : List Content = completes ear h.front in
+          let q : ClockedPort = after_messages port₀ c in
+          let m : Called hearing (takes ear h.front) more ns (left hearing answer reader₂) =
+          called law hearing (takes ear h.front) reader₁ reader₂ rest later answer a.has_read r some in
+          let all : completes ear (h.front ++ more) ≡ c ++ ns =
+          completes_both law ear h.front more (fit hearing ear reader₀ read) before some
+          ∙ ap (λ (l : List Content). c ++ l) m.messages in
+          record {
+            has_read = rw (takes_both ear h.front more, ← is) m.has_read;
+            port_is = rw (leaves, a.port_is, all, law.next port₀ c ns) refl;
+            aired_is = rw (puts, a.aired_is, a.port_is, all) (aired_both law port₀ c ns aired₀);
+            sent = rw (all, ← answering_both law port₀ c ns)
+                (chain_both does (sending port₀.state.unit (answers_to port₀ c)) (sending q.state.unit (answers_to q ns))
+                wire₀ wire₁ wire₂ a.sent (rw a.port_is at sent));
+          };
     }
 
 -- a message was answered
@@ -360,13 +296,34 @@ breaks_off {W} {does} {hearing} {port₀} {port₁} {port₂} {reader₀} {reade
     {wire₁} {wire₂} {piece} {rest} {later} {m} law one fits h r leaves puts sent ear read =
     let all : AreOctets rest = octets_rest piece h.front rest h.parts fits in
     let before : AreOctets h.front = octets_front h.front rest (subst AreOctets h.parts fits) in
-    subst (λ (b : List ℕ). HasBroken does (record { port = port₀; ear = ear }) aired₀ wire₀ b port₂ aired₂ wire₂)
-    (sym h.parts)
-    (broken_on does law hearing (record { port = port₀; ear = ear }) port₁ port₂ reader₁ reader₂ aired₀ aired₁ aired₂ wire₀
-    wire₁ wire₂ h.front rest later m (fit hearing ear reader₀ read) before (h.taken ear read) r
-    (All-take (λ b. b < 256) r.count rest all)
-    (subst AreOctets (sym r.leaves) (All-drop (λ b. b < 256) r.count rest all)) leaves
-    (puts ∙ ap (λ (items : List Item). last_aired aired₁ items) (sym (one port₁ m))) sent)
+    let some : AreOctets (take r.count rest) = All-take (λ b. b < 256) r.count rest all in
+    let fit₂ : AreOctets later = subst AreOctets (sym r.leaves) (All-drop (λ b. b < 256) r.count rest all) in
+    let more : List ℕ = take r.count rest in
+    let begun : IsFit ear = fit hearing ear reader₀ read in
+    let a = h.taken ear read in
+    let c : List Content = completes ear h.front in
+    let w : Called hearing (takes ear h.front) more (m ∷ []) (left hearing (message m) reader₂) =
+    called law hearing (takes ear h.front) reader₁ reader₂ rest later (message m) a.has_read r some in
+    let others : List Content = completes (takes (takes ear h.front) more) later in
+    let parts : rest ≡ more ++ later = sym (ap (λ (l : List ℕ). more ++ l) r.leaves ∙ take-append-drop r.count rest) in
+    record {
+      before = c;
+      last = m;
+      others = others;
+      messages = ap (completes ear) (h.parts ∙ ap (λ (l : List ℕ). h.front ++ l) parts)
+          ∙ completes_both law ear h.front (more ++ later) begun before (All-append (λ x. x < 256) more later some fit₂)
+          ∙ ap (λ (l : List Content). c ++ l) (completes_both law (takes ear h.front) more later
+          (fit_more ear h.front begun before) some fit₂ ∙ ap (λ (l : List Content). l ++ others) w.messages);
+      port_is = rw (leaves, a.port_is, law.next port₀ c (m ∷ [])) refl;
+      aired_is = rw (puts, ← one port₁ m, a.aired_is, a.port_is) (aired_both law port₀ c (m ∷ []) aired₀);
+      sent = record {
+        front = sent.front;
+        rest = sent.rest;
+        parts = ap (λ (p : ClockedPort). bytes_for p m) (sym a.port_is) ∙ sent.parts;
+        is_so = chain_both does (sending port₀.state.unit (answers_to port₀ c)) (sends sent.front ∷ []) wire₀ wire₁ wire₂
+            a.sent (wire₂, sent.is_so, refl);
+      };
+    }
 
 -- nothing is left
 pub is_whole : {W : Type 0} {does : Act → W → W → Type 0} {hearing : Hearing} {port₀ port : ClockedPort}
