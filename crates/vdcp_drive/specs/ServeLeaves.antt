@@ -67,7 +67,7 @@ abbrev pub listened : {F : Type 0} → Result Came F → Result Turned F
 listened (Ok came) = Ok (turned.Listen came)
 listened (Err e) = Err e
 
--- what was due, by what was done: nothing, if the line was given up
+-- what was due, by what was done: giving up, if nothing was
 abbrev pub due_by : {F : Type 0} → Option (Result Turned F) → Due
 due_by None = due.GiveUp
 due_by (Some (Ok (turned.Listen came))) = due.Listen

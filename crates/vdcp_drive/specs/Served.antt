@@ -1,5 +1,5 @@
 -- What a server sends for all that came to it, and the port that this leaves.
-use Rattle.std.specs.Prelude.{ℕ, ◌≡◌, false, List, [], ◌∷◌, ◌++◌, map, All, Option}
+use Rattle.std.specs.Prelude.{ℕ, ◌≡◌, false, List, [], ◌∷◌, ◌++◌, map, All}
 use Rattle.vdcp_value.specs.declared.part.Item.{Item}
 use Rattle.vdcp_frame.specs.Burst.{messages_of}
 use Rattle.vdcp_frame.specs.Message.{AreOctets}
@@ -7,7 +7,7 @@ use Rattle.vdcp_port.specs.Answers.{aired_on_way, answer_bytes, aired_for, bytes
 use Rattle.vdcp_port.specs.Clock.{ClockedPort, after_frame}
 use Rattle.vdcp_drive.specs.Bursts.{ended_bursts, open_burst}
 use Rattle.vdcp_drive.specs.ServerEars.{completes, in_burst}
-use Rattle.vdcp_drive.specs.Serving.{IsCutShort, Service, acts_of, at_end, hook_steps, in_answer, in_listen, items_in, left_by, replies, serves}
+use Rattle.vdcp_drive.specs.Serving.{Service, acts_of, hook_steps, items_in, left_by, replies, serves}
 use Rattle.vdcp_drive.specs.Leaves.{AreOctetsIn}
 use Rattle.vdcp_drive.specs.Traces.{came_in, sent_in, until_close}
 use Rattle.vdcp_drive.specs.Turns.{Turn, listen, frame, arrivals}

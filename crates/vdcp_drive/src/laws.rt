@@ -276,7 +276,7 @@ pub fn what_happened_is_told<C: Catalogue, W: Wire, H: ServerHooks<C>>()
         Appends old.written new.written (sent_in acts) }
 {}
 
-/// What one event more makes of what a server has sent, aired and is left with.
+/// What one turn more makes of what a server has sent, aired and is left with.
 pub fn one_event_more()
     ensures { (s : Service) (turns : List Turn) (what : Turn) → HasMore s turns what }
 {

@@ -61,8 +61,20 @@ impl<C: Catalogue, W: Wire> Model for Server<C, W> {
 }
 
 impl<C: Catalogue, W: Wire> Server<C, W> {
-    /// A server with this port, to which nothing has come.
-    pub fn new(port: Port<C>, hearing: Hearing, wire: W) -> Self
+    /// A server with this port, which hears at silences, and to which nothing has come.
+    pub fn new(port: Port<C>, wire: W) -> Self
+        requires { W.failures wire ≡ 0 }
+        ensures port { result.port ≡ port }
+        ensures wire { result.wire ≡ wire }
+        ensures hearing { result.hearing ≡ Hearing.AtSilences }
+        ensures reader { result.reader ≡ reading 0 [] }
+        ensures aired { result.aired ≡ None }
+    {
+        Server::with_hearing(port, Hearing::AtSilences, wire)
+    }
+
+    /// A server with this port, which hears so, and to which nothing has come.
+    pub fn with_hearing(port: Port<C>, hearing: Hearing, wire: W) -> Self
         requires { W.failures wire ≡ 0 }
         ensures port { result.port ≡ port }
         ensures wire { result.wire ≡ wire }

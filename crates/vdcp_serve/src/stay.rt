@@ -99,7 +99,7 @@ pub fn serve_over<C: Catalogue + Drop, W: Wire + Drop, R: Clock + AllocGlobal, L
 {
     hooks.connected(from);
     hooks.timing.begin_line(settings);
-    let mut server = Server::new(port, hearing_of(settings), line);
+    let mut server = Server::with_hearing(port, hearing_of(settings), line);
     let end = server.serve(turns, hooks);
     let (port, _) = server.into_parts();
     hooks.connected(None);

@@ -22,14 +22,14 @@ pub fn port(frames: u32) -> Result<Port<Clips>, Fail> {
 
 /// A server with a new port of unit 0 and number 1, to which these pieces come.
 pub fn server(alloc: Global, hearing: Hearing, pieces: &[&[u8]]) -> Result<Serving, Fail> {
-    Ok(Server::new(port(250)?, hearing, wire_of(alloc, pieces)?))
+    Ok(Server::with_hearing(port(250)?, hearing, wire_of(alloc, pieces)?))
 }
 
 /// The same, which hears at silences, over a wire whose call of this number fails after two bytes of a send.
 pub fn failing_server(alloc: Global, pieces: &[&[u8]], call: u64) -> Result<Serving, Fail> {
     let mut wire = wire_of(alloc, pieces)?;
     wire.fail_at(call, 2);
-    Ok(Server::new(port(250)?, Hearing::AtSilences, wire))
+    Ok(Server::new(port(250)?, wire))
 }
 
 /// An automation of no clips, to which these pieces come.

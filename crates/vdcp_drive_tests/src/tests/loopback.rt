@@ -9,7 +9,7 @@ use std::net::TcpStream;
 use std::test::Fail;
 use std::time::Duration;
 use vdcp_auto::{Controller, Outcome};
-use vdcp_drive::{AutoDriver, Hearing, Server};
+use vdcp_drive::{AutoDriver, Server};
 use vdcp_wire::{Came, StreamWire};
 
 /// The two ends of a connection, the second of which has sent a NAK.
@@ -30,7 +30,7 @@ fn ends(
     let (near, far) = streams(rt)?;
     let near = StreamWire::new(near, Duration::from_millis(20))?;
     let far = StreamWire::new(far, Duration::from_millis(4))?;
-    let server = Server::new(port, Hearing::AtSilences, far);
+    let server = Server::new(port, far);
     Ok((AutoDriver::new(controller, 0, near), server))
 }
 

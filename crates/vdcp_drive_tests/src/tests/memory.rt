@@ -7,7 +7,7 @@ use super::ends::{controller, port};
 use super::expecting::expect;
 use linked_list_allocator::LocalHeap;
 use std::test::Fail;
-use vdcp_drive::{AutoDriver, DriveFault, Hearing, Server};
+use vdcp_drive::{AutoDriver, DriveFault, Server};
 use vdcp_port::Port;
 use vdcp_wire::{Came, Entry, ScriptWire, Wire};
 
@@ -15,7 +15,7 @@ use vdcp_wire::{Came, Entry, ScriptWire, Wire};
 fn first_turn<W: Wire + Drop>(port: Port<Clips>, wire: W) -> Result<Came, DriveFault>
     requires { W.failures wire ≡ 0 }
 {
-    turn(&mut Server::new(port, Hearing::AtSilences, wire))
+    turn(&mut Server::new(port, wire))
 }
 
 // In a heap that has no room, the first growth is refused: of what each listen gave.

@@ -3,10 +3,10 @@ use Rattle.vdcp_serve.proofs.stay.serve_over.Goals as goal
 
 pub returns : goal.returns
 returns g c =
-    let made = c.new-server.ensures in record {
+    let made = c.with_hearing-server.ensures in record {
       begun = record c.connected.new.self { timing = c.begin_line.new.self };
       ended = c.serve-end.new.hooks;
-      old = c.new-server.result;
+      old = c.with_hearing-server.result;
       new = c.serve-end.new.self;
       begins = rw (sym c.connected.ensures) c.begin_line.ensures;
       is_new = record {
