@@ -6,11 +6,12 @@ use clap::ArgMatches;
 use std::alloc::{AllocError, Global};
 use std::io::{IsTerminal, Stderr, Stdin, Write};
 use std::time::Duration;
+use vdcp_drive::Hearing;
 use vdcp_line::number::{from_of, limit_of, listens_of, poll_of, port_of, run_silence_of, unit_of};
 use vdcp_line::rate::rate_of;
 use vdcp_line::{Output, Resumable, System, capture_of, open_file};
 use vdcp_list::Table;
-use vdcp_log::{Hearing, Screen, Telling};
+use vdcp_log::{Screen, Telling};
 use vdcp_operator::{Hand, Keys, RunNames, RunPage, is_channel_name, start_of};
 use vdcp_options::mode_of;
 use vdcp_panel::open_panel;
@@ -117,7 +118,7 @@ fn hand_of<'a, E: Write>(
         None
     };
     let told = Screen::new(system, system.rt.stderr());
-    Ok(Hand::new(system, keys, told, page, start, settings.hearing))
+    Ok(Hand::new(system, keys, told, page, start, least_poll_of(matches)))
 }
 
 // Tests that the channel's name, if it is given one, can be that; or the status.
@@ -219,8 +220,17 @@ fn run_limit_of(matches: &ArgMatches) -> u32
 // When answers are heard.
 fn hearing_of(matches: &ArgMatches) -> Hearing {
     if matches.get_flag("prompt") {
-        Hearing::AtOnce(poll_of(matches))
+        Hearing::AtOnce
     } else {
         Hearing::AtSilences
+    }
+}
+
+// How many milliseconds pass from one STATUS to the next at least. What hears at silences waits for these.
+fn least_poll_of(matches: &ArgMatches) -> u32 {
+    if matches.get_flag("prompt") {
+        poll_of(matches)
+    } else {
+        0
     }
 }

@@ -1,19 +1,17 @@
 //! Logs of a live channel, by writers that never block either end.
 //!
-//! A `Log` gets a line for each message (`Logged`, a wire over another one, which reads as `Hearing` says), for each item
+//! A `Log` gets a line for each message (`Logged`, a wire over another one, which reads as an end hears), for each item
 //! that goes to air (`AirLog`) and for each fault; and a capture's rows, with the bytes. `Lines` and `Screen` are writers
 //! that don't wait for their reader.
 //!
-//! Files, in reading order: `log`, `row`, `hearing`, `lines`, `screen`.
+//! Files, in reading order: `log`, `row`, `lines`, `screen`.
 #![tactic(auto)]
 
-mod hearing;
 mod lines;
 mod log;
 mod row;
 mod screen;
 
-pub use hearing::Hearing;
 pub use lines::Lines;
 pub use log::{AirLog, Log, Logged, Side, Telling};
 pub use screen::{Screen, write_at_once};

@@ -1,12 +1,12 @@
 //! The log, the wire that writes to it, and what tells it of a port.
 ghost use Rattle.std.specs.Prelude.{◌≡◌};
 
-use crate::hearing::Hearing;
 use crate::lines::Lines;
 use crate::row::Row;
 use std::cell::Cell;
 use std::io::Write;
 use std::{fmt, io};
+use vdcp_drive::Hearing;
 use vdcp_frame::{End, Ended, Got, Message, Reader};
 use vdcp_text::{EndText, ItemText, MeaningText, MessageText};
 use vdcp_value::{Item, Rate};
@@ -165,7 +165,7 @@ impl<'a, W: Wire, L: io::Write + Drop> Logged<'a, W, L> {
     fn reads_on(&self) -> bool {
         match self.hearing {
             Hearing::AtSilences => false,
-            Hearing::AtOnce(_) => self.came.is_some(),
+            Hearing::AtOnce => self.came.is_some(),
         }
     }
 }
@@ -266,7 +266,7 @@ fn tell_piece<L: io::Write + Drop>(
                 tell_message(log, row.direction, message);
                 row.add(log, &before[..before.len() - rest.len()]);
                 row.end(log);
-                if let Hearing::AtOnce(_) = hearing {
+                if let Hearing::AtOnce = hearing {
                     begun.silence();
                 }
             }

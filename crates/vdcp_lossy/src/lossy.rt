@@ -7,7 +7,8 @@ use std::io;
 use std::net::{Net, SocketAddr, SocketAddrV4};
 use std::rt::Clock;
 use std::time::Duration;
-use vdcp_log::{Hearing, Log, Logged, Side, Telling};
+use vdcp_drive::Hearing;
+use vdcp_log::{Log, Logged, Side, Telling};
 use vdcp_text::Failure;
 use vdcp_wire::{AcceptFault, StreamWire, accept_one, address_of};
 

@@ -1,16 +1,9 @@
 -- How soon the state is asked again.
 use Rattle.std.specs.Prelude.{ℕ, ◌≡◌, ◌<◌, ◌≤◌, ◌+◌, ◌-◌, ◌^◌, min, Option, None, Some}
 use Rattle.vdcp_drive.specs.declared.hooks.Call.{Call}
-use Rattle.vdcp_log.specs.declared.hearing.Hearing.{Hearing}
-use Rattle.vdcp_log.specs.declared.hearing.Hearing.TheVariants as hears
 use Rattle.vdcp_operator.specs.declared.polling.Polling.{Polling}
 use Rattle.vdcp_words.specs.declared.command.Command.{Command}
 use Rattle.vdcp_words.specs.declared.command.Command.TheVariants as command
-
--- the milliseconds from one STATUS to the next at least
-abbrev pub poll_of : Hearing → ℕ
-poll_of hears.AtSilences = 0
-poll_of (hears.AtOnce poll) = poll
 
 -- a STATUS goes out once it is due, by the run's own stopwatch, which a sleep sets forward
 abbrev pub IsDue : Option Command → (due now : ℕ) → Type 0

@@ -6,7 +6,7 @@ ghost use Rattle.vdcp_auto.specs.Turn.{given};
 ghost use Rattle.vdcp_drive.specs.declared.hooks.Call.{Call};
 ghost use Rattle.vdcp_list.specs.Rests.{items_left};
 ghost use Rattle.vdcp_operator.specs.Hands.{Asks, HasCome, IsNext, IsOver, PageCalls, TypedCalls, as_call, latest, until_for};
-ghost use Rattle.vdcp_operator.specs.Polls.{Paces, poll_of, unless_called};
+ghost use Rattle.vdcp_operator.specs.Polls.{Paces, unless_called};
 ghost use Rattle.vdcp_operator.specs.declared.hand.Until.{Until};
 ghost use Rattle.vdcp_operator.specs.declared.shown.RunPage.{RunPage};
 ghost use Rattle.vdcp_words.specs.declared.command.Command.{Command};
@@ -21,7 +21,6 @@ use std::time::Duration;
 use vdcp_auto::{Controller, Outcome, Source};
 use vdcp_drive::Call;
 use vdcp_list::Rest;
-use vdcp_log::Hearing;
 use vdcp_panel as panel;
 use vdcp_words::Command;
 
@@ -65,20 +64,20 @@ enum Until {
 
 impl<'a, R: Clock, I: Read + Drop, E: Write> Hand<'a, R, I, E> {
     /// A hand that reads calls there, has this page, and puts the first event to air then, since 1970, each if it is
-    /// there. What is typed and is no call is reported. The port is asked for its state as often as `hearing` says.
+    /// there. What is typed and is no call is reported. From one STATUS to the next it takes `poll` milliseconds at least.
     pub fn new(
         clock: &'a R,
         typed: Option<I>,
         told: E,
         page: Option<RunPage>,
         start: Option<Duration>,
-        hearing: Hearing,
+        poll: u32,
     ) -> Self
         ensures page { result.page ≡ page }
         ensures start { result.start ≡ start }
         ensures typed { IsSome result.typed ↔ IsSome typed }
         ensures held { result.held ≡ None }
-        ensures least { result.polling.least ≡ poll_of hearing * 1000000 }
+        ensures least { result.polling.least ≡ poll * 1000000 }
         ensures due { result.polling.due ≡ 0 }
     {
         Hand {
@@ -91,7 +90,7 @@ impl<'a, R: Clock, I: Read + Drop, E: Write> Hand<'a, R, I, E> {
             page,
             start,
             time: None,
-            polling: Polling::new(clock, hearing),
+            polling: Polling::new(clock, poll),
             commands: 0,
             held: None,
         }

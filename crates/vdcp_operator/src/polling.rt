@@ -4,7 +4,6 @@ ghost use Rattle.vdcp_words.specs.declared.command.Command.{Command};
 
 use crate::stopwatch::{Stopwatch, nanoseconds};
 use std::rt::Clock;
-use vdcp_log::Hearing;
 
 /// The pace at which the state is asked: one STATUS goes out no sooner than some time after the other.
 #[derive(Drop)]
@@ -16,17 +15,13 @@ pub struct Polling<'a, R: Clock> {
 }
 
 impl<'a, R: Clock> Polling<'a, R> {
-    ghost use Rattle.vdcp_operator.specs.Polls.{Paces, poll_of};
+    ghost use Rattle.vdcp_operator.specs.Polls.{Paces};
 
-    /// The pace of a run. One that hears at silences doesn't wait.
-    pub fn new(clock: &'a R, hearing: Hearing) -> Self
-        ensures least { result.least ≡ poll_of hearing * 1000000 }
+    /// The pace of a run, with this many milliseconds from one STATUS to the next at least.
+    pub fn new(clock: &'a R, poll: u32) -> Self
+        ensures least { result.least ≡ poll * 1000000 }
         ensures due { result.due ≡ 0 }
     {
-        let poll = match hearing {
-            Hearing::AtSilences => 0,
-            Hearing::AtOnce(poll) => poll,
-        };
         Polling {
             stopwatch: Stopwatch::new(clock),
             least: nanoseconds(poll),

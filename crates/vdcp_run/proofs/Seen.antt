@@ -13,8 +13,8 @@ use Rattle.vdcp_drive.specs.declared.hooks.Kept.{Kept}
 use Rattle.vdcp_drive.specs.declared.hooks.KeptFault.{KeptFault}
 use Rattle.vdcp_drive.specs.declared.line.Ran.{Ran}
 use Rattle.vdcp_drive.specs.declared.vacancy.Vacancy.{Vacancy}
-use Rattle.vdcp_log.specs.declared.hearing.Hearing.{Hearing}
-use Rattle.vdcp_log.specs.declared.hearing.Hearing.TheVariants as hears
+use Rattle.vdcp_drive.specs.declared.hearing.Hearing.{Hearing}
+use Rattle.vdcp_drive.specs.declared.hearing.Hearing.TheVariants as hears
 use Rattle.vdcp_journal_file.specs.Recording.{Recording}
 use Rattle.vdcp_run.specs.Lapse.{Lapses, MayLapse}
 use Rattle.vdcp_run.specs.Session.{HasAwaited, HasPlayed, HasSession, HasTried, IsAsked, MayStop, Plays, Start, TriesOver, broke, left_off, no_wire, played, tried, unbegun, went_on}
@@ -115,7 +115,7 @@ module _ {W W' : Type 0} (does : Act → W → W → Type 0) (does' : Act → W'
   awaits_in_seen hears.AtSilences (Some stage) settings is plan state old new h =
       rw is (asks_seen ears.at_silences (ears.begun (holds [])) plan settings.unit settings.listens
       (record state { stage = stage }) old new (rw is at h))
-  awaits_in_seen (hears.AtOnce poll) (Some stage) settings is plan state old new h =
+  awaits_in_seen hears.AtOnce (Some stage) settings is plan state old new h =
       rw is (asks_seen ears.at_once (holds []) plan settings.unit settings.listens
       (record state { stage = stage }) old new (rw is at h))
 
@@ -140,7 +140,7 @@ module _ {W W' : Type 0} (does : Act → W → W → Type 0) (does' : Act → W'
         → HasPlayed hearing does' safe unit listens start (below world) end
     played_seen hears.AtSilences unit listens start world end plays =
         plays_seen ears.at_silences (ears.begun (holds [])) unit listens start world end plays
-    played_seen (hears.AtOnce poll) unit listens start world end plays =
+    played_seen hears.AtOnce unit listens start world end plays =
         plays_seen ears.at_once (holds []) unit listens start world end plays
 
     tries_seen : (settings : RunSettings) (start : Start) (world : World W (Option (Recording F))) (end : RunEnd)

@@ -1,7 +1,7 @@
 -- A silence that comes by the clock, if bytes keep coming.
 use Rattle.std.specs.Prelude.{ℕ, suc, zero, ◌≡◌, ◌⊎◌, ◌-◌, Bool, true, false, nat_le}
-use Rattle.vdcp_log.specs.declared.hearing.Hearing.{Hearing}
-use Rattle.vdcp_log.specs.declared.hearing.Hearing.TheVariants as hears
+use Rattle.vdcp_drive.specs.declared.hearing.Hearing.{Hearing}
+use Rattle.vdcp_drive.specs.declared.hearing.Hearing.TheVariants as hears
 use Rattle.vdcp_wire.specs.Acts.{Act, sends, brings, drops, fails}
 use Rattle.vdcp_wire.specs.Wires.{Arrival, silence}
 use Rattle.vdcp_wire.specs.declared.wire.Came.{Came}
@@ -12,7 +12,7 @@ use Rattle.vdcp_run.specs.declared.lapsing.Since.TheVariants as since
 -- how many silences after the last command one comes by the clock: generous where silences end answers
 abbrev pub silences_of : Hearing → ℕ
 silences_of hears.AtSilences = 16
-silences_of (hears.AtOnce poll) = 1
+silences_of hears.AtOnce = 1
 
 -- whether this time has passed since the last command was sent, and bytes came since. (If none came, the wire tells
 -- silences itself)

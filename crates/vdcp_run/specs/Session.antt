@@ -20,8 +20,8 @@ use Rattle.vdcp_drive.specs.declared.vacancy.Vacancy.{Vacancy}
 use Rattle.vdcp_drive.specs.declared.vacancy.Vacancy.TheVariants as vacancy
 use Rattle.vdcp_journal.specs.declared.moment.Moment.{Moment}
 use Rattle.vdcp_list.specs.Rests.{FromEvent, items_left}
-use Rattle.vdcp_log.specs.declared.hearing.Hearing.{Hearing}
-use Rattle.vdcp_log.specs.declared.hearing.Hearing.TheVariants as hears
+use Rattle.vdcp_drive.specs.declared.hearing.Hearing.{Hearing}
+use Rattle.vdcp_drive.specs.declared.hearing.Hearing.TheVariants as hears
 use Rattle.vdcp_journal_file.specs.Recorded.{Loses, Notes}
 use Rattle.vdcp_journal_file.specs.Recording.{Adds, Recording, outcome_rows}
 use Rattle.vdcp_run.specs.Ends.{IsOpening, line_end_of, outcome_in_list, unbegun_line}
@@ -83,7 +83,7 @@ abbrev pub HasPlayed : {W F : Type 0} → Hearing → (Act → W → W → Type 
     → Start → World W (Option (Recording F)) → RunEnd → Type 0
 HasPlayed hears.AtSilences does safe unit listens start world end =
     Plays does safe ears.at_silences (ears.begun (holds [])) unit listens start world end
-HasPlayed (hears.AtOnce poll) does safe unit listens start world end =
+HasPlayed hears.AtOnce does safe unit listens start world end =
     Plays does safe ears.at_once (holds []) unit listens start world end
 
 -- ---- the questions to the port before it

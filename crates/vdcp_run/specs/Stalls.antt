@@ -2,15 +2,15 @@
 use Rattle.std.specs.Prelude.{ℕ, ◌-◌, Bool, true, false, Option, None, Some, nat_lt, if◌then◌else◌}
 use Rattle.vdcp_auto.specs.State.{Awaiting, Ended, Ready, Stage}
 use Rattle.vdcp_auto.specs.declared.phase.Phase.{Phase}
-use Rattle.vdcp_log.specs.declared.hearing.Hearing.{Hearing}
-use Rattle.vdcp_log.specs.declared.hearing.Hearing.TheVariants as hears
+use Rattle.vdcp_drive.specs.declared.hearing.Hearing.{Hearing}
+use Rattle.vdcp_drive.specs.declared.hearing.Hearing.TheVariants as hears
 use Rattle.vdcp_run.specs.declared.stalling.Stall.{Stall}
 use Rattle.vdcp_run.specs.declared.stalling.Stall.TheVariants.{Nothing, Since, Told}
 
 -- a run that hears at silences tells nothing
 abbrev pub first_stall : Hearing → Stall
 first_stall hears.AtSilences = Told
-first_stall (hears.AtOnce poll) = Nothing
+first_stall hears.AtOnce = Nothing
 
 -- five seconds after it was first seen so it is told, once
 abbrev pub stall_after : (cues : Bool) → Stall → (now : ℕ) → Stall

@@ -14,8 +14,8 @@ use Rattle.vdcp_drive.specs.declared.hooks.Kept.{Kept}
 use Rattle.vdcp_drive.specs.declared.hooks.Kept.TheVariants as kept
 use Rattle.vdcp_drive.specs.declared.hooks.KeptFault.{KeptFault}
 use Rattle.vdcp_drive.specs.declared.line.Ran.{Ran}
-use Rattle.vdcp_log.specs.declared.hearing.Hearing.{Hearing}
-use Rattle.vdcp_log.specs.declared.hearing.Hearing.TheVariants as hears
+use Rattle.vdcp_drive.specs.declared.hearing.Hearing.{Hearing}
+use Rattle.vdcp_drive.specs.declared.hearing.Hearing.TheVariants as hears
 use Rattle.vdcp_run.specs.declared.settings.RunSettings.{RunSettings}
 use Rattle.vdcp_wire.specs.Acts.{Act}
 use Rattle.vdcp_words.specs.declared.command.Command.{Command}
@@ -68,7 +68,7 @@ AsksState does fold ear plan unit listens state wire wire' =
 abbrev pub AsksBy : {W : Type 0} → Hearing → (Act → W → W → Type 0) → Plan → (unit listens : ℕ) → State → W → W → Type 0
 AsksBy hears.AtSilences does plan unit listens state wire wire' =
     AsksState does ears.at_silences (ears.begun (holds [])) plan unit listens state wire wire'
-AsksBy (hears.AtOnce poll) does plan unit listens state wire wire' =
+AsksBy hears.AtOnce does plan unit listens state wire wire' =
     AsksState does ears.at_once (holds []) plan unit listens state wire wire'
 
 -- where the controller waits for the clip before, if it asks whether its PLAY was lost

@@ -7,7 +7,7 @@ ghost use Rattle.vdcp_run.specs.Lapse.{has_lapsed, since_after, since_with, sile
 use crate::settings::RunSettings;
 use std::cell::Cell;
 use std::rt::Clock;
-use vdcp_log::Hearing;
+use vdcp_drive::Hearing;
 use vdcp_operator::{Stopwatch, nanoseconds};
 use vdcp_wire::{Came, PIECE, Wire, WireFault};
 
@@ -96,7 +96,7 @@ fn silences_of(hearing: Hearing) -> u64
 {
     match hearing {
         Hearing::AtSilences => 16,
-        Hearing::AtOnce(_) => 1,
+        Hearing::AtOnce => 1,
     }
 }
 

@@ -22,10 +22,10 @@ use std::net::{Net, SocketAddrV4};
 use std::rt::{Clock, Files};
 use std::time::Duration;
 use vdcp_auto::{Controller, Outcome, Source};
-use vdcp_drive::{AutoDriver, Driver, Ear, PromptDriver};
+use vdcp_drive::{AutoDriver, Driver, Ear, Hearing, PromptDriver};
 use vdcp_journal_file::{Disk, RecordFault, Recorder, Resumption};
 use vdcp_list::Rest;
-use vdcp_log::{Hearing, Log, Logged, Side};
+use vdcp_log::{Log, Logged, Side};
 use vdcp_operator::Hand;
 use vdcp_text::Failure;
 use vdcp_wire::{StreamWire, Wire};
@@ -184,7 +184,7 @@ impl<
             Hearing::AtSilences => {
                 playing.play(AutoDriver::new(controller, settings.unit, wire), rest, seen)
             }
-            Hearing::AtOnce(_) => {
+            Hearing::AtOnce => {
                 playing.play(
                     PromptDriver::new(controller, settings.unit, wire),
                     rest,

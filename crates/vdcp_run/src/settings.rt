@@ -3,7 +3,8 @@ ghost use Rattle.std.specs.Prelude.{◌≡◌};
 ghost use Rattle.vdcp_run.specs.Run.{name_of};
 
 use vdcp_auto::Mode;
-use vdcp_log::{Hearing, Telling};
+use vdcp_drive::Hearing;
+use vdcp_log::Telling;
 use vdcp_value::Rate;
 
 /// What a list is played with.

@@ -6,7 +6,7 @@ ghost use Rattle.vdcp_run.specs.Stalls.{awaited_phase, first_stall, stall_after}
 
 use std::rt::Clock;
 use vdcp_auto::{Controller, Phase, Source, Standing};
-use vdcp_log::Hearing;
+use vdcp_drive::Hearing;
 use vdcp_operator::Stopwatch;
 
 /// For how long the first cue may go on, in nanoseconds, until that is told.
@@ -43,7 +43,7 @@ impl<'r, R: Clock> Stalling<'r, R> {
             stopwatch: Stopwatch::new(clock),
             stall: match hearing {
                 Hearing::AtSilences => Stall::Told,
-                Hearing::AtOnce(_) => Stall::Nothing,
+                Hearing::AtOnce => Stall::Nothing,
             },
             last: None,
         }

@@ -9,9 +9,10 @@ use crate::settings::RunSettings;
 use std::io;
 use std::rt::{Clock, Files};
 use vdcp_auto::{Controller, Heard, Phase, Snapshot, Source, Standing};
-use vdcp_drive::{AutoDriver, Call, Driver, Ear, Hooks, KeepFault, KeptFault, PromptDriver};
+use vdcp_drive::{
+    AutoDriver, Call, Driver, Ear, Hearing, Hooks, KeepFault, KeptFault, PromptDriver,
+};
 use vdcp_list::Rest;
-use vdcp_log::Hearing;
 use vdcp_wire::Wire;
 use vdcp_words::Command;
 
@@ -61,7 +62,7 @@ impl<
             Hearing::AtSilences => {
                 ask_by(AutoDriver::new(waiting, unit, wire), listens, &mut hooks)
             }
-            Hearing::AtOnce(_) => {
+            Hearing::AtOnce => {
                 ask_by(PromptDriver::new(waiting, unit, wire), listens, &mut hooks)
             }
         };

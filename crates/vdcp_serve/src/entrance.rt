@@ -7,7 +7,7 @@ ghost use Rattle.vdcp_value.specs.Clock.{frames_after};
 ghost use Rattle.vdcp_wire.specs.Streams.{failures_of};
 
 use crate::serve::{ServeSettings, word_of};
-use crate::stay::{Coming, Connections};
+use crate::stay::{Coming, Connections, hearing_of};
 use mio::unix::SourceFd;
 use mio::{Events, Interest, Poll, Token};
 use std::alloc::Global;
@@ -17,7 +17,7 @@ use std::os::fd::AsRawFd;
 use std::rt::Clock;
 use std::time::Duration;
 use vdcp_drive::{DriveFault, TurnsEnd};
-use vdcp_log::{Hearing, Log, Logged};
+use vdcp_log::{Log, Logged};
 use vdcp_text::Failure;
 use vdcp_wire::{Duplex, StreamWire, Waits, WireFault};
 
@@ -142,12 +142,7 @@ pub fn line_over<S: Duplex + Drop, L: io::Write + Drop>(
     ensures works { IfOk result (λ line. failures_of line.wire.connection ≡ 0) }
 {
     let wire = StreamWire::with_waits(stream, waits_of(settings))?;
-    let hearing = if settings.by_clock {
-        Hearing::AtOnce(0)
-    } else {
-        Hearing::AtSilences
-    };
-    Ok(Logged::new(wire, log, hearing))
+    Ok(Logged::new(wire, log, hearing_of(settings)))
 }
 
 // How long a line waits. By the clock a listen is short, so that a frame passes in time; several are a silence.
