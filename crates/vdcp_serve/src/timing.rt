@@ -113,6 +113,18 @@ impl<'a, R: Clock> Timing<'a, R> {
         self.turns
     }
 
+    // The time, which is read only if something goes by it.
+    fn now(&mut self) -> u64
+        ensures time { result ≡ self.new.time }
+        ensures later { self.old.time ≤ self.new.time }
+        ensures keeps { self.new ≡ record self.old { time = self.new.time } }
+    {
+        if self.frames.is_none() && self.patience.seconds.is_none() {
+            return self.time;
+        }
+        self.read_clock()
+    }
+
     // Reads the clock, which never goes back.
     fn read_clock(&mut self) -> u64
         ensures time { result ≡ self.new.time }
@@ -130,7 +142,7 @@ impl<'a, R: Clock> Timing<'a, R> {
     pub fn due(&mut self) -> Due
         ensures { WasAsked result self.old self.new }
     {
-        let now = self.read_clock();
+        let now = self.now();
         self.turns = self.turns.saturating_add(1);
         if self.patience.gives_up {
             return Due::GiveUp;
@@ -148,7 +160,7 @@ impl<'a, R: Clock> Timing<'a, R> {
         ensures { WasTold turned self.old self.new }
     {
         let began = self.time;
-        let ended = self.read_clock();
+        let ended = self.now();
         self.patience = self.patience.after_turn(turned, began, ended);
     }
 }
