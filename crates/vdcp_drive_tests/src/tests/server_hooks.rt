@@ -57,7 +57,7 @@ fn served(
     (end, diary.moments)
 }
 
-// An item goes to air by the PLAY behind the frame that ends its cue.
+// The PLAY after the frame that ends a cue puts the item to air.
 #[test]
 fn what_is_due_is_done(rt: HostRuntime) -> Result<(), Fail> {
     let server = server(rt.alloc(), Hearing::AtOnce, &[OPEN, SELECT, CUE_1, PLAY])?;
