@@ -2,6 +2,7 @@
 use Rattle.std.proofs.Common.{ℕ, ◌≡◌, Bool, true, false, List, [], ◌∷◌, ◌++◌, map, refl, sym, ap, subst, ◌∙◌, append_assoc, append-nil}
 use Rattle.std.specs.Prelude.{Option, Some, Result, Err}
 use Rattle.vdcp_auto.specs.Plan.{Plan}
+use Rattle.vdcp_auto.specs.State.{State}
 use Rattle.vdcp_auto.specs.Turn.{given, ticked}
 use Rattle.vdcp_auto.specs.declared.exchange.Exchange.{Exchange}
 use Rattle.vdcp_wire.specs.Acts.{Act, sends, brings, fails, Tells}
@@ -9,13 +10,14 @@ use Rattle.vdcp_wire.specs.Wires.{Arrival, Told}
 use Rattle.vdcp_drive.specs.Auto.{Auto, Event, after, arrivals, arrives, calls, ended, gives, heeds, listens, log_of}
 use Rattle.vdcp_drive.specs.Ears.{Fold, inputs}
 use Rattle.vdcp_drive.specs.Keeping.{HasKept, KeepsRun, notes_of}
-use Rattle.vdcp_drive.specs.Leaves.{Ending, by_itself, in_keep, in_drop, in_send, in_listen, HasRun, steps_in}
-use Rattle.vdcp_drive.specs.Steps.{Chain, Step, acts, keeps, misses, Rules, World, Does, Happens, command_bytes, dropping, sending, given_notes, ended_notes, opening, round, steps_of}
+use Rattle.vdcp_drive.specs.Leaves.{Ending, by_itself, asked_before, by_hooks, in_keep, in_drop, in_send, in_listen, HasRun, steps_in}
+use Rattle.vdcp_drive.specs.Steps.{Chain, Step, acts, asks, keeps, misses, Rules, World, Does, Happens, command_bytes, dropping, sending, given_notes, ended_notes, opening, round, steps_of}
 use Rattle.vdcp_drive.specs.Tells.{told_after_all}
 use Rattle.vdcp_drive.specs.Traces.{acts_in, kept_in, sent_in, came_in, commands_kept, bytes_of, exchanged, kept_of, awaited_notes}
 use Rattle.vdcp_drive.specs.declared.hooks.Kept.{Kept}
-use Rattle.vdcp_drive.specs.declared.hooks.KeptFault.{KeptFault}
-use Rattle.vdcp_drive.specs.declared.hooks.KeptFault.TheVariants as fault
+use Rattle.vdcp_drive.specs.declared.hooks.Next.{Next}
+use Rattle.vdcp_drive.specs.declared.hooks.BrokenOff.{BrokenOff}
+use Rattle.vdcp_drive.specs.declared.hooks.BrokenOff.TheVariants as fault
 use Rattle.vdcp_drive.specs.declared.line.Ran.{Ran}
 use Rattle.vdcp_drive.proofs.Chains.{chain_split}
 use Rattle.vdcp_drive.proofs.Coursing.{ticked_twice}
@@ -59,57 +61,66 @@ none_steps {E} fold plan unit a (arrives what ∷ later) =
     (none_opening fold plan unit a) (none_keeps (ended_notes es)))
     (none_steps fold plan unit b later)
 
+-- to be asked changes nothing in what keeps them
+abbrev LeavesIt : {W J : Type 0} → Rules W J → Type 0
+LeavesIt {W} {J} rules = (s : State) (n : Next) (old new : J) → rules.asks s n old new → new ≡ old
+
 -- what happens to what keeps them
-on_keep : {W J : Type 0} (rules : Rules W J) (xs : List Step) (old new : World W J) → MissesNone xs
+on_keep : {W J : Type 0} (rules : Rules W J) → LeavesIt rules → (xs : List Step) (old new : World W J) → MissesNone xs
     → Happens rules xs old new → Chain rules.adds (kept_in xs) old.keep new.keep
-on_keep {W} {J} rules [] old new none h = ap (λ (w : World W J). w.keep) h
-on_keep rules (keeps r ∷ xs) old new none h = (h.0.keep, h.1.0, on_keep rules xs h.0 new none h.2)
-on_keep rules (misses c ∷ xs) old new none h = absurd none
-on_keep rules (x ∷ xs) old new none h = rw h.1.1 at (on_keep rules xs h.0 new none h.2)
+on_keep {W} {J} rules still [] old new none h = ap (λ (w : World W J). w.keep) h
+on_keep rules still (asks s n ∷ xs) old new none h =
+    rw (still s n old.keep h.0.keep h.1.0) at (on_keep rules still xs h.0 new none h.2)
+on_keep rules still (keeps r ∷ xs) old new none h = (h.0.keep, h.1.0, on_keep rules still xs h.0 new none h.2)
+on_keep rules still (misses c ∷ xs) old new none h = absurd none
+on_keep rules still (acts a ∷ xs) old new none h = rw h.1.1 at (on_keep rules still xs h.0 new none h.2)
 
 -- if the wire failed after these were kept
-device_keeps : {W J : Type 0} (rules : Rules W J) (steps more : List Step) (old new : World W J)
-    (answer : Result Ran KeptFault) → answer ≡ Err fault.Device → MissesNone steps → MissesNone more
+device_keeps : {W J : Type 0} (rules : Rules W J) → LeavesIt rules → (steps more : List Step) (old new : World W J)
+    (answer : Result Ran BrokenOff) → answer ≡ Err fault.Device → MissesNone steps → MissesNone more
     → Happens rules (steps ++ more) old new
     → HasKept rules.adds rules.loses answer (kept_in (steps ++ more)) old.keep new.keep
-device_keeps rules steps more old new answer is none last h =
-    rw is (on_keep rules (steps ++ more) old new (none_both steps more none last) h)
+device_keeps rules still steps more old new answer is none last h =
+    rw is (on_keep rules still (steps ++ more) old new (none_both steps more none last) h)
 
 -- if the next one couldn't be kept
-unkept_keeps : {W J : Type 0} (rules : Rules W J) (steps more : List Step) (c : Kept) (old new : World W J)
-    (answer : Result Ran KeptFault) → answer ≡ Err fault.Unkept → more ≡ misses c ∷ [] → MissesNone steps
-    → Happens rules (steps ++ more) old new
+unkept_keeps : {W J : Type 0} (rules : Rules W J) → LeavesIt rules → (steps more : List Step) (at : State) (n : Next) (c : Kept)
+    (old new : World W J) (answer : Result Ran BrokenOff) → answer ≡ Err fault.Unkept → more ≡ asks at n ∷ misses c ∷ []
+    → MissesNone steps → Happens rules (steps ++ more) old new
     → HasKept rules.adds rules.loses answer (kept_in (steps ++ more)) old.keep new.keep
-unkept_keeps {W} {J} rules steps more c old new answer is are none h =
-    let s = chain_split (Does rules) steps (misses c ∷ []) old new (rw are at h) in
+unkept_keeps {W} {J} rules still steps more at n c old new answer is are none h =
+    let s = chain_split (Does rules) steps (asks at n ∷ misses c ∷ []) old new (rw are at h) in
+    let next : World W J = s.2.0 in
     rw (is, are) (
-      s.0.keep,
+      next.keep,
       c,
-      simp (rows_both, append-nil) (on_keep rules steps old s.0 none s.1),
-      subst (λ (w : World W J). rules.loses c s.0.keep w.keep) (sym s.2.2) s.2.1.0,
+      rw (still at n s.0.keep next.keep s.2.1.0) (simp (rows_both, append-nil) (on_keep rules still steps old s.0 none s.1)),
+      subst (λ (w : World W J). rules.loses c next.keep w.keep) (sym s.2.2.2) s.2.2.1.0,
     )
 
-keeps_so : {E W J : Type 0} (rules : Rules W J) (steps : List Step) (old new : World W J) (fold : Fold E)
-    (plan : Plan) (unit count : ℕ) (came : List Arrival) (b : Auto E) (answer : Result Ran KeptFault) (more : List Step)
+keeps_so : {E W J : Type 0} (rules : Rules W J) → LeavesIt rules → (steps : List Step) (old new : World W J) (fold : Fold E)
+    (plan : Plan) (unit count : ℕ) (events : List Event) (b : Auto E) (answer : Result Ran BrokenOff) (more : List Step)
     (a' : Auto E) → MissesNone steps → Happens rules (steps ++ more) old new
-    → Ending fold plan unit count came b answer more a'
+    → Ending fold plan unit count events b answer more a'
     → HasKept rules.adds rules.loses answer (kept_in (steps ++ more)) old.keep new.keep
-keeps_so rules steps old new fold plan unit count came b answer more a' safe h (by_itself r is to none left) =
-    rw is (on_keep rules (steps ++ more) old new (none_both steps more safe (rw none tt)) h)
-keeps_so rules steps old new fold plan unit count came b answer more a' safe h (in_keep c is going are left) =
-    unkept_keeps rules steps more c old new answer is are safe h
-keeps_so rules steps old new fold plan unit count came b answer more a' safe h (in_drop c is first gives_it are left) =
-    device_keeps rules steps more old new answer is safe (rw are tt) h
-keeps_so rules steps old new fold plan unit count came b answer more a' safe h
+keeps_so rules still steps old new fold plan unit count events b answer more a' safe h (by_itself r is to none left) =
+    rw is (on_keep rules still (steps ++ more) old new (none_both steps more safe (rw none tt)) h)
+keeps_so rules still steps old new fold plan unit count events b answer more a' safe h (by_hooks is going are stays) =
+    rw is (on_keep rules still (steps ++ more) old new (none_both steps more safe (rw are tt)) h)
+keeps_so rules still steps old new fold plan unit count events b answer more a' safe h (in_keep c is going are left) =
+    unkept_keeps rules still steps more b.state (asked_before c) c old new answer is are safe h
+keeps_so rules still steps old new fold plan unit count events b answer more a' safe h (in_drop c is first gives_it are left) =
+    device_keeps rules still steps more old new answer is safe (rw are tt) h
+keeps_so rules still steps old new fold plan unit count events b answer more a' safe h
     (in_send c front rest is gives_it parts are left) =
-    device_keeps rules steps more old new answer is safe
+    device_keeps rules still steps more old new answer is safe
     (rw are (none_acts (dropping fold.drops ++ sends front ∷ []))) h
-keeps_so rules steps old new fold plan unit count came b answer more a' safe h (in_listen is are left) =
-    device_keeps rules steps more old new answer is safe (rw are (none_both (opening fold plan unit b)
+keeps_so rules still steps old new fold plan unit count events b answer more a' safe h (in_listen is are left) =
+    device_keeps rules still steps more old new answer is safe (rw are (none_both (opening fold plan unit b)
     (acts fails ∷ []) (none_opening fold plan unit b) tt)) h
 
 -- The last steps: what is kept in them, and what went out of that.
-record Last {E : Type 0} (fold : Fold E) (plan : Plan) (unit : ℕ) (b a' : Auto E) (answer : Result Ran KeptFault)
+record Last {E : Type 0} (fold : Fold E) (plan : Plan) (unit : ℕ) (b a' : Auto E) (answer : Result Ran BrokenOff)
     (more : List Step) : Type 0 where
   shows : (log : List Exchange) → kept_of log ++ (awaited_notes plan b.state ++ exchanged (kept_in more))
       ≡ notes_of plan log a'.state answer
@@ -125,28 +136,34 @@ pub send_came : (first : Bool) (front : List ℕ) → came_in (dropping first ++
 send_came true front = refl
 send_came false front = refl
 
-last_of : {E : Type 0} (fold : Fold E) (plan : Plan) (unit count : ℕ) (came : List Arrival) (b : Auto E)
-    (answer : Result Ran KeptFault) (more : List Step) (a' : Auto E) → Ending fold plan unit count came b answer more a'
+last_of : {E : Type 0} (fold : Fold E) (plan : Plan) (unit count : ℕ) (events : List Event) (b : Auto E)
+    (answer : Result Ran BrokenOff) (more : List Step) (a' : Auto E) → Ending fold plan unit count events b answer more a'
     → Last fold plan unit b a' answer more
-last_of fold plan unit count came b answer more a' (by_itself r is to none left) = rw (is, none, left) (record {
+last_of fold plan unit count events b answer more a' (by_itself r is to none left) = rw (is, none, left) (record {
   shows = λ log. simp append-nil;
   unsent = [];
   sent = refl;
   nothing_came = refl;
 })
-last_of fold plan unit count came b answer more a' (in_keep c is going are left) = rw (is, are, left) (record {
+last_of fold plan unit count events b answer more a' (by_hooks is going are stays) = rw (is, are, stays) (record {
   shows = λ log. simp append-nil;
   unsent = [];
   sent = refl;
   nothing_came = refl;
 })
-last_of fold plan unit count came b answer more a' (in_drop c is first gives_it are left) = rw (is, are, left) (record {
+last_of fold plan unit count events b answer more a' (in_keep c is going are left) = rw (is, are, left) (record {
+  shows = λ log. simp append-nil;
+  unsent = [];
+  sent = refl;
+  nothing_came = refl;
+})
+last_of fold plan unit count events b answer more a' (in_drop c is first gives_it are left) = rw (is, are, left) (record {
   shows = λ log. ap (λ (l : List Kept). kept_of log ++ l) (gives_notes plan b.state (Some c) gives_it);
   unsent = command_bytes unit c;
   sent = sym (append-nil (command_bytes unit c));
   nothing_came = refl;
 })
-last_of fold plan unit count came b answer more a' (in_send c front rest is gives_it parts are left) =
+last_of fold plan unit count events b answer more a' (in_send c front rest is gives_it parts are left) =
     rw (is, are, left) (record {
       shows = λ log. simp (traces, given_exchanged, ticked_twice)
           (ap (λ (l : List Kept). kept_of log ++ l) (gives_notes plan b.state (Some c) gives_it));
@@ -154,7 +171,7 @@ last_of fold plan unit count came b answer more a' (in_send c front rest is give
       sent = simp (acts_of_acts, rows_of_acts, send_sent) (sym parts ∙ sym (append-nil (command_bytes unit c)));
       nothing_came = simp (acts_of_acts, send_came);
     })
-last_of fold plan unit count came b answer more a' (in_listen is are left) = rw (is, are, left) (record {
+last_of fold plan unit count events b answer more a' (in_listen is are left) = rw (is, are, left) (record {
   shows = λ log. simp (traces, given_exchanged, ticked_twice)
       (ap (λ (l : List Kept). kept_of log ++ l) (gives_notes plan b.state (given plan b.state) refl));
   unsent = [];
@@ -162,20 +179,20 @@ last_of fold plan unit count came b answer more a' (in_listen is are left) = rw 
   nothing_came = simp (traces, sending_came);
 })
 
-pub run_keeps : {E W J : Type 0} (rules : Rules W J) (told : W → Option Told)
+pub run_keeps : {E W J : Type 0} (rules : Rules W J) → LeavesIt rules → (told : W → Option Told)
     → ((act : Act) (old new : W) → rules.does act old new → Tells act (told old) (told new))
     → (fold : Fold E) (plan : Plan) (unit count : ℕ) (a a' : Auto E) (world world' : World W J)
-    (answer : Result Ran KeptFault) → (h : HasRun rules fold plan unit count a a' world world' answer)
+    (answer : Result Ran BrokenOff) → (h : HasRun rules fold plan unit count a a' world world' answer)
     → KeepsRun rules.adds rules.loses told fold plan unit a a' world.wire world'.wire answer world.keep world'.keep
     h.run.events (kept_in (steps_in h.run))
-run_keeps {E} rules told law fold plan unit count a a' world world' answer h =
+run_keeps {E} rules still told law fold plan unit count a a' world world' answer h =
     let b : Auto E = after fold plan unit a h.run.events in
     let steps : List Step = steps_of fold plan unit a h.run.events in
     let all : List Step = steps ++ h.run.more in
     let log : List Exchange = log_of fold plan unit a h.run.events in
-    let l : Last fold plan unit b a' answer h.run.more = last_of fold plan unit count (arrivals h.run.events) b answer h.run.more a' h.run.ending in
+    let l : Last fold plan unit b a' answer h.run.more = last_of fold plan unit count h.run.events b answer h.run.more a' h.run.ending in
     record {
-      noted = keeps_so rules steps world world' fold plan unit count (arrivals h.run.events) b answer h.run.more a'
+      noted = keeps_so rules still steps world world' fold plan unit count h.run.events b answer h.run.more a'
           (none_steps fold plan unit a h.run.events) h.happened h.run.ending;
       shows = rw (rows_both steps h.run.more, exchanged_both (kept_in steps) (kept_in h.run.more)) (cc (
         steps_kept fold plan unit a h.run.events,

@@ -3,6 +3,7 @@ use Rattle.std.proofs.Common.{ℕ, ◌≡◌, Bool, true, false, List, [], ◌�
 use Rattle.std.specs.Prelude.{Option, Some, None, Result}
 use Rattle.vdcp_words.specs.declared.command.Command.{Command}
 use Rattle.vdcp_auto.specs.Plan.{Plan}
+use Rattle.vdcp_auto.specs.State.{State}
 use Rattle.vdcp_auto.specs.Turn.{given, ticked}
 use Rattle.vdcp_auto.specs.declared.exchange.Exchange.{Exchange}
 use Rattle.vdcp_auto.specs.declared.exchange.Heard.{Heard}
@@ -10,11 +11,12 @@ use Rattle.vdcp_wire.specs.Wires.{Arrival}
 use Rattle.vdcp_wire.specs.Acts.{sends, brings, fails}
 use Rattle.vdcp_drive.specs.Auto.{Auto, Event, after, arrivals, arrives, calls, ended, gives, heeds, listens}
 use Rattle.vdcp_drive.specs.Ears.{Fold, inputs}
-use Rattle.vdcp_drive.specs.Leaves.{Ending, by_itself, in_keep, in_drop, in_send, in_listen, IsRun, steps_in}
+use Rattle.vdcp_drive.specs.Leaves.{Ending, by_itself, by_hooks, in_keep, in_drop, in_send, in_listen, IsRun, steps_in}
 use Rattle.vdcp_drive.specs.Safe.{AreSafe, IsFrontOf, IsCut, here, within, on}
-use Rattle.vdcp_drive.specs.Steps.{Step, acts, keeps, command_bytes, dropping, sending, given_notes, ended_notes, end_of, opening, steps_of}
+use Rattle.vdcp_drive.specs.Steps.{Step, acts, asks, keeps, command_bytes, dropping, sending, given_notes, ended_notes, end_of, opening, steps_of}
 use Rattle.vdcp_drive.specs.declared.hooks.Kept.TheVariants as row
-use Rattle.vdcp_drive.specs.declared.hooks.KeptFault.{KeptFault}
+use Rattle.vdcp_drive.specs.declared.hooks.Next.TheVariants as next
+use Rattle.vdcp_drive.specs.declared.hooks.BrokenOff.{BrokenOff}
 use Rattle.vdcp_drive.specs.declared.line.Ran.{Ran}
 
 front_of_front : (unit : ℕ) (kept : Option Command) (front rest : List ℕ) → IsFrontOf unit kept (front ++ rest)
@@ -40,15 +42,15 @@ ends_safe unit (e ∷ log) later h = end_safe e.heard (ends_safe unit log later 
   end_safe None h = h
   end_safe (Some x) h = h
 
-opening_by : (first : Bool) (unit : ℕ) (g : Option Command) (later : List Step) → AreSafe unit None later
-    → AreSafe unit None ((map keeps (given_notes g) ++ map acts (sending first unit g)) ++ later)
-opening_by first unit None later h = h
-opening_by true unit (Some c) later h = (([], sym (append-nil (command_bytes unit c))), h)
-opening_by false unit (Some c) later h = (([], sym (append-nil (command_bytes unit c))), h)
+opening_by : (s : State) (first : Bool) (unit : ℕ) (g : Option Command) (later : List Step) → AreSafe unit None later
+    → AreSafe unit None ((asks s next.GoOn ∷ (map keeps (given_notes g) ++ map acts (sending first unit g))) ++ later)
+opening_by s first unit None later h = h
+opening_by s true unit (Some c) later h = (([], sym (append-nil (command_bytes unit c))), h)
+opening_by s false unit (Some c) later h = (([], sym (append-nil (command_bytes unit c))), h)
 
 opening_safe : {E : Type 0} (fold : Fold E) (plan : Plan) (unit : ℕ) (a : Auto E) (later : List Step)
     → AreSafe unit None later → AreSafe unit None (opening fold plan unit a ++ later)
-opening_safe fold plan unit a later h = opening_by fold.drops unit (given plan a.state) later h
+opening_safe fold plan unit a later h = opening_by a.state fold.drops unit (given plan a.state) later h
 
 pub steps_safe : {E : Type 0} (fold : Fold E) (plan : Plan) (unit : ℕ) (a : Auto E) (events : List Event)
     (more : List Step) → AreSafe unit None more → AreSafe unit None (steps_of fold plan unit a events ++ more)
@@ -67,23 +69,23 @@ ending_by : (first : Bool) (unit : ℕ) (c : Command) (front rest : List ℕ) �
 ending_by true unit c front rest parts = ((rest, parts), tt)
 ending_by false unit c front rest parts = ((rest, parts), tt)
 
-ending_safe : {E : Type 0} (fold : Fold E) (plan : Plan) (unit count : ℕ) (came : List Arrival) (a : Auto E)
-    (answer : Result Ran KeptFault) (more : List Step) (a' : Auto E) → Ending fold plan unit count came a answer more a'
+ending_safe : {E : Type 0} (fold : Fold E) (plan : Plan) (unit count : ℕ) (events : List Event) (a : Auto E)
+    (answer : Result Ran BrokenOff) (more : List Step) (a' : Auto E) → Ending fold plan unit count events a answer more a'
     → AreSafe unit None more
-ending_safe fold plan unit count came a answer more a' (by_itself r is to none left) = rw none tt
-ending_safe fold plan unit count came a answer more a' (in_keep (row.Sent c) is going are left) = rw are tt
-ending_safe fold plan unit count came a answer more a' (in_keep r is going are left) = rw are tt
-ending_safe fold plan unit count came a answer more a' (in_drop c is first gives_it are left) = rw are tt
-ending_safe fold plan unit count came a answer more a' (in_send c front rest is gives_it parts are left) =
+ending_safe fold plan unit count events a answer more a' (by_itself r is to none left) = rw none tt
+ending_safe fold plan unit count events a answer more a' (by_hooks is going are stays) = rw are tt
+ending_safe fold plan unit count events a answer more a' (in_keep r is going are left) = rw are tt
+ending_safe fold plan unit count events a answer more a' (in_drop c is first gives_it are left) = rw are tt
+ending_safe fold plan unit count events a answer more a' (in_send c front rest is gives_it parts are left) =
     rw are (ending_by fold.drops unit c front rest parts)
-ending_safe fold plan unit count came a answer more a' (in_listen is are left) =
+ending_safe fold plan unit count events a answer more a' (in_listen is are left) =
     rw are (opening_safe fold plan unit a (acts fails ∷ []) tt)
 
 -- at each moment of each run
-pub run_safe : {E : Type 0} (can : Bool) (fold : Fold E) (plan : Plan) (unit count : ℕ) (a a' : Auto E)
-    (answer : Result Ran KeptFault) → (h : IsRun can fold plan unit count a a' answer)
+pub run_safe : {E : Type 0} (fold : Fold E) (plan : Plan) (unit count : ℕ) (a a' : Auto E)
+    (answer : Result Ran BrokenOff) → (h : IsRun fold plan unit count a a' answer)
     → (some : List Step) → IsCut some (steps_in h) → AreSafe unit None some
-run_safe can fold plan unit count a a' answer h some cut =
+run_safe fold plan unit count a a' answer h some cut =
     safe_when_cut unit None some (steps_of fold plan unit a h.events ++ h.more) cut
     (steps_safe fold plan unit a h.events h.more
-    (ending_safe fold plan unit count (arrivals h.events) (after fold plan unit a h.events) answer h.more a' h.ending))
+    (ending_safe fold plan unit count h.events (after fold plan unit a h.events) answer h.more a' h.ending))

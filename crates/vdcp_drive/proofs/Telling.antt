@@ -3,9 +3,11 @@ use Rattle.std.proofs.Common.{ℕ, zero, suc, ◌≡◌, ◌≤◌, true, false,
 use Rattle.std.proofs.KnownBytes.{Appends-nil, Appends-trans}
 use Rattle.std.specs.Io.KnownBytes.{Appends, Keeps}
 use Rattle.std.specs.Option.{option_to_list}
-use Rattle.std.specs.Prelude.{Option, Some, None, Result, Ok, Err, IsErr}
+use Rattle.std.proofs.lemmas.List.{length-map}
+use Rattle.std.specs.Prelude.{Option, Some, None, Result, Ok, Err}
 use Rattle.vdcp_words.specs.declared.command.Command.{Command}
 use Rattle.vdcp_auto.specs.Plan.{Plan}
+use Rattle.vdcp_auto.specs.State.{State}
 use Rattle.vdcp_auto.specs.Turn.{awaited, outcome_of}
 use Rattle.vdcp_auto.specs.declared.exchange.Exchange.{Exchange}
 use Rattle.vdcp_auto.specs.declared.exchange.Heard.{Heard}
@@ -13,17 +15,20 @@ use Rattle.vdcp_wire.specs.Wires.{Arrival, Told, IfTold, bytes, silence, close, 
 use Rattle.vdcp_wire.specs.WireLaws.{closed_bytes, closed_silence, closed_close}
 use Rattle.vdcp_wire.specs.Acts.{Act, sends, brings, drops}
 use Rattle.vdcp_drive.specs.Steps.{Chain}
-use Rattle.vdcp_drive.specs.Auto.{Auto, AreMade, Event, after, arrivals, arrives, calls, gives, listens, log_of}
+use Rattle.vdcp_drive.specs.Auto.{Auto, Event, after, arrivals, arrives, calls, gives, listens, log_of}
 use Rattle.vdcp_drive.specs.Ears.{Fold}
-use Rattle.vdcp_drive.specs.Leaves.{Ending, by_itself, in_keep, in_drop, in_send, in_listen, HasRun, RunsTo}
-use Rattle.vdcp_drive.specs.Steps.{Step, acts, Rules, World, Happens, end_of, steps_of}
+use Rattle.vdcp_drive.specs.Leaves.{Ending, by_itself, by_hooks, in_keep, in_drop, in_send, in_listen, HasRun, RunsTo}
+use Rattle.vdcp_drive.specs.Steps.{Step, acts, Rules, World, Does, Happens, end_of, round, steps_of}
 use Rattle.vdcp_wire.specs.Streams.{StreamDoes, Streamed}
 use Rattle.vdcp_wire.specs.Acts.{Tells, told_after}
 use Rattle.vdcp_drive.specs.Tells.{RunsOn, told_after_all}
 use Rattle.vdcp_drive.specs.Traces.{acts_in, kept_in, sent_in, came_in, drops_in, commands_kept, bytes_of, exchanged, kept_of, until_close}
 use Rattle.vdcp_drive.specs.declared.hooks.Kept.{Kept}
 use Rattle.vdcp_drive.specs.declared.hooks.Kept.TheVariants as row
+use Rattle.vdcp_drive.specs.declared.hooks.Call.{Call}
+use Rattle.vdcp_drive.specs.declared.hooks.Next.TheVariants as next
 use Rattle.vdcp_drive.specs.declared.line.Ran.{Ran}
+use Rattle.vdcp_drive.proofs.Chains.{chain_split}
 use Rattle.vdcp_drive.proofs.Tracing.{commands_both, steps_kept, steps_bytes, steps_came, steps_drops}
 
 -- what happens on the wire
@@ -105,54 +110,65 @@ steps_commands fold plan unit a events =
     simp (commands_both, commands_awaited, commands_logged, commands_exchanged) at (ap commands_kept
     (steps_kept fold plan unit a events))
 
--- No calls are made.
-pub no_calls : {E : Type 0} (fold : Fold E) (plan : Plan) (unit : ℕ) (a : Auto E) (events : List Event)
-    → AreMade false fold plan unit a events → events ≡ map arrives (arrivals events)
-no_calls fold plan unit a [] h = refl
-no_calls fold plan unit a (arrives x ∷ later) h =
-    ap (λ (l : List Event). arrives x ∷ l) (no_calls fold plan unit (listens fold plan unit x (gives a)) later h)
-no_calls fold plan unit a (calls c ∷ later) h = let no = h.0 in cc
+-- Where the hooks never call, nothing is called.
+pub no_calls : {E W J : Type 0} (rules : Rules W J) → ((s : State) (c : Call) (k k' : J) → rules.asks s (next.Call c) k k' → ⊥)
+    → (fold : Fold E) (plan : Plan) (unit : ℕ) (a : Auto E) (events : List Event) (more : List Step) (world world' : World W J)
+    → Happens rules (steps_of fold plan unit a events ++ more) world world' → events ≡ map arrives (arrivals events)
+no_calls rules never fold plan unit a [] more world world' h = refl
+no_calls {E} rules never fold plan unit a (arrives x ∷ later) more world world' h =
+    let b : Auto E = listens fold plan unit x (gives a) in
+    let first : List Step = round fold plan unit x a in
+    let rest : List Step = steps_of fold plan unit b later in
+    let s = chain_split (Does rules) first (rest ++ more) world world'
+    (subst (λ (l : List Step). Happens rules l world world') (append_assoc first rest more) h) in
+    ap (λ (l : List Event). arrives x ∷ l) (no_calls rules never fold plan unit b later more s.0 world' s.2)
+no_calls rules never fold plan unit a (calls c ∷ later) more world world' h = absurd (never a.state c world.keep h.0.keep h.1.0)
 
 -- A run that came to an answer.
 
-record Answered {E : Type 0} (count : ℕ) (came : List Arrival) (r : Ran) (a a' : Auto E) (more : List Step) : Type 0 where
-  to : RunsTo r (outcome_of a.state.stage) count came
+record Answered {E : Type 0} (count : ℕ) (events : List Event) (r : Ran) (a a' : Auto E) (more : List Step) : Type 0 where
+  to : RunsTo r (outcome_of a.state.stage) count (length events) (arrivals events)
   nothing : more ≡ []
   auto_is : a' ≡ a
 
-answered : {E : Type 0} (fold : Fold E) (plan : Plan) (unit count : ℕ) (came : List Arrival) (a : Auto E) (r : Ran)
-    (more : List Step) (a' : Auto E) → Ending fold plan unit count came a (Ok r) more a' → Answered count came r a a' more
-answered fold plan unit count came a r more a' (by_itself s is to none left) =
+answered : {E : Type 0} (fold : Fold E) (plan : Plan) (unit count : ℕ) (events : List Event) (a : Auto E) (r : Ran)
+    (more : List Step) (a' : Auto E) → Ending fold plan unit count events a (Ok r) more a' → Answered count events r a a' more
+answered fold plan unit count events a r more a' (by_itself s is to none left) =
     let same : s ≡ r = cc in record { to = rw same at to; nothing = none; auto_is = left }
-answered fold plan unit count came a r more a' (in_keep row is going are left) = cc
-answered fold plan unit count came a r more a' (in_drop c is first gives_it are left) = cc
-answered fold plan unit count came a r more a' (in_send c front rest is gives_it parts are left) = cc
-answered fold plan unit count came a r more a' (in_listen is are left) = cc
+answered fold plan unit count events a r more a' (by_hooks is going are stays) = cc
+answered fold plan unit count events a r more a' (in_keep row is going are left) = cc
+answered fold plan unit count events a r more a' (in_drop c is first gives_it are left) = cc
+answered fold plan unit count events a r more a' (in_send c front rest is gives_it parts are left) = cc
+answered fold plan unit count events a r more a' (in_listen is are left) = cc
 
 -- of a run without calls
-pub run_tells : {E W J : Type 0} (does : Act → W → W → Type 0) (adds loses : Kept → J → J → Type 0) (told : W → Option Told)
-    → ((act : Act) (old new : W) → does act old new → Tells act (told old) (told new))
+pub run_tells : {E W J : Type 0} (rules : Rules W J) (told : W → Option Told)
+    → ((act : Act) (old new : W) → rules.does act old new → Tells act (told old) (told new))
+    → ((s : State) (c : Call) (k k' : J) → rules.asks s (next.Call c) k k' → ⊥)
     → (fold : Fold E) (plan : Plan) (unit count : ℕ) (a a' : Auto E) (world world' : World W J) (r : Ran) (t : Told)
-    → HasRun (record { does = does; adds = adds; loses = loses; can_call = false }) fold plan unit count a a' world world' (Ok r)
+    → HasRun rules fold plan unit count a a' world world' (Ok r)
     → told world.wire ≡ Some t → has_closed t.came ≡ false
     → IfTold (told world'.wire) (λ u. RunsOn fold plan unit count a a' r t u)
-run_tells {E} {W} {J} does adds loses told law fold plan unit count a a' world world' r t h is still =
-    let rules : Rules W J = record { does = does; adds = adds; loses = loses; can_call = false } in
+run_tells {E} {W} {J} rules told law never fold plan unit count a a' world world' r t h is still =
     let b : Auto E = after fold plan unit a h.run.events in
-    let e : Answered count (arrivals h.run.events) r b a' h.run.more =
-    answered fold plan unit count (arrivals h.run.events) b r h.run.more a' h.run.ending in
-    let plain : h.run.events ≡ map arrives (arrivals h.run.events) = no_calls fold plan unit a h.run.events h.run.made in
+    let e : Answered count h.run.events r b a' h.run.more =
+    answered fold plan unit count h.run.events b r h.run.more a' h.run.ending in
+    let plain : h.run.events ≡ map arrives (arrivals h.run.events) =
+    no_calls rules never fold plan unit a h.run.events h.run.more world world' h.happened in
+    let all : length h.run.events ≡ length (arrivals h.run.events) = ap length plain ∙ length-map (arrivals h.run.events) arrives in
     let steps : List Step = steps_of fold plan unit a h.run.events in
     let cs : List Command = commands_kept (kept_in steps) in
     let happened = simp (e.nothing, append-nil) at h.happened in
     let u : Told = told_after_all (acts_in steps) t in (
       u,
-      tells_all does told law (acts_in steps) world.wire world'.wire t (on_wire rules steps world world' happened) is,
+      tells_all rules.does told law (acts_in steps) world.wire world'.wire t (on_wire rules steps world world' happened) is,
       record {
         since = arrivals h.run.events;
         octets = h.run.octets;
         closes_last = h.run.closes_last;
-        answers = subst (λ (x : Auto E). RunsTo r (outcome_of x.state.stage) count (arrivals h.run.events)) (sym e.auto_is) e.to;
+        answers = subst (λ (n : ℕ). RunsTo r (outcome_of a'.state.stage) count n (arrivals h.run.events)) all
+            (subst (λ (x : Auto E). RunsTo r (outcome_of x.state.stage) count (length h.run.events) (arrivals h.run.events))
+            (sym e.auto_is) e.to);
         came_is = simp (steps_came, h.run.closes_last) at (came_told (acts_in steps) t still);
         auto_is = e.auto_is ∙ ap (after fold plan unit a) plain;
         commands = cs;
@@ -169,10 +185,6 @@ pub works_so : (n : ℕ) → n ≤ 1 → (n ≡ 1 → ⊥) → n ≡ 0
 works_so zero few other = refl
 works_so (suc zero) few other = absurd (other refl)
 works_so (suc (suc n)) few other = absurd (omega (arith, few))
-
-pub no_err : {T E : Type 0} (r : Result T E) (x : T) → r ≡ Ok x → IsErr r → ⊥
-no_err (Ok y) x is h = cc
-no_err (Err e) x is h = cc
 
 -- whatever the answer
 pub run_carries : {W J : Type 0} (rules : Rules W J) (told : W → Option Told)
@@ -207,7 +219,7 @@ pub run_written : {E J : Type 0} (rules : Rules Streamed J) (fold : Fold E) (pla
     (bytes_of unit (commands_kept (kept_in (steps_of fold plan unit a h.run.events))))
 run_written rules fold plan unit count a a' world world' r law h =
     let b = after fold plan unit a h.run.events in
-    let e : Answered count (arrivals h.run.events) r b a' h.run.more = answered fold plan unit count (arrivals h.run.events) b r h.run.more a' h.run.ending in
+    let e : Answered count h.run.events r b a' h.run.more = answered fold plan unit count h.run.events b r h.run.more a' h.run.ending in
     let steps : List Step = steps_of fold plan unit a h.run.events in
     let happened = simp (e.nothing, append-nil) at h.happened in
     subst (Appends world.wire.written world'.wire.written) (steps_bytes fold plan unit a h.run.events)

@@ -1,6 +1,6 @@
 -- What an automation does with what arrives, from whatever it is now.
 use Rattle.std.specs.Option.{option_to_list}
-use Rattle.std.specs.Prelude.{ℕ, ◌≡◌, Bool, true, List, [], ◌∷◌, ◌++◌, Option, None}
+use Rattle.std.specs.Prelude.{ℕ, ◌≡◌, List, [], ◌∷◌, ◌++◌, Option, None}
 use Rattle.vdcp_auto.specs.Course.{Reached}
 use Rattle.vdcp_auto.specs.Plan.{Plan, View}
 use Rattle.vdcp_auto.specs.State.{State}
@@ -78,12 +78,11 @@ log_of fold plan unit a (arrives what ∷ later) = ended plan (inputs fold unit 
     ++ log_of fold plan unit (listens fold plan unit what (gives a)) later
 log_of fold plan unit a (calls c ∷ later) = log_of fold plan unit (heeds c a) later
 
--- calls are made, if they are, only while the controller goes on
-abbrev pub AreMade : {E : Type 0} → Bool → Fold E → Plan → ℕ → Auto E → List Event → Type 0
-AreMade can fold plan unit a [] = Unit {0}
-AreMade can fold plan unit a (arrives what ∷ later) = AreMade can fold plan unit (listens fold plan unit what (gives a)) later
-AreMade can fold plan unit a (calls c ∷ later) = (can ≡ true) × (outcome_of a.state.stage ≡ None)
-    × AreMade can fold plan unit (heeds c a) later
+-- calls are made only while the controller goes on
+abbrev pub AreMade : {E : Type 0} → Fold E → Plan → ℕ → Auto E → List Event → Type 0
+AreMade fold plan unit a [] = Unit {0}
+AreMade fold plan unit a (arrives what ∷ later) = AreMade fold plan unit (listens fold plan unit what (gives a)) later
+AreMade fold plan unit a (calls c ∷ later) = (outcome_of a.state.stage ≡ None) × AreMade fold plan unit (heeds c a) later
 
 -- whatever log a controller's state was reached with, the later state is reached too, with a log that goes on by
 -- the exchanges that ended since

@@ -3,7 +3,7 @@ use Rattle.std.specs.Prelude.{◌≡◌, Option, None, Some}
 use Rattle.vdcp_drive.specs.declared.hooks.Kept.{Kept}
 
 -- what keeps nothing stays nothing
-abbrev pub MayKeep : {J : Type 0} → (Kept → J → J → Type 0) → Kept → Option J → Option J → Type 0
+abbrev pub MayKeep : {A J : Type 0} → (A → J → J → Type 0) → A → Option J → Option J → Type 0
 MayKeep adds note None new = new ≡ None
 MayKeep adds note (Some old) None = ⊥
 MayKeep adds note (Some old) (Some new) = adds note old new

@@ -1,8 +1,8 @@
 -- What a driver answers to what came.
 use Rattle.std.specs.Prelude.{Bool, true, false, Option, Some, None, Result, Ok, Err}
 use Rattle.vdcp_auto.specs.declared.outcome.Outcome.{Outcome}
-use Rattle.vdcp_drive.specs.declared.hooks.KeptFault.{KeptFault}
-use Rattle.vdcp_drive.specs.declared.hooks.KeptFault.TheVariants as fault
+use Rattle.vdcp_drive.specs.declared.hooks.BrokenOff.{BrokenOff}
+use Rattle.vdcp_drive.specs.declared.hooks.BrokenOff.TheVariants as fault
 use Rattle.vdcp_drive.specs.declared.line.Line.{Line}
 use Rattle.vdcp_drive.specs.declared.line.Line.TheVariants as line
 use Rattle.vdcp_drive.specs.declared.line.Ran.{Ran}
@@ -27,7 +27,8 @@ ran_of line.Ended = ran.Spent
 ran_of line.Closed = ran.Closed
 
 -- the wire failed
-abbrev pub is_broken : {A : Type 0} → Result A KeptFault → Bool
+abbrev pub is_broken : {A : Type 0} → Result A BrokenOff → Bool
 is_broken (Ok a) = false
 is_broken (Err fault.Device) = true
 is_broken (Err fault.Unkept) = false
+is_broken (Err fault.Left) = false

@@ -2,7 +2,7 @@
 use Rattle.std.specs.Prelude.{ℕ, ◌≡◌, List, [], ◌∷◌, ◌++◌, Option, None, Some}
 use Rattle.vdcp_words.specs.declared.command.Command.{Command}
 use Rattle.vdcp_wire.specs.Acts.{sends, brings, drops, fails}
-use Rattle.vdcp_drive.specs.Steps.{Step, acts, keeps, misses, command_bytes}
+use Rattle.vdcp_drive.specs.Steps.{Step, acts, asks, keeps, misses, command_bytes}
 use Rattle.vdcp_drive.specs.declared.hooks.Kept.TheVariants as row
 
 -- the bytes are a beginning of this command
@@ -17,6 +17,7 @@ AreSafe unit kept (keeps (row.Sent c) ∷ later) = AreSafe unit (Some c) later
 AreSafe unit kept (keeps (row.Heard h) ∷ later) = AreSafe unit kept later
 AreSafe unit kept (keeps row.Silence ∷ later) = AreSafe unit kept later
 AreSafe unit kept (keeps (row.Called c) ∷ later) = AreSafe unit kept later
+AreSafe unit kept (asks s n ∷ later) = AreSafe unit kept later
 AreSafe unit kept (misses c ∷ later) = AreSafe unit kept later
 AreSafe unit kept (acts (sends bytes) ∷ later) = IsFrontOf unit kept bytes × AreSafe unit None later
 AreSafe unit kept (acts (brings what) ∷ later) = AreSafe unit kept later

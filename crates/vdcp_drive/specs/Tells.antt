@@ -24,7 +24,7 @@ pub record RunsOn {E : Type 0} (fold : Fold E) (plan : Plan) (unit count : ℕ) 
   pub since : List Arrival
   pub octets : All AreOctetsIn since
   pub closes_last : until_close since ≡ since
-  pub answers : RunsTo r (outcome_of a'.state.stage) count since
+  pub answers : RunsTo r (outcome_of a'.state.stage) count (length since) since
   pub came_is : new.came ≡ old.came ++ since
   pub auto_is : a' ≡ after fold plan unit a (map arrives since)
   pub commands : List Command

@@ -9,7 +9,7 @@ use Rattle.vdcp_auto.specs.Turn.{awaited}
 use Rattle.vdcp_auto.specs.declared.exchange.Exchange.{Exchange}
 use Rattle.vdcp_wire.specs.Wires.{Arrival, bytes, silence, close}
 use Rattle.vdcp_wire.specs.Acts.{Act, sends, brings, drops, fails}
-use Rattle.vdcp_drive.specs.Steps.{Step, acts, keeps, misses, command_bytes, end_of}
+use Rattle.vdcp_drive.specs.Steps.{Step, acts, asks, keeps, misses, command_bytes, end_of}
 use Rattle.vdcp_drive.specs.declared.hooks.Kept.{Kept}
 use Rattle.vdcp_drive.specs.declared.hooks.Kept.TheVariants as row
 
@@ -17,12 +17,14 @@ use Rattle.vdcp_drive.specs.declared.hooks.Kept.TheVariants as row
 abbrev pub acts_in : List Step → List Act
 acts_in [] = []
 acts_in (acts a ∷ later) = a ∷ acts_in later
+acts_in (asks s n ∷ later) = acts_in later
 acts_in (keeps r ∷ later) = acts_in later
 acts_in (misses c ∷ later) = acts_in later
 
 abbrev pub kept_in : List Step → List Kept
 kept_in [] = []
 kept_in (acts a ∷ later) = kept_in later
+kept_in (asks s n ∷ later) = kept_in later
 kept_in (keeps r ∷ later) = r ∷ kept_in later
 kept_in (misses c ∷ later) = kept_in later
 

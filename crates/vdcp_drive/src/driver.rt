@@ -7,13 +7,13 @@ ghost use Rattle.vdcp_auto.specs.Turn as turns;
 ghost use Rattle.vdcp_wire.specs.Wires.{IfTold, Told, has_closed};
 ghost use Rattle.vdcp_wire.specs.Acts.{fails};
 ghost use Rattle.vdcp_drive.specs.Auto.{IsReachedFrom, auto_of, called, ended, receives};
-ghost use Rattle.vdcp_drive.specs.Leaves.{HasKeptAndSent, HasListened, HasMissed, HasRun, HasSent, HearsPiece, IsAsked, Notes, RunLeaves};
+ghost use Rattle.vdcp_drive.specs.Leaves.{HasKeptAndSent, HasListened, HasRun, HasSent, HearsPiece, Notes, RunLeaves};
 ghost use Rattle.vdcp_drive.specs.Lines.{is_broken, ran_of, ran_unless_ended};
 ghost use Rattle.vdcp_drive.specs.Tells.{BreaksOn, RunsOn};
 ghost use Rattle.vdcp_drive.specs.Steps.{Chain, dropping, ended_notes};
 
 use crate::ear::Ear;
-use crate::hooks::{Call, Hooks, KeepFault, KeptFault, Unhooked};
+use crate::hooks::{BrokenOff, Call, Hooks, KeepFault, Next, Unhooked};
 use crate::line::{DriveFault, Line, Ran};
 use std::marker::Model;
 use vdcp_auto::{Controller, Heard, Source};
@@ -116,11 +116,12 @@ impl<S: Source, E: Ear, W: Wire> Driver<S, E, W> {
             &mut Unhooked,
         ) {
             Ok(is_sent) => Ok(is_sent),
-            Err(KeptFault::Device) => {
+            Err(BrokenOff::Device) => {
                 self.failed = true;
                 Err(DriveFault::Device)
             }
-            Err(KeptFault::Unkept) => unreachable!(),
+            Err(BrokenOff::Unkept) => unreachable!(),
+            Err(BrokenOff::Left) => unreachable!(),
         }
     }
 
@@ -173,27 +174,31 @@ impl<S: Source, E: Ear, W: Wire> Driver<S, E, W> {
     {
         match self.run_with(listens, &mut Unhooked) {
             Ok(ran) => Ok(ran),
-            Err(KeptFault::Device) => Err(DriveFault::Device),
-            Err(KeptFault::Unkept) => unreachable!(),
+            Err(BrokenOff::Device) => Err(DriveFault::Device),
+            Err(BrokenOff::Unkept) => unreachable!(),
+            Err(BrokenOff::Left) => unreachable!(),
         }
     }
 
-    /// Sends commands and hears what comes until the controller has ended, the other end has closed or this many
-    /// listens were made. It sends a command only if a listen for its answer is left. Before each listen the hooks may
-    /// wait and make a call, which is kept and then given; and each command is kept before it goes out.
+    /// Runs an automation until the controller has ended, the other end has closed or this many turns were made. Each turn
+    /// the hooks are asked first what comes next. Mostly the automation goes on: it sends the next command, unless it awaits
+    /// an answer, and listens. Or a call is given. Each command is kept before it goes out, and each call before it is given.
     /// `Device` if the wire fails or has failed before. `Unkept` if a command or a call can't be kept: none of it is
-    /// sent, or it isn't given, and a later run tries again.
-    pub fn run_with<H: Hooks<S>>(&mut self, listens: u64, hooks: &mut H) -> Result<Ran, KeptFault>
-        ensures leaves { RunLeaves S.items (record { does = W.does; adds = H.adds; loses = H.loses; can_call = H.can_call })
-            E.fold W.failures listens self.old self.new (H.journal hooks.old) (H.journal hooks.new) result }
-        ensures fails { result ≡ Err KeptFault.Unkept → H.can_fail }
+    /// sent, or it isn't given, and a later run tries again. `Left` if the hooks left.
+    pub fn run_with<H: Hooks<S>>(&mut self, turns: u64, hooks: &mut H) -> Result<Ran, BrokenOff>
+        ensures leaves { RunLeaves S.items (record {
+          does = W.does;
+          asks = H.asks (plan_of S.items self.old.controller);
+          adds = H.adds;
+          loses = H.loses;
+        }) E.fold W.failures turns self.old self.new (H.journal hooks.old) (H.journal hooks.new) result }
     {
         if self.failed {
-            return Err(KeptFault::Device);
+            return Err(BrokenOff::Device);
         }
         let mut made = 0;
-        'listens: while made < listens {
-            let ran = run_round(
+        'turns: while made < turns {
+            let ran = run_turn(
                 &mut self.controller,
                 self.unit,
                 &mut self.ear,
@@ -222,65 +227,47 @@ impl<S: Source + Drop, E: Ear + Drop, W: Wire> Driver<S, E, W> {
     }
 }
 
-// Runs an automation for one listen: before it a call may be made, and the next command goes out.
-fn run_round<S: Source, E: Ear, W: Wire, H: Hooks<S>>(
+// Runs an automation for one turn.
+fn run_turn<S: Source, E: Ear, W: Wire, H: Hooks<S>>(
     controller: &mut Controller<S>,
     unit: u8,
     ear: &mut E,
     wire: &mut W,
     hooks: &mut H,
-) -> Result<Ran, KeptFault>
+) -> Result<Ran, BrokenOff>
     requires unit { unit ≤ 15 }
     requires works { W.failures wire.old ≡ 0 }
-    ensures runs { HasRun (record { does = W.does; adds = H.adds; loses = H.loses; can_call = H.can_call }) E.fold
+    ensures runs { HasRun (record { does = W.does; asks = H.asks (plan_of S.items controller.old); adds = H.adds; loses = H.loses }) E.fold
         (plan_of S.items controller.old) unit 1
         (record { ear = ear.old; state = controller.old.state })
         (record { ear = ear.new; state = controller.new.state })
         (record { wire = wire.old; keep = H.journal hooks.old })
         (record { wire = wire.new; keep = H.journal hooks.new }) result }
     ensures controller { controller.new ≡ record controller.old { state = controller.new.state } }
-    ensures fails { result ≡ Err KeptFault.Unkept → H.can_fail }
     ensures failures { W.failures wire.new ≡ (if is_broken result then 1 else 0) }
 {
-    if let Err(KeepFault) = ask(controller, hooks) {
-        return Err(KeptFault::Unkept);
+    if controller.outcome().is_some() {
+        return Ok(Ran::Ended);
+    }
+    match hooks.due(controller) {
+        Next::GoOn => {}
+        Next::Call(call) => {
+            if let Err(KeepFault) = hooks.keep_call(call) {
+                return Err(BrokenOff::Unkept);
+            }
+            give(controller, call);
+            return Ok(Ran::Spent);
+        }
+        Next::Leave => return Err(BrokenOff::Left),
     }
     if let Err(fault) = send_next(controller, unit, ear, wire, hooks) {
         return Err(fault);
     }
-    if !controller.awaiting() {
-        return Ok(Ran::Ended);
-    }
     hooks.see(controller);
     match hear(controller, unit, ear, wire, hooks) {
         Ok(line) => Ok(ran_of(controller, line)),
-        Err(WireFault) => Err(KeptFault::Device),
+        Err(WireFault) => Err(BrokenOff::Device),
     }
-}
-
-// Has the hooks wait, and gives the call that they make, if they make one, once it is kept.
-fn ask<S: Source, H: Hooks<S>>(
-    controller: &mut Controller<S>,
-    hooks: &mut H,
-) -> Result<(), KeepFault>
-    ensures asked { OnOk result (IsAsked H.adds H.can_call controller.old.state controller.new.state
-        (H.journal hooks.old) (H.journal hooks.new)) }
-    ensures missed { OnErr result (HasMissed H.loses controller.old.state controller.new.state
-        (H.journal hooks.old) (H.journal hooks.new)) }
-    ensures controller { controller.new ≡ record controller.old { state = controller.new.state } }
-    ensures fails { OnErr result H.can_fail }
-{
-    if controller.outcome().is_some() {
-        return Ok(());
-    }
-    let Some(call) = hooks.due(controller) else {
-        return Ok(());
-    };
-    if let Err(KeepFault) = hooks.keep_call(call) {
-        return Err(KeepFault);
-    }
-    give(controller, call);
-    Ok(())
 }
 
 // Gives a controller this call.
@@ -304,8 +291,8 @@ fn ran_of<S: Source>(controller: &Controller<S>, line: Line) -> Ran
     }
 }
 
-/// All listens of a run were made.
-pub(crate) fn is_spent(ran: Result<Ran, KeptFault>) -> bool
+/// All turns of a run were made.
+pub(crate) fn is_spent(ran: Result<Ran, BrokenOff>) -> bool
     ensures spent { IsTrue result → ran ≡ Ok Ran.Spent }
     ensures not { IsFalse result → ran ≢ Ok Ran.Spent }
 {
@@ -313,10 +300,10 @@ pub(crate) fn is_spent(ran: Result<Ran, KeptFault>) -> bool
 }
 
 // The wire failed in a run.
-fn is_broken(ran: Result<Ran, KeptFault>) -> bool
+fn is_broken(ran: Result<Ran, BrokenOff>) -> bool
     ensures { result ≡ is_broken ran }
 {
-    matches!(ran, Err(KeptFault::Device))
+    matches!(ran, Err(BrokenOff::Device))
 }
 
 // Has the next command kept, and sends it, if there is one. Answers whether there was one.
@@ -326,15 +313,14 @@ fn send_next<S: Source, E: Ear, W: Wire, H: Hooks<S>>(
     ear: &E,
     wire: &mut W,
     hooks: &mut H,
-) -> Result<bool, KeptFault>
+) -> Result<bool, BrokenOff>
     requires unit { unit ≤ 15 }
     requires works { W.failures wire.old ≡ 0 }
-    ensures sends { HasKeptAndSent (record { does = W.does; adds = H.adds; loses = H.loses; can_call = H.can_call })
+    ensures sends { HasKeptAndSent (record { does = W.does; asks = H.asks (plan_of S.items controller.old); adds = H.adds; loses = H.loses })
         E.fold.drops (plan_of S.items controller.old) unit controller.old.state controller.new.state
         (record { wire = wire.old; keep = H.journal hooks.old })
         (record { wire = wire.new; keep = H.journal hooks.new }) result }
     ensures controller { controller.new ≡ record controller.old { state = controller.new.state } }
-    ensures fails { result ≡ Err KeptFault.Unkept → H.can_fail }
     ensures failures { W.failures wire.new ≡ (if is_broken result then 1 else 0) }
 {
     let Some(command) = controller.to_send() else {
@@ -342,15 +328,15 @@ fn send_next<S: Source, E: Ear, W: Wire, H: Hooks<S>>(
     };
     let bytes = command.encode(unit);
     if let Err(KeepFault) = hooks.keep_sent(unit, &command, bytes.as_slice()) {
-        return Err(KeptFault::Unkept);
+        return Err(BrokenOff::Unkept);
     }
     if ear.drops() && wire.drop_waiting().is_err() {
-        return Err(KeptFault::Device);
+        return Err(BrokenOff::Device);
     }
     controller.await_answer(&command);
     match wire.send(bytes.as_slice()) {
         Ok(()) => Ok(true),
-        Err(WireFault) => Err(KeptFault::Device),
+        Err(WireFault) => Err(BrokenOff::Device),
     }
 }
 

@@ -12,6 +12,17 @@ pub enum Call {
     Stop,
 }
 
+/// What an automation does next.
+#[derive(Clone, Copy, Debug, PartialEq, Eq)]
+pub enum Next {
+    /// It sends its next command, unless it awaits an answer, and listens.
+    GoOn,
+    /// It is given this call.
+    Call(Call),
+    /// It leaves the line as it is.
+    Leave,
+}
+
 /// What is kept of a run.
 #[derive(Clone, Copy, Debug, PartialEq, Eq)]
 pub enum Kept {
@@ -30,30 +41,40 @@ pub enum Kept {
 #[error("it isn't kept")]
 pub struct KeepFault;
 
-/// Why a driver gives up that has its exchanges kept.
+/// Why a run was broken off.
 #[derive(Clone, Copy, Debug, PartialEq, Eq, Error)]
-pub enum KeptFault {
+pub enum BrokenOff {
     /// The wire failed, in this call or an earlier one: the driver sends nothing any more.
     #[error("the line failed")]
     Device,
     /// The next command couldn't be kept, and nothing of it was sent; or a call couldn't, and it wasn't given.
     #[error("it isn't kept")]
     Unkept,
+    /// The hooks left it.
+    #[error("it was left")]
+    Left,
 }
 
 /// Takes part in an automation's run.
 pub trait Hooks<S: Source> {
-    ghost use Rattle.std.specs.Prelude.{◌≡◌, OnErr, OnOk, IsSome, Bool, true, ⊤};
+    ghost use Rattle.std.specs.Prelude.{◌≡◌, OnErr, OnOk};
+    ghost use Rattle.vdcp_auto.specs.Plan.{Plan, plan_of};
+    ghost use Rattle.vdcp_auto.specs.State.{State};
     ghost use Rattle.vdcp_frame.specs.Message.{spelling};
     ghost use Rattle.vdcp_words.specs.Commands.{command_message};
     ghost use Rattle.vdcp_drive.specs.Steps.{end_of};
     ghost use Rattle.vdcp_drive.specs.declared.hooks.Kept.{Kept};
     ghost use Rattle.vdcp_drive.specs.declared.hooks.Kept.TheVariants as kept;
+    ghost use Rattle.vdcp_drive.specs.declared.hooks.Next.{Next};
 
     /// Its journal.
     ghost Journal: { Type 0 };
 
     ghost journal: { Self → Journal };
+
+    /// `asks plan state next a b`: going from `a` to `b`, it was lent a controller of this plan in this state, and answered
+    /// that this comes next.
+    ghost asks: { Plan → State → Next → Journal → Journal → Type 0 };
 
     /// `adds note a b`: going from `a` to `b`, the journal kept this.
     ghost adds: { Kept → Journal → Journal → Type 0 };
@@ -61,33 +82,22 @@ pub trait Hooks<S: Source> {
     /// `loses note a b`: going from `a` to `b`, it failed to keep this.
     ghost loses: { Kept → Journal → Journal → Type 0 };
 
-    /// Whether it can fail, and whether calls are made.
-    ghost can_fail: { Type 0 } = { ⊤ };
-
-    ghost can_call: { Bool } = { true };
-
-    /// It is lent the controller before each listen, before the next command goes out, unless it has ended. It may wait
-    /// before it answers, and answers with a call or none.
-    fn due(&mut self, _controller: &Controller<S>) -> Option<Call>
-        ensures due_keeps { journal self.new ≡ journal self.old }
-        ensures calls { IsSome result → can_call ≡ true }
-    {
-        None
-    }
+    /// It is lent the controller at the beginning of each turn, unless that has ended, and answers what comes next. It
+    /// may wait before.
+    fn due(&mut self, controller: &Controller<S>) -> Next
+        ensures { asks (plan_of S.items controller.now) controller.now.state result (journal self.old) (journal self.new) };
 
     /// It is given a call before the controller is, and makes it safe, with all that it noted before.
     fn keep_call(&mut self, call: Call) -> Result<(), KeepFault>
         ensures called { OnOk result (adds (kept.Called call) (journal self.old) (journal self.new)) }
-        ensures missed { OnErr result (loses (kept.Called call) (journal self.old) (journal self.new)) }
-        ensures call_fails { OnErr result can_fail };
+        ensures missed { OnErr result (loses (kept.Called call) (journal self.old) (journal self.new)) };
 
     /// It is given a command to this unit, and its bytes, before the first of them goes out, and makes it safe, with all
     /// that it noted before. If it fails, the command may be missing, and the end of the exchange before it.
     fn keep_sent(&mut self, unit: u8, command: &Command, bytes: &[u8]) -> Result<(), KeepFault>
         requires { bytes.now ≡ spelling (command_message unit command.now) }
         ensures kept { OnOk result (adds (kept.Sent command.now) (journal self.old) (journal self.new)) }
-        ensures lost { OnErr result (loses (kept.Sent command.now) (journal self.old) (journal self.new)) }
-        ensures fails { OnErr result can_fail };
+        ensures lost { OnErr result (loses (kept.Sent command.now) (journal self.old) (journal self.new)) };
 
     /// It notes what ended an exchange: what was heard, or that nothing came in time. This is safe once the next
     /// command is.
@@ -105,19 +115,22 @@ pub trait Hooks<S: Source> {
 pub struct Unhooked;
 
 impl<S: Source> Hooks<S> for Unhooked {
-    ghost use Rattle.std.specs.Prelude.{false};
+    ghost use Rattle.std.specs.Prelude.{◌≡◌};
+    ghost use Rattle.vdcp_drive.specs.declared.hooks.Next.TheVariants.{GoOn};
 
     ghost Journal = { Unit {0} };
 
     ghost journal = { λ _. tt };
 
+    ghost asks = { λ _ _ next _ _. next ≡ GoOn };
+
     ghost adds = { λ _ _ _. Unit {0} };
 
-    ghost loses = { λ _ _ _. Unit {0} };
+    ghost loses = { λ _ _ _. ⊥ };
 
-    ghost can_fail = { ⊥ };
-
-    ghost can_call = { false };
+    fn due(&mut self, _controller: &Controller<S>) -> Next {
+        Next::GoOn
+    }
 
     fn keep_call(&mut self, _call: Call) -> Result<(), KeepFault> {
         Ok(())
@@ -140,18 +153,16 @@ impl<S: Source, H: Hooks<S>> Hooks<S> for Option<H> {
 
     ghost journal = { λ h. option_map H.journal h };
 
+    ghost asks = { λ plan state. MayKeep (H.asks plan state) };
+
     ghost adds = { MayKeep H.adds };
 
     ghost loses = { MayLose H.loses };
 
-    ghost can_fail = { H.can_fail };
-
-    ghost can_call = { H.can_call };
-
-    fn due(&mut self, controller: &Controller<S>) -> Option<Call> {
+    fn due(&mut self, controller: &Controller<S>) -> Next {
         match self {
             Some(hooks) => hooks.due(controller),
-            None => None,
+            None => Next::GoOn,
         }
     }
 

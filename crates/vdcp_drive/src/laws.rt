@@ -33,7 +33,7 @@ ghost use Rattle.vdcp_drive.specs.Served.{AreOnly, HasMore, IsMoment, IsOpen, it
 ghost use Rattle.vdcp_drive.specs.Serving.{HookStep, Service, acts_of, hook_steps, items_in, left_by};
 ghost use Rattle.vdcp_drive.specs.Turns.{IsMade, AreOctetsAt, Turn, until_closed};
 ghost use Rattle.vdcp_drive.specs.declared.line.DriveFault.{DriveFault};
-ghost use Rattle.vdcp_drive.specs.declared.hooks.KeptFault.{KeptFault};
+ghost use Rattle.vdcp_drive.specs.declared.hooks.BrokenOff.{BrokenOff};
 ghost use Rattle.vdcp_drive.specs.declared.hearing.Hearing.{Hearing};
 ghost use Rattle.vdcp_drive.specs.declared.line.Ran.{Ran};
 ghost use Rattle.vdcp_drive.specs.declared.line.TurnsEnd.{TurnsEnd};
@@ -90,28 +90,29 @@ pub fn a_run_is_lawful()
 
 /// At each moment of a run, also in a send, what went out is commands whose row was safe before, and a beginning of one.
 pub fn what_goes_out_is_kept<E: Ear>()
-    ensures { (can : Bool) (plan : Plan) (unit count : ℕ) (a a' : Auto E) (answer : Result Ran KeptFault) →
-        (run : IsRun can E.fold plan unit count a a' answer) → (some : List Step) → IsCut some (steps_in run) →
+    ensures { (plan : Plan) (unit count : ℕ) (a a' : Auto E) (answer : Result Ran BrokenOff) →
+        (run : IsRun E.fold plan unit count a a' answer) → (some : List Step) → IsCut some (steps_in run) →
         AreSafe unit None some }
 {}
 
-/// What a run keeps, whatever its automation, its answer and the state of its wire were.
+/// What a run keeps, whatever its automation, its answer and the state of its wire were, if to be asked changes nothing in
+/// what keeps it.
 pub fn what_a_run_keeps<S: Source, E: Ear, W: Wire, H: Hooks<S>>()
-    ensures { (plan : Plan) (unit count : ℕ) (a a' : Auto E) (old new : World W H.Journal) (answer : Result Ran KeptFault) →
-        (h : HasRun (record { does = W.does; adds = H.adds; loses = H.loses; can_call = H.can_call }) E.fold plan unit count
-        a a' old new answer) →
+    ensures { (plan : Plan) (unit count : ℕ) (a a' : Auto E) (old new : World W H.Journal) (answer : Result Ran BrokenOff) →
+        (h : HasRun (record { does = W.does; asks = λ _ _ before after. after ≡ before; adds = H.adds; loses = H.loses })
+        E.fold plan unit count a a' old new answer) →
         KeepsRun H.adds H.loses W.told E.fold plan unit a a' old.wire new.wire answer old.keep new.keep
         h.run.events (kept_in (steps_in h.run)) }
 {}
 
 /// A run has moments: between any two of its steps all that it runs on was in some state, to which its first steps led.
 pub fn a_run_has_moments<S: Source, E: Ear, W: Wire, H: Hooks<S>>()
-    ensures { (plan : Plan) (unit count : ℕ) (a a' : Auto E) (old new : World W H.Journal) (answer : Result Ran KeptFault) →
-        (h : HasRun (record { does = W.does; adds = H.adds; loses = H.loses; can_call = H.can_call }) E.fold plan unit
+    ensures { (plan : Plan) (unit count : ℕ) (a a' : Auto E) (old new : World W H.Journal) (answer : Result Ran BrokenOff) →
+        (h : HasRun (record { does = W.does; asks = H.asks plan; adds = H.adds; loses = H.loses }) E.fold plan unit
         count a a' old new answer) → (some later : List Step) → steps_in h.run ≡ some ++ later →
         (moment : World W H.Journal)
-        × Happens (record { does = W.does; adds = H.adds; loses = H.loses; can_call = H.can_call }) some old moment
-        × Happens (record { does = W.does; adds = H.adds; loses = H.loses; can_call = H.can_call }) later moment new }
+        × Happens (record { does = W.does; asks = H.asks plan; adds = H.adds; loses = H.loses }) some old moment
+        × Happens (record { does = W.does; asks = H.asks plan; adds = H.adds; loses = H.loses }) later moment new }
 {}
 
 /// What the steps of a run come to, from any automation. Take the row of the command that was awaited before the run, if
@@ -150,18 +151,18 @@ pub fn runs_go_on<E: Ear>()
         ≡ steps_of E.fold plan unit a xs ++ steps_of E.fold plan unit (after E.fold plan unit a xs) ys }
 {}
 
-/// A run of which all listens were made, and then another from there on, are one run, whose steps are those of both.
+/// A run of which all turns were made, and then another from there on, are one run, whose steps are those of both.
 pub fn a_run_goes_on<E: Ear>()
-    ensures { (can : Bool) (plan : Plan) (unit m n : ℕ) (a b a' : Auto E) (answer : Result Ran KeptFault) →
-        (first : IsRun can E.fold plan unit m a b (Ok Ran.Spent)) →
-        (next : IsRun can E.fold plan unit n b a' answer) → (run : IsRun can E.fold plan unit (m + n) a a' answer)
+    ensures { (plan : Plan) (unit m n : ℕ) (a b a' : Auto E) (answer : Result Ran BrokenOff) →
+        (first : IsRun E.fold plan unit m a b (Ok Ran.Spent)) →
+        (next : IsRun E.fold plan unit n b a' answer) → (run : IsRun E.fold plan unit (m + n) a a' answer)
         × (steps_in run ≡ steps_in first ++ steps_in next) }
 {}
 
 /// What a wire tells after a run, whatever its answer, is what happened on it.
 pub fn a_wire_tells_what_happened<S: Source, E: Ear, W: Wire, H: Hooks<S>>()
-    ensures { (plan : Plan) (unit count : ℕ) (a a' : Auto E) (old new : World W H.Journal) (answer : Result Ran KeptFault) →
-        (h : HasRun (record { does = W.does; adds = H.adds; loses = H.loses; can_call = H.can_call }) E.fold plan unit
+    ensures { (plan : Plan) (unit count : ℕ) (a a' : Auto E) (old new : World W H.Journal) (answer : Result Ran BrokenOff) →
+        (h : HasRun (record { does = W.does; asks = H.asks plan; adds = H.adds; loses = H.loses }) E.fold plan unit
         count a a' old new answer) → (t : Told) → W.told old.wire ≡ Some t →
         W.told new.wire ≡ Some (told_after_all (acts_in (steps_in h.run)) t) }
 {}
@@ -170,17 +171,9 @@ pub fn a_wire_tells_what_happened<S: Source, E: Ear, W: Wire, H: Hooks<S>>()
 /// journal has.
 pub fn a_stream_carries_a_run<S: Source, E: Ear, H: Hooks<S>>()
     ensures { (plan : Plan) (unit count : ℕ) (a a' : Auto E) (old new : World Streamed H.Journal) (r : Ran) →
-        (h : HasRun (record { does = StreamDoes; adds = H.adds; loses = H.loses; can_call = H.can_call }) E.fold plan
+        (h : HasRun (record { does = StreamDoes; asks = H.asks plan; adds = H.adds; loses = H.loses }) E.fold plan
         unit count a a' old new (Ok r)) → Appends old.wire.written new.wire.written
         (bytes_of unit (commands_kept (kept_in (steps_of E.fold plan unit a h.run.events)))) }
-{}
-
-/// A run without calls in which the wire failed: what it tells then.
-pub fn a_broken_run_tells<S: Source, E: Ear, W: Wire, H: Hooks<S>>()
-    ensures { (plan : Plan) (unit count : ℕ) (a a' : Auto E) (old new : World W H.Journal) (t : Told) →
-        HasRun (record { does = W.does; adds = H.adds; loses = H.loses; can_call = false }) E.fold plan unit count a a'
-        old new (Err KeptFault.Device) → W.told old.wire ≡ Some t → has_closed t.came ≡ false →
-        IfTold (W.told new.wire) (λ u. BreaksOn E.fold plan unit a a' t u) }
 {}
 
 /// An end that hears at once completes just the messages that the bytes spell, and holds what has begun

@@ -7,8 +7,8 @@ pub returns : goal.returns
 returns g c plan unit count a b old new answer h some later is =
     let rules : Rules _ _ = record {
       does = g.W.Wire.does;
+      asks = g.H.Hooks.asks plan;
       adds = g.H.Hooks.adds;
       loses = g.H.Hooks.loses;
-      can_call = g.H.Hooks.can_call;
     } in
     chain_split (Does rules) some later old new (subst (λ (l : List Step). Happens rules l old new) is h.happened)

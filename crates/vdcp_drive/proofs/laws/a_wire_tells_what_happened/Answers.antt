@@ -7,8 +7,8 @@ pub returns : goal.returns
 returns g c plan unit count a b old new answer h t is =
     let rules : Rules _ _ = record {
       does = g.W.Wire.does;
+      asks = g.H.Hooks.asks plan;
       adds = g.H.Hooks.adds;
       loses = g.H.Hooks.loses;
-      can_call = g.H.Hooks.can_call;
     } in
     run_carries rules g.W.Wire.told g.met.W.Wire.tells (steps_in h.run) old new t h.happened is
