@@ -1,10 +1,8 @@
 -- A run whose beginning is kept.
-use Rattle.std.specs.Borrow.{Bor}
-use Rattle.std.proofs.Common.{ℕ, ◌≡◌, List, [], ◌++◌, ap, inl, inr, refl, subst, sym, ◌∙◌}
+use Rattle.std.proofs.Common.{ℕ, ◌≡◌, List, ◌++◌, ap, inl, inr, refl, subst, sym, ◌∙◌}
 use Rattle.std.proofs.KnownBytes.{Appends-trans}
 use Rattle.std.specs.Io.KnownBytes.{Appends, Keeps}
-use Rattle.std.specs.Option.{option_to_list}
-use Rattle.std.specs.Prelude.{◌↔◌, ◌⊎◌, IfSome, IsSome, Option, None, Some}
+use Rattle.std.specs.Prelude.{◌↔◌, IfSome, IsSome, Option, None, Some}
 use Rattle.vdcp_auto.specs.declared.outcome.Outcome.{Outcome}
 use Rattle.vdcp_journal.specs.Rows.{rows_text}
 use Rattle.vdcp_journal.specs.declared.moment.Moment.{Moment}

@@ -22,8 +22,8 @@ use Rattle.vdcp_drive.specs.declared.hooks.Call.{Call}
 use Rattle.vdcp_drive.specs.declared.hooks.Call.TheVariants as call
 use Rattle.vdcp_drive.specs.declared.hooks.Kept.{Kept}
 use Rattle.vdcp_drive.specs.declared.hooks.Kept.TheVariants as kept
-use Rattle.vdcp_drive.specs.declared.hooks.KeptFault.{KeptFault}
-use Rattle.vdcp_drive.specs.declared.hooks.KeptFault.TheVariants as fault
+use Rattle.vdcp_drive.specs.declared.hooks.BrokenOff.{BrokenOff}
+use Rattle.vdcp_drive.specs.declared.hooks.BrokenOff.TheVariants as fault
 use Rattle.vdcp_drive.specs.declared.line.Ran.{Ran}
 use Rattle.vdcp_journal.specs.Rows.{fields_text, row_fields, rows_text}
 use Rattle.vdcp_journal.specs.Thinned.{IsThinned, asks_state, before_play, notes_in, takes, whole, without}
@@ -200,11 +200,12 @@ log_alternates b [] (Some c) = tt
 log_alternates b (e ∷ log) c =
     end_alternates e.heard (kept_of log ++ map kept.Sent (option_to_list c)) (log_alternates true log c)
 
-notes_alternate : (b : Bool) (plan : Plan) (log : List Exchange) (state : State) (answer : Result Ran KeptFault)
+notes_alternate : (b : Bool) (plan : Plan) (log : List Exchange) (state : State) (answer : Result Ran BrokenOff)
     → Alternates b (notes_of plan log state answer)
 notes_alternate b plan log state (Ok ran) = log_alternates b log (awaited plan state)
 notes_alternate b plan log state (Err fault.Device) = log_alternates b log (awaited plan (ticked state))
 notes_alternate b plan log state (Err fault.Unkept) = log_alternates b log (awaited plan state)
+notes_alternate b plan log state (Err fault.Left) = log_alternates b log (awaited plan state)
 
 alternates_less : (b : Bool) (notes : List Kept) → Alternates b notes → Alternates false notes
 alternates_less false notes h = h
@@ -816,7 +817,7 @@ may_be_left (pending.Failed f) notes stands may = inl refl
 
 -- ends and commands alternate if nothing was awaited before
 shown : {E W K : Type 0} (adds loses : Kept → K → K → Type 0) (told : W → Option Told)
-    (fold : Fold E) (plan : Plan) (unit : ℕ) (a a' : Auto E) (wire wire' : W) (answer : Result Ran KeptFault) (k m : K)
+    (fold : Fold E) (plan : Plan) (unit : ℕ) (a a' : Auto E) (wire wire' : W) (answer : Result Ran BrokenOff) (k m : K)
     (events : List Event) (notes : List Kept)
     → KeepsRun adds loses told fold plan unit a a' wire wire' answer k m events notes
     → (b : Bool) → awaited plan a.state ≡ None → Alternates b notes
@@ -843,7 +844,7 @@ rows_at safe notes k m none chain =
 
 -- if each command was kept
 whole_run : {E W F : Type 0} (safe : F → Option (List ℕ)) (told : W → Option Told) (fold : Fold E) (plan : Plan)
-    (unit : ℕ) (a a' : Auto E) (wire wire' : W) (answer : Result Ran KeptFault) (k m : Recording F)
+    (unit : ℕ) (a a' : Auto E) (wire wire' : W) (answer : Result Ran BrokenOff) (k m : Recording F)
     (events : List Event) (notes : List Kept)
     → KeepsRun (Notes safe) (Loses safe) told fold plan unit a a' wire wire' answer k m events notes
     → MayHold k.pending → Chain (Notes safe) notes k m
@@ -905,7 +906,7 @@ lost_run {F = F} safe told fold plan unit a a' wire wire' k l m one events notes
 
 -- what is kept in a run is recorded
 pub run_is_recorded : {E W F : Type 0} (safe : F → Option (List ℕ)) (told : W → Option Told) (fold : Fold E) (plan : Plan)
-    (unit : ℕ) (a a' : Auto E) (wire wire' : W) (answer : Result Ran KeptFault) (k m : Recording F) (events : List Event)
+    (unit : ℕ) (a a' : Auto E) (wire wire' : W) (answer : Result Ran BrokenOff) (k m : Recording F) (events : List Event)
     (notes : List Kept) → MayHold k.pending
     → KeepsRun (Notes safe) (Loses safe) told fold plan unit a a' wire wire' answer k m events notes
     → IsRecorded safe told fold plan unit a a' wire wire' answer k m events notes
@@ -913,5 +914,7 @@ run_is_recorded safe told fold plan unit a a' wire wire' (Ok ran) k m events not
     whole_run safe told fold plan unit a a' wire wire' (Ok ran) k m events notes n none n.noted refl
 run_is_recorded safe told fold plan unit a a' wire wire' (Err fault.Device) k m events notes none n =
     whole_run safe told fold plan unit a a' wire wire' (Err fault.Device) k m events notes n none n.noted refl
+run_is_recorded safe told fold plan unit a a' wire wire' (Err fault.Left) k m events notes none n =
+    whole_run safe told fold plan unit a a' wire wire' (Err fault.Left) k m events notes n none n.noted refl
 run_is_recorded safe told fold plan unit a a' wire wire' (Err fault.Unkept) k m events notes none n =
     lost_run safe told fold plan unit a a' wire wire' k n.noted.0 m n.noted.1 events notes n none n.noted.2 n.noted.3

@@ -1,5 +1,5 @@
 -- What a killed run may have sent and heard since its journal's last row, and what is written of that before anything goes on.
-use Rattle.std.specs.Prelude.{ℕ, ◌&&◌, Bool, true, false, List, [], ◌∷◌, Option, None, Some, bit_and, if◌then◌else◌}
+use Rattle.std.specs.Prelude.{Bool, true, false, List, [], ◌∷◌, Option, None, Some, bit_and, if◌then◌else◌}
 use Rattle.vdcp_auto.specs.Replies.{is_done}
 use Rattle.vdcp_auto.specs.State.{Stage, Ready}
 use Rattle.vdcp_auto.specs.declared.exchange.Heard.{Heard}

@@ -8,12 +8,13 @@ use Rattle.vdcp_auto.specs.Turn.{awaited}
 use Rattle.vdcp_auto.specs.declared.exchange.Heard.{Heard}
 use Rattle.vdcp_drive.specs.Auto.{Auto, Event, arrivals}
 use Rattle.vdcp_drive.specs.Ears.{Fold}
-use Rattle.vdcp_drive.specs.Steps.{Step, acts, keeps, misses}
+use Rattle.vdcp_drive.specs.Hooked.{MayKeep, MayLose}
+use Rattle.vdcp_drive.specs.Steps.{Rules, Step, misses}
 use Rattle.vdcp_drive.specs.Traces.{bytes_of}
 use Rattle.vdcp_drive.specs.declared.hooks.Kept.{Kept}
 use Rattle.vdcp_drive.specs.declared.hooks.Kept.TheVariants as kept
-use Rattle.vdcp_drive.specs.declared.hooks.KeptFault.{KeptFault}
-use Rattle.vdcp_drive.specs.declared.hooks.KeptFault.TheVariants as fault
+use Rattle.vdcp_drive.specs.declared.hooks.BrokenOff.{BrokenOff}
+use Rattle.vdcp_drive.specs.declared.hooks.BrokenOff.TheVariants as fault
 use Rattle.vdcp_drive.specs.declared.line.Ran.{Ran}
 use Rattle.vdcp_drive.specs.declared.hooks.Call.{Call}
 use Rattle.vdcp_drive.specs.declared.hooks.Call.TheVariants as call
@@ -27,6 +28,7 @@ use Rattle.vdcp_journal_file.specs.Recording.{MakesBeginning, MakesSafe, Recordi
 use Rattle.vdcp_journal_file.specs.declared.pending.Pending.{Pending}
 use Rattle.vdcp_journal_file.specs.declared.pending.Pending.TheVariants as pending
 use Rattle.vdcp_journal_file.specs.declared.pending.RecordFault.{RecordFault}
+use Rattle.vdcp_wire.specs.Acts.{Act}
 use Rattle.vdcp_wire.specs.Wires.{IfTold, Told, has_closed}
 use Rattle.vdcp_words.specs.declared.command.Command.{Command}
 use Rattle.vdcp_words.specs.declared.command.Command.TheVariants as command
@@ -115,23 +117,32 @@ Notes safe (kept.Called c) old new = KeepsRow safe (call_note c) old new
 abbrev pub Loses : {F : Type 0} → (F → Option (List ℕ)) → Kept → Recording F → Recording F → Type 0
 Loses safe one old new = LosesRow safe (note_for one) old new
 
+-- what a run does to its wire, and to the recorder of its hooks, if they have one
+abbrev pub recorder_rules : {W F : Type 0} → (Act → W → W → Type 0) → (F → Option (List ℕ)) → Rules W (Option (Recording F))
+recorder_rules does safe = record {
+  does = does;
+  asks = λ _ _ before after. after ≡ before;
+  adds = MayKeep (Notes safe);
+  loses = MayLose (Loses safe);
+}
+
 -- a beginning of the text of these rows, and of one more
 abbrev pub IsTorn : ℕ → List Row → List ℕ → Type 0
 IsTorn unit rows torn = (one : Row) × (rest : List ℕ) × (torn ++ rest ≡ rows_text unit (rows ++ one ∷ []))
 
 -- what more is in the file than whole rows, and how much of it was noted last: something only if a command couldn't be
 -- kept, a beginning of that and of what was noted last
-abbrev pub IsTornBy : Result Ran KeptFault → ℕ → List Row → List ℕ → Type 0
+abbrev pub IsTornBy : Result Ran BrokenOff → ℕ → List Row → List ℕ → Type 0
 IsTornBy (Ok ran) unit last torn = torn ≡ []
 IsTornBy (Err fault.Device) unit last torn = torn ≡ []
+IsTornBy (Err fault.Left) unit last torn = torn ≡ []
 IsTornBy (Err fault.Unkept) unit last torn = IsTorn unit last torn
 
 -- nothing failed to be kept in these steps
 abbrev pub AreKept : List Step → Type 0
 AreKept [] = Unit {0}
-AreKept (acts a ∷ later) = AreKept later
-AreKept (keeps r ∷ later) = AreKept later
 AreKept (misses r ∷ later) = ⊥
+AreKept (one ∷ later) = AreKept later
 
 -- these rows are safe in the file since, with these bytes behind them, and they have each of these commands that does
 -- more than ask for the state, but for a PLAY that they announce
@@ -145,7 +156,7 @@ pub record HasSafe {F : Type 0} (safe : F → Option (List ℕ)) (old new : Reco
 -- a run of any automation gave this answer, in which this happened and these were noted: the rows have each command of
 -- which a byte went out
 pub record IsRecorded {E W F : Type 0} (safe : F → Option (List ℕ)) (told : W → Option Told) (fold : Fold E) (plan : Plan)
-    (unit : ℕ) (a a' : Auto E) (wire wire' : W) (answer : Result Ran KeptFault) (old new : Recording F) (events : List Event)
+    (unit : ℕ) (a a' : Auto E) (wire wire' : W) (answer : Result Ran BrokenOff) (old new : Recording F) (events : List Event)
     (notes : List Kept) : Type 0 where
   pub rows : List Row
   -- what was noted after them, and is safe with a later command: a state that is asked, a PLAY that was announced, what

@@ -1,15 +1,14 @@
 //! The laws of what a recorder keeps. What a law says is the contract of its function.
-ghost use Rattle.std.specs.Prelude.{◌≡◌, ℕ, [], Bool, List, None, Option, Result, Some};
+ghost use Rattle.std.specs.Prelude.{◌≡◌, ℕ, [], List, None, Option, Result, Some};
 ghost use Rattle.vdcp_auto.specs.Plan.{Plan};
 ghost use Rattle.vdcp_drive.specs.Auto.{Auto};
-ghost use Rattle.vdcp_drive.specs.Hooked.{MayKeep, MayLose};
 ghost use Rattle.vdcp_drive.specs.Leaves.{HasRun, steps_in};
 ghost use Rattle.vdcp_drive.specs.Steps.{Happens, Step, World};
 ghost use Rattle.vdcp_drive.specs.Traces.{commands_kept, kept_in};
-ghost use Rattle.vdcp_drive.specs.declared.hooks.KeptFault.{KeptFault};
+ghost use Rattle.vdcp_drive.specs.declared.hooks.BrokenOff.{BrokenOff};
 ghost use Rattle.vdcp_drive.specs.declared.line.Ran.{Ran};
 ghost use Rattle.vdcp_journal.specs.declared.row.Row.{Row};
-ghost use Rattle.vdcp_journal_file.specs.Recorded.{AreKept, HasSafe, IsRecorded, Loses, MayHold, Notes};
+ghost use Rattle.vdcp_journal_file.specs.Recorded.{AreKept, HasSafe, IsRecorded, MayHold, recorder_rules};
 ghost use Rattle.vdcp_journal_file.specs.Recording.{Recording};
 
 use crate::disk::Disk;
@@ -31,21 +30,19 @@ pub fn a_run_is_recorded<
     R: Files + Clock + AllocGlobal + 'r,
     F: Disk + Drop,
 >()
-    ensures recorded { (can : Bool) (plan : Plan) (unit count : ℕ) (a a' : Auto E)
-        (old new : World W (Option (Recording F))) (answer : Result Ran KeptFault) →
-        (h : HasRun (record
-        { does = W.does; adds = MayKeep (Notes F.safe); loses = MayLose (Loses F.safe); can_call = can }) E.fold plan unit
-        count a a' old new answer) → (before : Recording F) → old.keep ≡ Some before → MayHold before.pending →
-        (since : Recording F) × (new.keep ≡ Some since) × IsRecorded F.safe W.told E.fold plan unit a a' old.wire new.wire
-        answer before since h.run.events (kept_in (steps_in h.run)) }
-    ensures unrecorded { (can : Bool) (plan : Plan) (unit count : ℕ) (a a' : Auto E)
-        (old new : World W (Option (Recording F))) (answer : Result Ran KeptFault) → HasRun (record
-        { does = W.does; adds = MayKeep (Notes F.safe); loses = MayLose (Loses F.safe); can_call = can }) E.fold plan unit
-        count a a' old new answer → old.keep ≡ None → new.keep ≡ None }
+    ensures recorded { (plan : Plan) (unit count : ℕ) (a a' : Auto E)
+        (old new : World W (Option (Recording F))) (answer : Result Ran BrokenOff) →
+        (h : HasRun (recorder_rules W.does F.safe) E.fold plan unit count a a' old new answer) → (before : Recording F) →
+        old.keep ≡ Some before → MayHold before.pending → (since : Recording F) × (new.keep ≡ Some since)
+        × IsRecorded F.safe W.told E.fold plan unit a a' old.wire new.wire answer before since h.run.events
+        (kept_in (steps_in h.run)) }
+    ensures unrecorded { (plan : Plan) (unit count : ℕ) (a a' : Auto E)
+        (old new : World W (Option (Recording F))) (answer : Result Ran BrokenOff) →
+        HasRun (recorder_rules W.does F.safe) E.fold plan unit count a a' old new answer → old.keep ≡ None → new.keep ≡ None }
     // at each moment, after whatever steps, the safe rows have each command by then
-    ensures moments { (can : Bool) (some : List Step) (old moment : World W (Option (Recording F))) → Happens (record
-        { does = W.does; adds = MayKeep (Notes F.safe); loses = MayLose (Loses F.safe); can_call = can }) some old moment →
-        AreKept some → (before : Recording F) → old.keep ≡ Some before → MayHold before.pending →
+    ensures moments { (some : List Step) (old moment : World W (Option (Recording F))) →
+        Happens (recorder_rules W.does F.safe) some old moment → AreKept some →
+        (before : Recording F) → old.keep ≡ Some before → MayHold before.pending →
         (since : Recording F) × (rows : List Row) × (moment.keep ≡ Some since)
         × HasSafe F.safe before since (commands_kept (kept_in some)) rows [] }
 {

@@ -20,8 +20,8 @@ use std::alloc::Global;
 use std::marker::Model;
 use std::rt::{Clock, Files};
 use std::time::Duration;
-use vdcp_auto::{Heard, Outcome, Source};
-use vdcp_drive::{Call, Hooks, KeepFault};
+use vdcp_auto::{Controller, Heard, Outcome, Source};
+use vdcp_drive::{Call, Hooks, KeepFault, Next};
 use vdcp_journal::{Heading, Moment, Note, Row, write_heading, write_row};
 use vdcp_text::Failure;
 use vdcp_words::{Command, LONGEST};
@@ -238,6 +238,7 @@ impl<'a, 'r, R: Files + Clock + AllocGlobal, F: Disk + Drop> Recorder<'a, 'r, R,
 
 impl<S: Source, R: Files + Clock + AllocGlobal, F: Disk + Drop> Hooks<S>
     for Recorder<'_, '_, R, F> {
+    ghost use Rattle.std.specs.Prelude.{◌≡◌};
     ghost use Rattle.vdcp_journal_file.specs.Recorded.{Loses, Notes};
     ghost use Rattle.vdcp_journal_file.specs.Recording.{Recording};
 
@@ -245,9 +246,15 @@ impl<S: Source, R: Files + Clock + AllocGlobal, F: Disk + Drop> Hooks<S>
 
     ghost journal = { λ r. r };
 
+    ghost asks = { λ _ _ _ old new. new ≡ old };
+
     ghost adds = { Notes F.safe };
 
     ghost loses = { Loses F.safe };
+
+    fn due(&mut self, _controller: &Controller<S>) -> Next {
+        Next::GoOn
+    }
 
     fn keep_sent(&mut self, unit: u8, command: &Command, bytes: &[u8]) -> Result<(), KeepFault> {
         // (the row has the bytes to the journal's own unit)

@@ -1,5 +1,5 @@
 use Rattle.std.proofs.Common.{ap}
-use Rattle.vdcp_journal_file.proofs.Began.{began_with, begun_new}
+use Rattle.vdcp_journal_file.proofs.Began.{begun_new}
 use Rattle.vdcp_journal_file.proofs.begin.begin_in.Goals as goal
 use Rattle.vdcp_journal_file.specs.Recording.{Recording}
 

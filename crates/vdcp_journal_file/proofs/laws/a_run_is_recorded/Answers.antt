@@ -1,23 +1,22 @@
 use Rattle.std.proofs.Common.{subst}
 use Rattle.std.specs.Prelude.{Option}
-use Rattle.vdcp_drive.specs.Hooked.{MayKeep, MayLose}
+use Rattle.vdcp_drive.specs.Hooked.{MayKeep}
 use Rattle.vdcp_drive.specs.Leaves.{steps_in}
-use Rattle.vdcp_drive.specs.Steps.{Chain, Rules}
+use Rattle.vdcp_drive.specs.Steps.{Chain}
 use Rattle.vdcp_drive.specs.Traces.{kept_in}
 use Rattle.vdcp_journal_file.proofs.Chains.{rows_at, run_is_recorded}
-use Rattle.vdcp_journal_file.proofs.Hooked.{all_kept, as_called, keeps_by_one, keeps_none, notes_happen}
+use Rattle.vdcp_journal_file.proofs.Hooked.{all_kept, keeps_by_one, keeps_none, notes_happen}
 use Rattle.vdcp_journal_file.proofs.laws.a_run_is_recorded.Goals as goal
-use Rattle.vdcp_journal_file.specs.Recorded.{Loses, Notes}
+use Rattle.vdcp_journal_file.specs.Recorded.{Loses, Notes, recorder_rules}
 use Rattle.vdcp_journal_file.specs.Recording.{Recording}
 
 pub returns-clause-recorded : goal.returns-clause-recorded
-returns-clause-recorded g c can plan unit count a b old new answer h before is few =
+returns-clause-recorded g c plan unit count a b old new answer h before is few =
     let safe = g.F.Disk.safe in
     let told = g.W.Wire.told in
     let fold = g.E.Ear.fold in
     let notes = kept_in (steps_in h.run) in
-    let keeps = c.what_a_run_keeps.ensures plan unit count a b old new answer
-    (record { run = as_called can fold plan unit count a b answer h.run; happened = h.happened }) in
+    let keeps = c.what_a_run_keeps.ensures plan unit count a b old new answer h in
     let kept = keeps_by_one (Notes safe) (Loses safe) told fold plan unit a b old.wire new.wire answer before old.keep
     new.keep h.run.events notes is keeps in (
       kept.0,
@@ -26,23 +25,16 @@ returns-clause-recorded g c can plan unit count a b old new answer h before is f
     )
 
 pub returns-clause-unrecorded : goal.returns-clause-unrecorded
-returns-clause-unrecorded g c can plan unit count a b old new answer h is =
+returns-clause-unrecorded g c plan unit count a b old new answer h is =
     let safe = g.F.Disk.safe in
-    let keeps = c.what_a_run_keeps.ensures plan unit count a b old new answer
-    (record { run = as_called can g.E.Ear.fold plan unit count a b answer h.run; happened = h.happened }) in
+    let keeps = c.what_a_run_keeps.ensures plan unit count a b old new answer h in
     keeps_none (Notes safe) (Loses safe) answer (kept_in (steps_in h.run)) old.keep new.keep is keeps.noted
 
 pub returns-clause-moments : goal.returns-clause-moments
-returns-clause-moments g c can some old moment happened kept before is may =
+returns-clause-moments g c some old moment happened kept before is may =
     let safe = g.F.Disk.safe in
-    let rules : Rules _ (Option (Recording _)) = record {
-      does = g.W.Wire.does;
-      adds = MayKeep (Notes safe);
-      loses = MayLose (Loses safe);
-      can_call = can;
-    } in
     let all = all_kept (Notes safe) (kept_in some) before moment.keep
     (subst (λ (o : Option (Recording _)). Chain (MayKeep (Notes safe)) (kept_in some) o moment.keep) is
-    (notes_happen rules some old moment kept happened)) in
+    (notes_happen (recorder_rules g.W.Wire.does safe) (λ state next before after is. is) some old moment kept happened)) in
     let rows = rows_at safe (kept_in some) before all.0 may all.2 in
     (all.0, rows.0, all.1, rows.1)

@@ -1,7 +1,7 @@
 use Rattle.std.specs.Fmt.{option_append}
 use Rattle.std.proofs.Common.{inl}
 use Rattle.std.proofs.lemmas.Result.{IfOk-weaker, err_from_is_err_and}
-use Rattle.std.specs.Prelude.{Option, Some, option_map, take}
+use Rattle.std.specs.Prelude.{Some, option_map, take}
 use Rattle.vdcp_journal_file.proofs.Mended.{appended, kept_same, kept_so, replaced, untouched}
 use Rattle.vdcp_journal_file.proofs.OpenedAgain.{both}
 use Rattle.vdcp_journal_file.proofs.mending.mend_end.Goals as goal
