@@ -1,5 +1,5 @@
 -- The headline of a driver whose wire's acts are carried.
-use Rattle.std.proofs.Common.{ℕ, ◌⊎◌, inl, inr, ◌≡◌, Bool, List, ◌++◌, sym, ap, ap₂, subst, ◌∙◌, append_assoc}
+use Rattle.std.proofs.Common.{ℕ, ◌⊎◌, inl, inr, ◌≡◌, List, ◌++◌, sym, ap, ap₂, subst, ◌∙◌, append_assoc}
 use Rattle.std.specs.Prelude.{Result}
 use Rattle.vdcp_value.specs.declared.part.Item.{Item}
 use Rattle.vdcp_words.specs.declared.command.Command.{Command}
@@ -8,18 +8,17 @@ use Rattle.vdcp_auto.specs.Plan.{Plan}
 use Rattle.vdcp_auto.specs.Turn.{ticked}
 use Rattle.vdcp_auto.specs.declared.exchange.Exchange.{Exchange}
 use Rattle.vdcp_wire.specs.Acts.{Act}
-use Rattle.vdcp_wire.specs.Wires.{Arrival}
 use Rattle.vdcp_drive.specs.Serving.{begins, items_in, hook_steps}
 use Rattle.vdcp_drive.specs.Turns.{Turn}
 use Rattle.vdcp_drive.specs.declared.hearing.Hearing.TheVariants.{AtOnce}
-use Rattle.vdcp_drive.specs.Auto.{Auto, after, log_of}
+use Rattle.vdcp_drive.specs.Auto.{Auto, Event, after, log_of}
 use Rattle.vdcp_drive.specs.Auto as auto
 use Rattle.vdcp_drive.specs.Hearing.{at_once}
-use Rattle.vdcp_drive.specs.Leaves.{Ending, by_itself, in_keep, in_drop, in_send, in_listen, IsRun, steps_in}
+use Rattle.vdcp_drive.specs.Leaves.{Ending, by_itself, by_hooks, in_keep, in_drop, in_send, in_listen, IsRun, steps_in}
 use Rattle.vdcp_drive.specs.Reading.{Held}
 use Rattle.vdcp_drive.specs.Steps.{Step}
 use Rattle.vdcp_drive.specs.Traces.{acts_in, came_in}
-use Rattle.vdcp_drive.specs.declared.hooks.KeptFault.{KeptFault}
+use Rattle.vdcp_drive.specs.declared.hooks.BrokenOff.{BrokenOff}
 use Rattle.vdcp_drive.specs.declared.line.Ran.{Ran}
 use Rattle.vdcp_laws.specs.Automation.{Prompt, led}
 use Rattle.vdcp_laws.specs.Carried.{AreCarried, driver_of}
@@ -32,37 +31,38 @@ use Rattle.vdcp_laws.proofs.Headline.{Laws, before_tick, of_ends}
 use Rattle.vdcp_laws.proofs.OneRun.{goes, led_on}
 use Rattle.vdcp_laws.proofs.Same.{led_log, led_so}
 
-left_at : (plan : Plan) (unit count : ℕ) (came : List Arrival) (a a' : Auto Held) (answer : Result Ran KeptFault)
-    (more : List Step) → Ending at_once plan unit count came a answer more a' → (a' ≡ a) ⊎ (a' ≡ auto.gives a)
-left_at plan unit count came a a' answer more (by_itself r is to m left) = inl left
-left_at plan unit count came a a' answer more (in_keep r is g m left) = inl left
-left_at plan unit count came a a' answer more (in_drop c is dropping g m left) = inl left
-left_at plan unit count came a a' answer more (in_send c front rest is g parts m left) = inr left
-left_at plan unit count came a a' answer more (in_listen is m left) = inr left
+left_at : (plan : Plan) (unit count : ℕ) (events : List Event) (a a' : Auto Held) (answer : Result Ran BrokenOff)
+    (more : List Step) → Ending at_once plan unit count events a answer more a' → (a' ≡ a) ⊎ (a' ≡ auto.gives a)
+left_at plan unit count events a a' answer more (by_itself r is to m left) = inl left
+left_at plan unit count events a a' answer more (by_hooks is g m left) = inl left
+left_at plan unit count events a a' answer more (in_keep r is g m left) = inl left
+left_at plan unit count events a a' answer more (in_drop c is dropping g m left) = inl left
+left_at plan unit count events a a' answer more (in_send c front rest is g parts m left) = inr left
+left_at plan unit count events a a' answer more (in_listen is m left) = inr left
 
 -- where a run's ends are
-pub joined : (can : Bool) (plan : Plan) (port : ClockedPort) (asked : List Command) (e : Ends) (count : ℕ)
-    (answer : Result Ran KeptFault) (a' : Auto Held) (turns : List Turn) (below : List Act)
+pub joined : (plan : Plan) (port : ClockedPort) (asked : List Command) (e : Ends) (count : ℕ)
+    (answer : Result Ran BrokenOff) (a' : Auto Held) (turns : List Turn) (below : List Act)
     → AreJoined plan port asked e
-    → (run : IsRun can at_once plan port.state.unit count (driver_of e.automation) a' answer)
+    → (run : IsRun at_once plan port.state.unit count (driver_of e.automation) a' answer)
     → came_in below ≡ came_of arrival_at turns → SendsAnswers e turns below
     → AreCarried plan port.state.unit e (acts_in (steps_in run)) below
     → AreJoined plan port asked (ends_at plan port.state.unit e run.events (e.downs ++ turns))
-joined can plan port asked e count answer a' turns below j run whole answers c =
+joined plan port asked e count answer a' turns below j run whole answers c =
     led_on plan port.state.unit (new_ends port asked) e _ j
-    (run_led can plan port.state.unit count e answer a' turns below run whole answers c)
+    (run_led plan port.state.unit count e answer a' turns below run whole answers c)
 
 -- with the next command given
-with_next : (law : Laws) (can : Bool) (plan : Plan) (port : ClockedPort) (asked : List Command) (e : Ends) (count : ℕ)
-    (answer : Result Ran KeptFault) (a' : Auto Held) (turns : List Turn) (below : List Act)
+with_next : (law : Laws) (plan : Plan) (port : ClockedPort) (asked : List Command) (e : Ends) (count : ℕ)
+    (answer : Result Ran BrokenOff) (a' : Auto Held) (turns : List Turn) (below : List Act)
     → CanJoin plan port asked → AreJoined plan port asked e
-    → (run : IsRun can at_once plan port.state.unit count (driver_of e.automation) a' answer)
+    → (run : IsRun at_once plan port.state.unit count (driver_of e.automation) a' answer)
     → came_in below ≡ came_of arrival_at turns → SendsAnswers e turns below
     → AreCarried plan port.state.unit e (acts_in (steps_in run)) below
     → EndsHeadline plan port.clips (ticked (after at_once plan port.state.unit (driver_of e.automation) run.events).state)
     (log_now e ++ log_of at_once plan port.state.unit (driver_of e.automation) run.events)
     (aired_now (record e { downs = e.downs ++ turns }))
-with_next law can plan port asked e count answer a' turns below start j run whole answers c =
+with_next law plan port asked e count answer a' turns below start j run whole answers c =
     let unit : ℕ = port.state.unit in
     let now : Ends = ends_by plan unit e run.events in
     let p : Prompt = led plan unit e.automation run.events in
@@ -82,21 +82,21 @@ with_next law can plan port asked e count answer a' turns below start j run whol
     (subst (λ (l : List Exchange). EndsHeadline plan port.clips (ticked now.automation.state) l aired) log_is
     (subst (EndsHeadline plan port.clips (ticked now.automation.state) (now.log_before ++ now.automation.log)) aired_is
     (of_ends law plan port asked (ends_at plan unit e run.events downs) start
-    (joined can plan port asked e count answer a' turns below j run whole answers c))))
+    (joined plan port asked e count answer a' turns below j run whole answers c))))
 
-pub of_carried : (law : Laws) (can : Bool) (plan : Plan) (port : ClockedPort) (asked : List Command) (e : Ends) (count : ℕ)
-    (answer : Result Ran KeptFault) (a' : Auto Held) (turns : List Turn) (below : List Act)
+pub of_carried : (law : Laws) (plan : Plan) (port : ClockedPort) (asked : List Command) (e : Ends) (count : ℕ)
+    (answer : Result Ran BrokenOff) (a' : Auto Held) (turns : List Turn) (below : List Act)
     → CanJoin plan port asked → AreJoined plan port asked e
-    → (run : IsRun can at_once plan port.state.unit count (driver_of e.automation) a' answer)
+    → (run : IsRun at_once plan port.state.unit count (driver_of e.automation) a' answer)
     → came_in below ≡ came_of arrival_at turns → SendsAnswers e turns below
     → AreCarried plan port.state.unit e (acts_in (steps_in run)) below
     → EndsHeadline plan port.clips a'.state
     (log_now e ++ log_of at_once plan port.state.unit (driver_of e.automation) run.events)
     (aired_now (record e { downs = e.downs ++ turns }))
-of_carried law can plan port asked e count answer a' turns below start j run whole answers c =
+of_carried law plan port asked e count answer a' turns below start j run whole answers c =
     by (left_at plan port.state.unit count _
     (after at_once plan port.state.unit (driver_of e.automation) run.events) a' answer run.more run.ending)
-    (with_next law can plan port asked e count answer a' turns below start j run whole answers c) where
+    (with_next law plan port asked e count answer a' turns below start j run whole answers c) where
       by : {b : Auto Held} {log : List Exchange} {aired : List Item} → (a' ≡ b) ⊎ (a' ≡ auto.gives b)
           → EndsHeadline plan port.clips (ticked b.state) log aired → EndsHeadline plan port.clips a'.state log aired
       by {b} {log} {aired} (inl left) h =

@@ -13,14 +13,14 @@ use Rattle.vdcp_drive.specs.Auto.{Auto, Event, after, arrivals, arrives, calls, 
 use Rattle.vdcp_drive.specs.Auto as auto
 use Rattle.vdcp_drive.specs.Ears.{inputs}
 use Rattle.vdcp_drive.specs.Hearing.{at_once}
-use Rattle.vdcp_drive.specs.Leaves.{Ending, by_itself, in_keep, in_drop, in_send, in_listen}
+use Rattle.vdcp_drive.specs.Leaves.{Ending, by_itself, by_hooks, in_keep, in_drop, in_send, in_listen}
 use Rattle.vdcp_drive.specs.Reading.{Held}
-use Rattle.vdcp_drive.specs.Steps.{Step, acts, keeps, misses, command_bytes, ended_notes, given_notes, opening, round, sending, steps_of}
+use Rattle.vdcp_drive.specs.Steps.{Step, acts, asks, keeps, misses, command_bytes, ended_notes, given_notes, opening, round, sending, steps_of}
 use Rattle.vdcp_drive.specs.Traces.{acts_in, bytes_of, came_in, sent_in}
 use Rattle.vdcp_drive.specs.declared.hooks.Call.{Call}
 use Rattle.vdcp_drive.specs.declared.hooks.Call.TheVariants as call
 use Rattle.vdcp_drive.specs.declared.hooks.Kept.{Kept}
-use Rattle.vdcp_drive.specs.declared.hooks.KeptFault.{KeptFault}
+use Rattle.vdcp_drive.specs.declared.hooks.BrokenOff.{BrokenOff}
 use Rattle.vdcp_drive.specs.declared.line.Ran.{Ran}
 use Rattle.vdcp_laws.specs.Automation.{Prompt, commands_in, gives, heeds, led, listens}
 use Rattle.vdcp_laws.specs.Carried.{driver_of}
@@ -34,6 +34,7 @@ use Rattle.vdcp_laws.proofs.Same.{listens_so}
 acts_both : (xs ys : List Step) → acts_in (xs ++ ys) ≡ acts_in xs ++ acts_in ys
 acts_both [] ys = refl
 acts_both (acts a ∷ xs) ys = ap (λ (l : List Act). a ∷ l) (acts_both xs ys)
+acts_both (asks s n ∷ xs) ys = acts_both xs ys
 acts_both (keeps r ∷ xs) ys = acts_both xs ys
 acts_both (misses c ∷ xs) ys = acts_both xs ys
 
@@ -126,29 +127,32 @@ listen_fails plan unit s (Some c) is = record {
   part = ap (λ (o : Option Command). bytes_of unit (option_to_list o)) is ∙ sym (append-nil (command_bytes unit c ++ []));
 }
 
-last_so : (plan : Plan) (unit count : ℕ) (came : List Arrival) (a a' : Auto Held) (answer : Result Ran KeptFault)
-    (more : List Step) → Ending at_once plan unit count came a answer more a' → Last plan unit a.state (acts_in more)
-last_so plan unit count came a a' answer more (by_itself r is to m left) =
+last_so : (plan : Plan) (unit count : ℕ) (events : List Event) (a a' : Auto Held) (answer : Result Ran BrokenOff)
+    (more : List Step) → Ending at_once plan unit count events a answer more a' → Last plan unit a.state (acts_in more)
+last_so plan unit count events a a' answer more (by_itself r is to m left) =
     subst (λ (l : List Step). Last plan unit a.state (acts_in l)) (sym m)
     (record { none = refl; unsent = bytes_of unit (option_to_list (given plan a.state)); part = refl })
-last_so plan unit count came a a' answer more (in_keep r is g m left) =
+last_so plan unit count events a a' answer more (by_hooks is g m left) =
     subst (λ (l : List Step). Last plan unit a.state (acts_in l)) (sym m)
     (record { none = refl; unsent = bytes_of unit (option_to_list (given plan a.state)); part = refl })
-last_so plan unit count came a a' answer more (in_drop c is dropping g m left) = absurd (grind (arith, dropping))
-last_so plan unit count came a a' answer more (in_send c front rest is g parts m left) =
+last_so plan unit count events a a' answer more (in_keep r is g m left) =
+    subst (λ (l : List Step). Last plan unit a.state (acts_in l)) (sym m)
+    (record { none = refl; unsent = bytes_of unit (option_to_list (given plan a.state)); part = refl })
+last_so plan unit count events a a' answer more (in_drop c is dropping g m left) = absurd (grind (arith, dropping))
+last_so plan unit count events a a' answer more (in_send c front rest is g parts m left) =
     subst (λ (l : List Step). Last plan unit a.state (acts_in l)) (sym m) (record {
       none = refl;
       unsent = rest;
       part = ap (λ (o : Option Command). bytes_of unit (option_to_list o)) g
           ∙ append-nil (command_bytes unit c) ∙ parts ∙ ap (λ (l : List ℕ). l ++ rest) (sym (append-nil front));
     })
-last_so plan unit count came a a' answer more (in_listen is m left) =
+last_so plan unit count events a a' answer more (in_listen is m left) =
     subst (λ (l : List Step). Last plan unit a.state (acts_in l)) (sym m)
     (listen_fails plan unit a.state (given plan a.state) refl)
 
 -- the listens of a run are those that brought what came
-pub came_whole : (plan : Plan) (unit count : ℕ) (all : List Arrival) (events : List Event) (a : Auto Held)
-    (answer : Result Ran KeptFault) (more : List Step) (a' : Auto Held)
+pub came_whole : (plan : Plan) (unit count : ℕ) (all events : List Event) (a : Auto Held)
+    (answer : Result Ran BrokenOff) (more : List Step) (a' : Auto Held)
     → Ending at_once plan unit count all (after at_once plan unit a events) answer more a'
     → came_in (acts_in (steps_of at_once plan unit a events ++ more)) ≡ arrivals events
 came_whole plan unit count all [] a answer more a' e = (last_so plan unit count all a a' answer more e).none
@@ -241,8 +245,8 @@ call_commands : (plan : Plan) (c : Call) (p : Prompt) → commands_in plan (heed
 call_commands plan call.Take p = refl
 call_commands plan call.Stop p = refl
 
-pub sends_by : (plan : Plan) (unit count : ℕ) (all : List Arrival) (events : List Event) (p : Prompt)
-    (answer : Result Ran KeptFault) (more : List Step) (a' : Auto Held)
+pub sends_by : (plan : Plan) (unit count : ℕ) (all events : List Event) (p : Prompt)
+    (answer : Result Ran BrokenOff) (more : List Step) (a' : Auto Held)
     → Ending at_once plan unit count all (after at_once plan unit (driver_of p) events) answer more a'
     → (so_far behind : List Act) → acts_in (steps_of at_once plan unit (driver_of p) events ++ more) ≡ so_far ++ behind
     → Sends plan unit p events so_far

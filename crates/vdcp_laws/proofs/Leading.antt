@@ -1,5 +1,5 @@
 -- What is carried between a driver and a server leads both ends on.
-use Rattle.std.proofs.Common.{ℕ, ◌≡◌, Bool, List, [], ◌∷◌, ◌++◌, refl, sym, ap, ap₂, subst, ◌∙◌, append_assoc, append-nil}
+use Rattle.std.proofs.Common.{ℕ, ◌≡◌, List, [], ◌∷◌, ◌++◌, refl, sym, ap, ap₂, subst, ◌∙◌, append_assoc, append-nil}
 use Rattle.std.proofs.lemmas.Grind.{flat_map-append}
 use Rattle.std.specs.Prelude.{Option, None, Some, Result}
 use Rattle.vdcp_words.specs.declared.command.Command.{Command}
@@ -8,14 +8,13 @@ use Rattle.vdcp_port.specs.Clock.{ClockedPort}
 use Rattle.vdcp_auto.specs.Plan.{Plan}
 use Rattle.vdcp_wire.specs.Acts.{Act, sends, brings, fails}
 use Rattle.vdcp_wire.specs.Wires.{Arrival, bytes, silence, close}
-use Rattle.vdcp_drive.specs.Auto as auto
 use Rattle.vdcp_drive.specs.Auto.{AreMade, Auto, Event}
 use Rattle.vdcp_drive.specs.Hearing.{at_once}
 use Rattle.vdcp_drive.specs.Leaves.{IsRun, steps_in}
 use Rattle.vdcp_drive.specs.Reading.{Held}
 use Rattle.vdcp_drive.specs.Steps.{command_bytes}
 use Rattle.vdcp_drive.specs.Traces.{acts_in, bytes_of, came_in, sent_in}
-use Rattle.vdcp_drive.specs.declared.hooks.KeptFault.{KeptFault}
+use Rattle.vdcp_drive.specs.declared.hooks.BrokenOff.{BrokenOff}
 use Rattle.vdcp_drive.specs.declared.line.Ran.{Ran}
 use Rattle.vdcp_drive.specs.Served.{IsMoment, only}
 use Rattle.vdcp_drive.specs.Serving.{Service, acts_of, begins, left_by, replies, sending, serves}
@@ -223,18 +222,18 @@ lower plan unit e events turns below autos servers what whole back j =
     (frames_on plan unit e now ((e.downs ++ front) ++ listen what ∷ []) n.later j)
 
 -- something comes up
-higher : (can : Bool) (plan : Plan) (unit : ℕ) (e : Ends) (events : List Event) (turns : List Turn)
+higher : (plan : Plan) (unit : ℕ) (e : Ends) (events : List Event) (turns : List Turn)
     (list autos servers : List Act) (what : Arrival) → came_in list ≡ came_of arrival_in events
-    → AreMade can at_once plan unit (driver_of e.automation) events → IsFront list (autos ++ brings what ∷ [])
+    → AreMade at_once plan unit (driver_of e.automation) events → IsFront list (autos ++ brings what ∷ [])
     → AreLed plan unit e (record (hears_in plan unit what
     (with_command plan (ends_by plan unit e (upto arrival_in events (came_in autos)))))
     { downs = e.downs ++ upto arrival_at turns (came_in servers) })
     → IsThere plan unit e events turns (autos ++ brings what ∷ []) servers
-higher can plan unit e events turns list autos servers what whole made front j =
+higher plan unit e events turns list autos servers what whole made front j =
     let downs : List Turn = e.downs ++ upto arrival_at turns (came_in servers) in
     subst (λ (l : List Arrival). AreLed plan unit e (ends_at plan unit e (upto arrival_in events l) downs))
     (sym (came_both autos (brings what ∷ [])))
-    (listened can plan unit e events (came_in autos) (came_in front.0) what downs
+    (listened plan unit e events (came_in autos) (came_in front.0) what downs
     (sym whole ∙ next_in list autos front.0 what front.1) made j)
 
 -- what came by then
@@ -258,91 +257,91 @@ downs_so e turns below servers whole back =
     ∙ upto_came arrival_at turns (came_in servers) (came_in back.0) (sym whole ∙ ap came_in back.1 ∙ came_both servers back.0))
 
 -- all of a run: what happened to the automation, and the server's turns; and the acts of both wires
-record Runs (can : Bool) (plan : Plan) (unit : ℕ) (e : Ends) (events : List Event) (turns : List Turn)
+record Runs (plan : Plan) (unit : ℕ) (e : Ends) (events : List Event) (turns : List Turn)
     (list below : List Act) : Type 0 where
   whole : came_in list ≡ came_of arrival_in events
-  made : AreMade can at_once plan unit (driver_of e.automation) events
+  made : AreMade at_once plan unit (driver_of e.automation) events
   sends : (some behind : List Act) → list ≡ some ++ behind → Sends plan unit e.automation events some
   whole_below : came_in below ≡ came_of arrival_at turns
   answers : SendsAnswers e turns below
 
-come : (can : Bool) (plan : Plan) (unit : ℕ) (e : Ends) (events : List Event) (turns : List Turn)
-    (list below autos servers : List Act) → Runs can plan unit e events turns list below
+come : (plan : Plan) (unit : ℕ) (e : Ends) (events : List Event) (turns : List Turn)
+    (list below autos servers : List Act) → Runs plan unit e events turns list below
     → AreCarried plan unit e autos servers → IsFront list autos → IsFront below servers
     → IsThere plan unit e events turns autos servers
-come can plan unit e events turns list below _ _ r carried.begun front back =
+come plan unit e events turns list below _ _ r carried.begun front back =
     frames_on plan unit e (ends_at plan unit e (upto arrival_in events []) e.downs) e.downs turns
-    (two.went_on (calls_on can plan unit e e e.downs events two.begun r.made) two.gave)
-come can plan unit e events turns list below _ _ r (carried.sent {autos} {servers} h b) front back =
+    (two.went_on (calls_on plan unit e e e.downs events two.begun r.made) two.gave)
+come plan unit e events turns list below _ _ r (carried.sent {autos} {servers} h b) front back =
     silent plan unit e events turns autos (sends b) servers refl
-    (come can plan unit e events turns list below autos servers r h (without list autos (sends b) front) back)
-come can plan unit e events turns list below _ _ r (carried.up {autos} {servers} h piece rest is) front back =
+    (come plan unit e events turns list below autos servers r h (without list autos (sends b) front) back)
+come plan unit e events turns list below _ _ r (carried.up {autos} {servers} h piece rest is) front back =
     let enough = sent_enough_up e turns below servers (e.ups ++ bytes_in (came_in autos)) piece rest r.answers back is in
     let before = without list autos (brings (bytes piece)) front in
-    higher can plan unit e events turns list autos servers (bytes piece) r.whole r.made front
-    (two.went_on (come can plan unit e events turns list below autos servers r h before back)
+    higher plan unit e events turns list autos servers (bytes piece) r.whole r.made front
+    (two.went_on (come plan unit e events turns list below autos servers r h before back)
     (two.came_up piece enough.0
     (ap (λ (p : ClockedPort). sent_in (acts_of (begins AtOnce p) (e.downs ++ upto arrival_at turns (came_in servers))))
     (goes plan unit e (upto arrival_in events (came_in autos))).port
     ∙ enough.1
     ∙ ap (λ (l : List ℕ). l ++ (piece ++ enough.0)) (sym (ups_so plan unit e events list autos r.whole before)))))
-come can plan unit e events turns list below _ _ r (carried.waited {autos} {servers} h) front back =
-    higher can plan unit e events turns list autos servers silence r.whole r.made front
-    (two.went_on (come can plan unit e events turns list below autos servers r h
+come plan unit e events turns list below _ _ r (carried.waited {autos} {servers} h) front back =
+    higher plan unit e events turns list autos servers silence r.whole r.made front
+    (two.went_on (come plan unit e events turns list below autos servers r h
     (without list autos (brings silence) front) back) two.waited)
-come can plan unit e events turns list below _ _ r (carried.hung_up {autos} {servers} h) front back =
-    higher can plan unit e events turns list autos servers close r.whole r.made front
-    (two.went_on (come can plan unit e events turns list below autos servers r h
+come plan unit e events turns list below _ _ r (carried.hung_up {autos} {servers} h) front back =
+    higher plan unit e events turns list autos servers close r.whole r.made front
+    (two.went_on (come plan unit e events turns list below autos servers r h
     (without list autos (brings close) front) back) two.waited)
-come can plan unit e events turns list below _ _ r (carried.failed {autos} {servers} h) front back =
+come plan unit e events turns list below _ _ r (carried.failed {autos} {servers} h) front back =
     silent plan unit e events turns autos fails servers refl
-    (come can plan unit e events turns list below autos servers r h (without list autos fails front) back)
-come can plan unit e events turns list below _ _ r (carried.answered {autos} {servers} h b) front back =
+    (come plan unit e events turns list below autos servers r h (without list autos fails front) back)
+come plan unit e events turns list below _ _ r (carried.answered {autos} {servers} h b) front back =
     silent_below plan unit e events turns autos servers (sends b) refl
-    (come can plan unit e events turns list below autos servers r h front (without below servers (sends b) back))
-come can plan unit e events turns list below _ _ r (carried.down {autos} {servers} h piece rest is) front back =
+    (come plan unit e events turns list below autos servers r h front (without below servers (sends b) back))
+come plan unit e events turns list below _ _ r (carried.down {autos} {servers} h piece rest is) front back =
     let before = without below servers (brings (bytes piece)) back in
     let enough = sent_enough plan unit e events autos (bytes_in (arrivals e.downs) ++ bytes_in (came_in servers)) piece rest
     (r.sends autos front.0 front.1) is in
     let g = goes plan unit e (upto arrival_in events (came_in autos)) in
     lower plan unit e events turns below autos servers (bytes piece) r.whole_below back
-    (two.went_on (come can plan unit e events turns list below autos servers r h front before)
+    (two.went_on (come plan unit e events turns list below autos servers r h front before)
     (two.came_down piece enough.0
     (ap₂ (λ (l : List Command) (p : Prompt). bytes_of unit (l ++ commands_in plan (gives p))) g.asked g.automation
     ∙ enough.1
     ∙ ap (λ (l : List ℕ). l ++ (piece ++ enough.0)) (sym (downs_so e turns below servers r.whole_below before)))))
-come can plan unit e events turns list below _ _ r (carried.paused {autos} {servers} h) front back =
+come plan unit e events turns list below _ _ r (carried.paused {autos} {servers} h) front back =
     lower plan unit e events turns below autos servers silence r.whole_below back
-    (two.went_on (come can plan unit e events turns list below autos servers r h front
+    (two.went_on (come plan unit e events turns list below autos servers r h front
     (without below servers (brings silence) back)) two.paused)
-come can plan unit e events turns list below _ _ r (carried.shut {autos} {servers} h) front back =
+come plan unit e events turns list below _ _ r (carried.shut {autos} {servers} h) front back =
     lower plan unit e events turns below autos servers close r.whole_below back
-    (two.went_on (come can plan unit e events turns list below autos servers r h front
+    (two.went_on (come plan unit e events turns list below autos servers r h front
     (without below servers (brings close) back)) two.shut)
-come can plan unit e events turns list below _ _ r (carried.broke {autos} {servers} h) front back =
+come plan unit e events turns list below _ _ r (carried.broke {autos} {servers} h) front back =
     silent_below plan unit e events turns autos servers fails refl
-    (come can plan unit e events turns list below autos servers r h front (without below servers fails back))
+    (come plan unit e events turns list below autos servers r h front (without below servers fails back))
 
 -- of a whole run
-pub run_led : (can : Bool) (plan : Plan) (unit count : ℕ) (e : Ends) (answer : Result Ran KeptFault) (a' : Auto Held)
+pub run_led : (plan : Plan) (unit count : ℕ) (e : Ends) (answer : Result Ran BrokenOff) (a' : Auto Held)
     (turns : List Turn) (below : List Act)
-    → (run : IsRun can at_once plan unit count (driver_of e.automation) a' answer)
+    → (run : IsRun at_once plan unit count (driver_of e.automation) a' answer)
     → came_in below ≡ came_of arrival_at turns → SendsAnswers e turns below
     → AreCarried plan unit e (acts_in (steps_in run)) below
     → AreLed plan unit e (ends_at plan unit e run.events (e.downs ++ turns))
-run_led can plan unit count e answer a' turns below run whole answers c =
+run_led plan unit count e answer a' turns below run whole answers c =
     let list : List Act = acts_in (steps_in run) in
     let all : came_in list ≡ came_of arrival_in run.events =
-    came_whole plan unit count (auto.arrivals run.events) run.events (driver_of e.automation) answer run.more a' run.ending
+    came_whole plan unit count run.events run.events (driver_of e.automation) answer run.more a' run.ending
     ∙ arrivals_so run.events in
     subst (λ (l : List Event). AreLed plan unit e (ends_at plan unit e l (e.downs ++ turns)))
     (all_of arrival_in (came_in list) run.events all)
     (subst (λ (l : List Turn). AreLed plan unit e (ends_at plan unit e (upto arrival_in run.events (came_in list)) (e.downs ++ l)))
     (all_of arrival_at (came_in below) turns whole)
-    (come can plan unit e run.events turns list below list below (record {
+    (come plan unit e run.events turns list below list below (record {
       whole = all;
       made = run.made;
-      sends = sends_by plan unit count (auto.arrivals run.events) run.events e.automation answer run.more a' run.ending;
+      sends = sends_by plan unit count run.events run.events e.automation answer run.more a' run.ending;
       whole_below = whole;
       answers = answers;
     }) c ([], sym (append-nil list)) ([], sym (append-nil below)))) where

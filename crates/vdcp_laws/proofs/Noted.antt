@@ -15,7 +15,7 @@ use Rattle.vdcp_drive.specs.Auto as auto
 use Rattle.vdcp_drive.specs.Ears.{inputs}
 use Rattle.vdcp_drive.specs.Hearing.{at_once}
 use Rattle.vdcp_drive.specs.Reading.{Held, completed}
-use Rattle.vdcp_drive.specs.Steps.{Step, acts, keeps, misses, ended_notes, given_notes, round, steps_of}
+use Rattle.vdcp_drive.specs.Steps.{Step, acts, asks, keeps, misses, ended_notes, given_notes, round, steps_of}
 use Rattle.vdcp_drive.specs.Traces.{kept_in}
 use Rattle.vdcp_drive.specs.Turns.{Turn}
 use Rattle.vdcp_drive.specs.declared.hooks.Kept.{Kept}
@@ -29,6 +29,7 @@ use Rattle.vdcp_laws.proofs.Same.{led_so, listens_so}
 
 rows_both : (xs ys : List Step) → kept_in (xs ++ ys) ≡ kept_in xs ++ kept_in ys
 rows_both [] ys = refl
+rows_both (asks s n ∷ xs) ys = rows_both xs ys
 rows_both (keeps r ∷ xs) ys = ap (λ (l : List Kept). r ∷ l) (rows_both xs ys)
 rows_both (acts a ∷ xs) ys = rows_both xs ys
 rows_both (misses r ∷ xs) ys = rows_both xs ys
@@ -49,7 +50,7 @@ round_rows : (plan : Plan) (unit : ℕ) (what : Arrival) (a : Auto Held) (later 
     → kept_in (round at_once plan unit what a ++ later)
     ≡ given_notes (given plan a.state) ++ (ends_in plan unit what a ++ kept_in later)
 round_rows plan unit what a later =
-    simp (rows_both, rows_of_acts, rows_of_rows, append-nil, append_assoc)
+    simp (rows_both, rows_of_acts, rows_of_rows, append_assoc)
 
 heard_rows : (plan : Plan) (unit : ℕ) (ms : List Content) (p : Prompt) → notes_heard plan unit ms p
     ≡ map note_for (ended_notes (auto.ended plan (map Some (map (heard_as unit) ms)) p.state))

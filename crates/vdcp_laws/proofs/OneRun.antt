@@ -1,5 +1,5 @@
 -- One run, by what happened in it: where both ends are led.
-use Rattle.std.proofs.Common.{ℕ, ◌≡◌, Bool, List, [], ◌∷◌, ◌++◌, refl, sym, ap, subst, ◌∙◌, append_assoc, append-nil}
+use Rattle.std.proofs.Common.{ℕ, ◌≡◌, List, [], ◌∷◌, ◌++◌, refl, sym, ap, subst, ◌∙◌, append_assoc, append-nil}
 use Rattle.std.specs.Prelude.{Option, None, Some}
 use Rattle.vdcp_auto.specs.Plan.{Plan}
 use Rattle.vdcp_wire.specs.Wires.{Arrival, bytes, silence, close}
@@ -94,32 +94,32 @@ it_arrives : (what : Event) (a : Arrival) → arrival_in what ≡ Some a → wha
 it_arrives (arrives b) a is = cc
 it_arrives (calls c) a is = cc
 
-made_behind : (can : Bool) (plan : Plan) (unit : ℕ) (a : Auto Held) (xs ys : List Event)
-    → AreMade can at_once plan unit a (xs ++ ys) → AreMade can at_once plan unit (after at_once plan unit a xs) ys
-made_behind can plan unit a [] ys h = h
-made_behind can plan unit a (arrives x ∷ xs) ys h =
-    made_behind can plan unit (auto.listens at_once plan unit x (auto.gives a)) xs ys h
-made_behind can plan unit a (calls c ∷ xs) ys h = made_behind can plan unit (auto.heeds c a) xs ys h.2
+made_behind : (plan : Plan) (unit : ℕ) (a : Auto Held) (xs ys : List Event)
+    → AreMade at_once plan unit a (xs ++ ys) → AreMade at_once plan unit (after at_once plan unit a xs) ys
+made_behind plan unit a [] ys h = h
+made_behind plan unit a (arrives x ∷ xs) ys h =
+    made_behind plan unit (auto.listens at_once plan unit x (auto.gives a)) xs ys h
+made_behind plan unit a (calls c ∷ xs) ys h = made_behind plan unit (auto.heeds c a) xs ys h.1
 
 -- the calls that follow are made
-pub calls_on : (can : Bool) (plan : Plan) (unit : ℕ) (first e : Ends) (downs : List Turn) (later : List Event)
-    → AreLed plan unit first (record e { downs = downs }) → AreMade can at_once plan unit (driver_of e.automation) later
+pub calls_on : (plan : Plan) (unit : ℕ) (first e : Ends) (downs : List Turn) (later : List Event)
+    → AreLed plan unit first (record e { downs = downs }) → AreMade at_once plan unit (driver_of e.automation) later
     → AreLed plan unit first (record (ends_by plan unit e (upto arrival_in later [])) { downs = downs })
-calls_on can plan unit first e downs [] j m = j
-calls_on can plan unit first e downs (arrives a ∷ later) j m = j
-calls_on can plan unit first e downs (calls call.Take ∷ later) j m =
-    calls_on can plan unit first (heeds_in call.Take e) downs later (two.went_on j (two.took m.1)) m.2
-calls_on can plan unit first e downs (calls call.Stop ∷ later) j m =
-    calls_on can plan unit first (heeds_in call.Stop e) downs later (two.went_on j (two.halted m.1)) m.2
+calls_on plan unit first e downs [] j m = j
+calls_on plan unit first e downs (arrives a ∷ later) j m = j
+calls_on plan unit first e downs (calls call.Take ∷ later) j m =
+    calls_on plan unit first (heeds_in call.Take e) downs later (two.went_on j (two.took m.0)) m.1
+calls_on plan unit first e downs (calls call.Stop ∷ later) j m =
+    calls_on plan unit first (heeds_in call.Stop e) downs later (two.went_on j (two.halted m.0)) m.1
 
 -- a listen more, the calls that follow, and the next command
-pub listened : (can : Bool) (plan : Plan) (unit : ℕ) (e : Ends) (events : List Event) (came rest : List Arrival)
+pub listened : (plan : Plan) (unit : ℕ) (e : Ends) (events : List Event) (came rest : List Arrival)
     (a : Arrival) (downs : List Turn) → came_of arrival_in events ≡ came ++ a ∷ rest
-    → AreMade can at_once plan unit (driver_of e.automation) events
+    → AreMade at_once plan unit (driver_of e.automation) events
     → AreLed plan unit e
     (record (hears_in plan unit a (with_command plan (ends_by plan unit e (upto arrival_in events came)))) { downs = downs })
     → AreLed plan unit e (ends_at plan unit e (upto arrival_in events (came ++ a ∷ [])) downs)
-listened can plan unit e events came rest a downs is made j =
+listened plan unit e events came rest a downs is made j =
     let n = next_of arrival_in events came a rest is in
     let xs : List Event = upto arrival_in events came in
     let same : n.what ≡ arrives a = it_arrives n.what a n.is in
@@ -127,17 +127,17 @@ listened can plan unit e events came rest a downs is made j =
     let there : ends_by plan unit e (xs ++ arrives a ∷ []) ≡ now = ends_both plan unit e xs (arrives a ∷ []) in
     let all : events ≡ (xs ++ arrives a ∷ []) ++ n.later =
     n.all_is ∙ ap (λ (x : Event). xs ++ x ∷ n.later) same ∙ sym (append_assoc xs (arrives a ∷ []) n.later) in
-    let behind : AreMade can at_once plan unit (after at_once plan unit (driver_of e.automation) (xs ++ arrives a ∷ []))
+    let behind : AreMade at_once plan unit (after at_once plan unit (driver_of e.automation) (xs ++ arrives a ∷ []))
     n.later =
-    made_behind can plan unit (driver_of e.automation) (xs ++ arrives a ∷ []) n.later
-    (subst (λ (l : List Event). AreMade can at_once plan unit (driver_of e.automation) l) all made) in
+    made_behind plan unit (driver_of e.automation) (xs ++ arrives a ∷ []) n.later
+    (subst (λ (l : List Event). AreMade at_once plan unit (driver_of e.automation) l) all made) in
     let so : after at_once plan unit (driver_of e.automation) (xs ++ arrives a ∷ []) ≡ driver_of now.automation =
     sym (led_so plan unit e.automation (xs ++ arrives a ∷ []))
     ∙ ap driver_of (sym (goes plan unit e (xs ++ arrives a ∷ [])).automation)
     ∙ ap (λ (x : Ends). driver_of x.automation) there in
     let last : AreLed plan unit e (record (ends_by plan unit now (upto arrival_in n.later [])) { downs = downs }) =
-    calls_on can plan unit e now downs n.later j
-    (subst (λ (x : Auto Held). AreMade can at_once plan unit x n.later) so behind) in
+    calls_on plan unit e now downs n.later j
+    (subst (λ (x : Auto Held). AreMade at_once plan unit x n.later) so behind) in
     subst (λ (l : List Event). AreLed plan unit e (ends_at plan unit e l downs))
     (sym (n.on_is ∙ ap (λ (x : Event). xs ++ x ∷ upto arrival_in n.later []) same))
     (subst (λ (x : Ends). AreLed plan unit e (record (with_command plan x) { downs = downs }))

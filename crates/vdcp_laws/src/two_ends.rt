@@ -27,7 +27,7 @@ ghost use Rattle.vdcp_drive.specs.Leaves.{IsRun, steps_in};
 ghost use Rattle.vdcp_drive.specs.Reading.{Held};
 ghost use Rattle.vdcp_drive.specs.Steps.{Chain, steps_of};
 ghost use Rattle.vdcp_drive.specs.Traces.{acts_in, kept_in};
-ghost use Rattle.vdcp_drive.specs.declared.hooks.KeptFault.{KeptFault};
+ghost use Rattle.vdcp_drive.specs.declared.hooks.BrokenOff.{BrokenOff};
 ghost use Rattle.vdcp_drive.specs.declared.line.Ran.{Ran};
 ghost use Rattle.vdcp_drive.specs.declared.line.TurnsEnd.{TurnsEnd};
 ghost use Rattle.vdcp_drive.specs.declared.line.DriveFault.{DriveFault};
@@ -80,10 +80,10 @@ pub fn two_ends_keep_the_headline()
 /// of the bytes that the other one sent by then: of new ones, of those that run or serve again (their runs are one), and of
 /// a driver that goes on from its journal over a new connection.
 pub fn a_carried_run_keeps_the_headline<C: Catalogue, B: Wire, H: ServerHooks<C>>()
-    ensures headline { (can : Bool) (plan : Plan) (port : ClockedPort) (asked : List Command) (e : Ends) (listens count : ℕ)
-        (a' : Auto Held) (answer : Result Ran KeptFault) (server server' : Serving B) (hooks hooks' : H)
+    ensures headline { (plan : Plan) (port : ClockedPort) (asked : List Command) (e : Ends) (turns count : ℕ)
+        (a' : Auto Held) (answer : Result Ran BrokenOff) (server server' : Serving B) (hooks hooks' : H)
         (result : Result TurnsEnd DriveFault) → CanJoin plan port asked → AreJoined plan port asked e →
-        (run : IsRun can at_once plan port.state.unit listens (driver_of e.automation) a' answer) →
+        (run : IsRun at_once plan port.state.unit turns (driver_of e.automation) a' answer) →
         (serving : HasServed B.does H.can_act (λ steps. Chain H.does steps hooks hooks') count (server_now e) server server'
         result) →
         AreCarried plan port.state.unit e (acts_in (steps_in run)) (acts_of (server_now e) serving.turns ++ serving.done) →
@@ -91,10 +91,10 @@ pub fn a_carried_run_keeps_the_headline<C: Catalogue, B: Wire, H: ServerHooks<C>
         (log_now e ++ auto.log_of at_once plan port.state.unit (driver_of e.automation) run.events)
         (aired_now (record e { downs = e.downs ++ all_turns serving.turns serving.done })) }
     // such runs lead both ends on, with the next command given: to what a new connection may follow
-    ensures joined { (can : Bool) (plan : Plan) (port : ClockedPort) (asked : List Command) (e : Ends) (listens count : ℕ)
-        (a' : Auto Held) (answer : Result Ran KeptFault) (server server' : Serving B) (hooks hooks' : H)
+    ensures joined { (plan : Plan) (port : ClockedPort) (asked : List Command) (e : Ends) (turns count : ℕ)
+        (a' : Auto Held) (answer : Result Ran BrokenOff) (server server' : Serving B) (hooks hooks' : H)
         (result : Result TurnsEnd DriveFault) → AreJoined plan port asked e →
-        (run : IsRun can at_once plan port.state.unit listens (driver_of e.automation) a' answer) →
+        (run : IsRun at_once plan port.state.unit turns (driver_of e.automation) a' answer) →
         (serving : HasServed B.does H.can_act (λ steps. Chain H.does steps hooks hooks') count (server_now e) server server'
         result) →
         AreCarried plan port.state.unit e (acts_in (steps_in run)) (acts_of (server_now e) serving.turns ++ serving.done) →
@@ -126,11 +126,11 @@ pub fn untorn_turns_are_at_once()
 /// So the headline holds of a server that hears at silences, too, if none tears a command: beside ends whose server would
 /// have heard the same turns at once.
 pub fn an_untorn_run_keeps_the_headline<C: Catalogue, B: Wire, H: ServerHooks<C>>()
-    ensures headline { (can : Bool) (plan : Plan) (port : ClockedPort) (asked : List Command) (e : Ends) (listens count : ℕ)
-        (a' : Auto Held) (answer : Result Ran KeptFault) (before : List Turn) (server server' : Serving B) (hooks hooks' : H)
+    ensures headline { (plan : Plan) (port : ClockedPort) (asked : List Command) (e : Ends) (turns count : ℕ)
+        (a' : Auto Held) (answer : Result Ran BrokenOff) (before : List Turn) (server server' : Serving B) (hooks hooks' : H)
         (result : Result TurnsEnd DriveFault) → CanJoin plan port asked → AreJoined plan port asked e →
         e.downs ≡ at_once_for before →
-        (run : IsRun can at_once plan port.state.unit listens (driver_of e.automation) a' answer) →
+        (run : IsRun at_once plan port.state.unit turns (driver_of e.automation) a' answer) →
         (serving : HasServed B.does H.can_act (λ steps. Chain H.does steps hooks hooks') count
         (server_at_silences e.port before) server server' result) →
         AreUntorn [] (before ++ all_turns serving.turns serving.done) →
@@ -140,10 +140,10 @@ pub fn an_untorn_run_keeps_the_headline<C: Catalogue, B: Wire, H: ServerHooks<C>
         (log_now e ++ auto.log_of at_once plan port.state.unit (driver_of e.automation) run.events)
         (e.aired_before ++ items_in (hook_steps (begins Hearing.AtSilences e.port)
         (before ++ all_turns serving.turns serving.done))) }
-    ensures joined { (can : Bool) (plan : Plan) (port : ClockedPort) (asked : List Command) (e : Ends) (listens count : ℕ)
-        (a' : Auto Held) (answer : Result Ran KeptFault) (before : List Turn) (server server' : Serving B) (hooks hooks' : H)
+    ensures joined { (plan : Plan) (port : ClockedPort) (asked : List Command) (e : Ends) (turns count : ℕ)
+        (a' : Auto Held) (answer : Result Ran BrokenOff) (before : List Turn) (server server' : Serving B) (hooks hooks' : H)
         (result : Result TurnsEnd DriveFault) → AreJoined plan port asked e → e.downs ≡ at_once_for before →
-        (run : IsRun can at_once plan port.state.unit listens (driver_of e.automation) a' answer) →
+        (run : IsRun at_once plan port.state.unit turns (driver_of e.automation) a' answer) →
         (serving : HasServed B.does H.can_act (λ steps. Chain H.does steps hooks hooks') count
         (server_at_silences e.port before) server server' result) →
         AreUntorn [] (before ++ all_turns serving.turns serving.done) →

@@ -10,14 +10,14 @@ use Rattle.vdcp_laws.proofs.Leading.{moment_of, sends_answers, turns_whole}
 use Rattle.vdcp_laws.proofs.two_ends.a_carried_run_keeps_the_headline.Goals as goal
 
 pub returns-clause-headline : goal.returns-clause-headline
-returns-clause-headline g c can plan port asked e listens count a' answer server server' hooks hooks' result start j run s carried =
+returns-clause-headline g c plan port asked e turns count a' answer server server' hooks hooks' result start j run s carried =
     let law : Laws = record {
       ends = c.two_ends_are_a_late_channel.ensures.ends;
       headline = c.a_late_line_keeps_the_headline.ensures;
     } in
     let below : List Act = acts_of (server_now e) s.turns ++ s.done in
     let all : List Turn = all_turns s.turns s.done in
-    of_carried law can plan port asked e listens answer a' all below start j run
+    of_carried law plan port asked e turns answer a' all below start j run
     (turns_whole (server_now e) s.turns s.done)
     (sends_answers c.servers_go_on.ensures.acts e all below
     (λ some behind parts. moment_of c.servers_go_on.ensures.acts e all some
@@ -25,10 +25,10 @@ returns-clause-headline g c can plan port asked e listens count a' answer server
     server'.reader s.ending some behind parts))) carried
 
 pub returns-clause-joined : goal.returns-clause-joined
-returns-clause-joined g c can plan port asked e listens count a' answer server server' hooks hooks' result j run s carried =
+returns-clause-joined g c plan port asked e turns count a' answer server server' hooks hooks' result j run s carried =
     let below : List Act = acts_of (server_now e) s.turns ++ s.done in
     let all : List Turn = all_turns s.turns s.done in
-    joined can plan port asked e listens answer a' all below j run
+    joined plan port asked e turns answer a' all below j run
     (turns_whole (server_now e) s.turns s.done)
     (sends_answers c.servers_go_on.ensures.acts e all below
     (λ some behind parts. moment_of c.servers_go_on.ensures.acts e all some

@@ -17,7 +17,7 @@ use Rattle.vdcp_laws.proofs.Untorn.{all_downs, silent_moment, silent_whole}
 use Rattle.vdcp_laws.proofs.two_ends.an_untorn_run_keeps_the_headline.Goals as goal
 
 pub returns-clause-headline : goal.returns-clause-headline
-returns-clause-headline g c can plan port asked e listens count a' answer before server server' hooks hooks' result start j downs run s u carried =
+returns-clause-headline g c plan port asked e turns count a' answer before server server' hooks hooks' result start j downs run s u carried =
     let ends : Laws = record {
       ends = c.two_ends_are_a_late_channel.ensures.ends;
       headline = c.a_late_line_keeps_the_headline.ensures;
@@ -29,7 +29,7 @@ returns-clause-headline g c can plan port asked e listens count a' answer before
     (log_now e ++ auto.log_of at_once plan port.state.unit (driver_of e.automation) run.events) (e.aired_before ++ l))
     (ap (λ (l : List Turn). items_in (hook_steps (server_new e) l)) (all_downs e.downs before all downs)
     ∙ c.untorn_turns_are_at_once.ensures.items e.port (before ++ all) u)
-    (of_carried ends can plan port asked e listens answer a' (at_once_for all) below start j run
+    (of_carried ends plan port asked e turns answer a' (at_once_for all) below start j run
     (silent_whole (server_at_silences e.port before) s.turns s.done)
     (sends_answers law e (at_once_for all) below
     (λ some behind parts. silent_moment law c.untorn_turns_are_at_once.ensures.acts e before all some downs u
@@ -37,13 +37,13 @@ returns-clause-headline g c can plan port asked e listens count a' answer before
     server'.port server'.reader s.ending some behind parts))) carried)
 
 pub returns-clause-joined : goal.returns-clause-joined
-returns-clause-joined g c can plan port asked e listens count a' answer before server server' hooks hooks' result j downs run s u carried =
+returns-clause-joined g c plan port asked e turns count a' answer before server server' hooks hooks' result j downs run s u carried =
     let law : ServersGoOn = c.servers_go_on.ensures.acts in
     let below : List Act = acts_of (server_at_silences e.port before) s.turns ++ s.done in
     let all : List Turn = all_turns s.turns s.done in
     subst (λ (l : List Turn). AreJoined plan port asked (ends_at plan port.state.unit e run.events l))
     (all_downs e.downs before all downs)
-    (joined can plan port asked e listens answer a' (at_once_for all) below j run
+    (joined plan port asked e turns answer a' (at_once_for all) below j run
     (silent_whole (server_at_silences e.port before) s.turns s.done)
     (sends_answers law e (at_once_for all) below
     (λ some behind parts. silent_moment law c.untorn_turns_are_at_once.ensures.acts e before all some downs u
