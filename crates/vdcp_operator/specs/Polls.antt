@@ -1,6 +1,5 @@
 -- How soon the state is asked again.
 use Rattle.std.specs.Prelude.{ℕ, ◌≡◌, ◌<◌, ◌≤◌, ◌+◌, ◌-◌, ◌^◌, min, Option, None, Some}
-use Rattle.vdcp_drive.specs.declared.hooks.Call.{Call}
 use Rattle.vdcp_operator.specs.declared.polling.Polling.{Polling}
 use Rattle.vdcp_words.specs.declared.command.Command.{Command}
 use Rattle.vdcp_words.specs.declared.command.Command.TheVariants as command
@@ -23,8 +22,3 @@ pub record Paces {R : Type 0} (command : Option Command) (old new : Polling R) :
   pub least : new.least ≡ old.least
   pub later : old.stopwatch.now ≤ new.stopwatch.now
   pub unpaced : old.least ≡ 0 → old.due ≡ 0 → new ≡ old
-
--- a call ends the wait, and what goes out then isn't waited for
-abbrev pub unless_called : Option Call → Option Command → Option Command
-unless_called None command = command
-unless_called (Some call) command = None

@@ -6,7 +6,7 @@ ghost use Rattle.vdcp_auto.specs.Turn.{given};
 ghost use Rattle.vdcp_drive.specs.declared.hooks.Call.{Call};
 ghost use Rattle.vdcp_list.specs.Rests.{items_left};
 ghost use Rattle.vdcp_operator.specs.Hands.{Asks, HasCome, IsNext, IsOver, PageCalls, TypedCalls, as_call, latest, until_for};
-ghost use Rattle.vdcp_operator.specs.Polls.{Paces, unless_called};
+ghost use Rattle.vdcp_operator.specs.Polls.{Paces};
 ghost use Rattle.vdcp_operator.specs.declared.hand.Until.{Until};
 ghost use Rattle.vdcp_operator.specs.declared.shown.RunPage.{RunPage};
 ghost use Rattle.vdcp_words.specs.declared.command.Command.{Command};
@@ -146,7 +146,7 @@ impl<'a, R: Clock, I: Read + Drop, E: Write> Hand<'a, R, I, E> {
     }
 
     /// Waits until the next command may go out, and gives a call that is held or made meanwhile, which ends the wait, also
-    /// that for the start: the next event goes to air as soon as it can. Requests for the page are answered.
+    /// that for the start: what the call comes to waits for nothing. Requests for the page are answered.
     pub fn call<S: Source>(&mut self, controller: &Controller<Rest<S>>) -> Option<Call>
         // What is held is given; else what is asked for then.
         ensures held { (call : Call) → self.old.held ≡ Some call →
@@ -164,9 +164,10 @@ impl<'a, R: Clock, I: Read + Drop, E: Write> Hand<'a, R, I, E> {
             HasCome start self.new.time }
         ensures sent { result ≡ None →
             given (plan_of (items_left S.items) controller.now) controller.now.state ≡ Some Command.Play → self.new.start ≡ None }
-        ensures paces { Paces
-            (unless_called result (given (plan_of (items_left S.items) controller.now) controller.now.state))
+        ensures paces { result ≡ None → Paces (given (plan_of (items_left S.items) controller.now) controller.now.state)
             self.old.polling self.new.polling }
+        ensures hurries { IsSome result → self.new.polling.due ≡ 0 }
+        ensures least { self.new.polling.least ≡ self.old.polling.least }
     {
         if self.is_alone() {
             // (where no STATUS has to wait the command isn't looked up)
@@ -175,13 +176,13 @@ impl<'a, R: Clock, I: Read + Drop, E: Write> Hand<'a, R, I, E> {
             }
             return None;
         }
-        let command = controller.to_send();
         if let Some(call) = self.held.take() {
-            self.note_call(command);
+            self.note_call();
             return Some(call);
         }
+        let command = controller.to_send();
         if let Some(call) = self.ask_until(controller, until_for(command, self.start)) {
-            self.note_call(command);
+            self.note_call();
             return Some(call);
         }
         self.note_sent(command);
@@ -314,12 +315,12 @@ impl<'a, R: Clock, I: Read + Drop, E: Write> Hand<'a, R, I, E> {
         false
     }
 
-    // A call is made now, before this command goes out, or another one.
-    fn note_call(&mut self, command: Option<Command>)
-        ensures { self.new ≡ record self.old { start = None; commands = self.new.commands } }
+    // A call is made now.
+    fn note_call(&mut self)
+        ensures { self.new ≡ record self.old { start = None; polling = record self.old.polling { due = 0 } } }
     {
         self.start = None;
-        self.count(command);
+        self.polling.hurry();
     }
 
     // This command goes out now, if there is one: a STATUS once it may.

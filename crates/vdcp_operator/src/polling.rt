@@ -36,6 +36,13 @@ impl<'a, R: Clock> Polling<'a, R> {
         self.least == 0
     }
 
+    /// The next STATUS waits for nothing.
+    pub fn hurry(&mut self)
+        ensures { self.new ≡ record self.old { due = 0 } }
+    {
+        self.due = 0;
+    }
+
     /// Waits until a STATUS may go out, for this many nanoseconds at most, and answers whether one may.
     pub fn wait_piece(&mut self, most: u64) -> bool
         ensures over { IsTrue result → self.old.due ≤ self.new.stopwatch.now }
