@@ -18,7 +18,8 @@ use Rattle.vdcp_journal_file.specs.Recording.{BeganWith, IsTimedOut, Recording}
 use Rattle.vdcp_journal_file.specs.Resuming as resuming
 use Rattle.vdcp_journal_file.specs.Resuming.{IsOpenedAgain, IsReplayed, open_after, plan_of_run, state_after}
 use Rattle.vdcp_run.specs.Run.{BeginsAgain, BeginsBy, ComesTo, HasRecorder, IsBegun, IsRunOf, MayBeUnkept, first_event, heading_for, journal_of, name_of, new_controller, plan_for}
-use Rattle.vdcp_run.specs.Session.{HasSession, Start, start_of}
+use Rattle.vdcp_run.specs.Asking.{Start, start_of}
+use Rattle.vdcp_run.specs.Session.{HasSession}
 use Rattle.vdcp_run.specs.declared.run_end.RunEnd.{RunEnd}
 use Rattle.vdcp_run.specs.declared.settings.RunJournal.{RunJournal}
 use Rattle.vdcp_run.specs.declared.settings.RunJournal.TheVariants as journals

@@ -5,26 +5,27 @@ use Rattle.vdcp_auto.specs.Plan.{Plan, View, plan_of}
 use Rattle.vdcp_auto.specs.Turn.{outcome_of}
 use Rattle.vdcp_auto.specs.declared.outcome.Outcome.{Outcome}
 use Rattle.vdcp_wire.specs.Acts.{Act}
-use Rattle.vdcp_wire.specs.Wires.{Arrival}
-use Rattle.vdcp_drive.specs.Auto.{Auto, Driving, auto_of}
+use Rattle.vdcp_auto.specs.State.{State}
+use Rattle.vdcp_drive.specs.Auto.{Auto, Driving, Event, auto_of}
 use Rattle.vdcp_drive.specs.Ears.{Fold}
 use Rattle.vdcp_drive.specs.Hooked.{MayKeep, MayLose}
-use Rattle.vdcp_drive.specs.Leaves.{Ending, HasRun, RunLeaves, by_itself, in_drop, in_keep, in_listen, in_send, steps_in}
-use Rattle.vdcp_drive.specs.Steps.{Happens, Rules, Step, World, acts, keeps, misses, steps_of}
+use Rattle.vdcp_drive.specs.Leaves.{Ending, HasRun, RunLeaves, asked_before, by_hooks, by_itself, in_drop, in_keep, in_listen, in_send, steps_in}
+use Rattle.vdcp_drive.specs.Steps.{Happens, Rules, Step, World, acts, asks, keeps, misses, steps_of}
 use Rattle.vdcp_drive.specs.declared.hooks.Kept.{Kept}
 use Rattle.vdcp_drive.specs.declared.hooks.Kept.TheVariants as row
-use Rattle.vdcp_drive.specs.declared.hooks.KeptFault.{KeptFault}
-use Rattle.vdcp_drive.specs.declared.hooks.KeptFault.TheVariants as fault
+use Rattle.vdcp_drive.specs.declared.hooks.Next.{Next}
+use Rattle.vdcp_drive.specs.declared.hooks.BrokenOff.{BrokenOff}
+use Rattle.vdcp_drive.specs.declared.hooks.BrokenOff.TheVariants as fault
 use Rattle.vdcp_drive.specs.declared.line.Ran.{Ran}
 use Rattle.vdcp_drive.specs.declared.line.Ran.TheVariants as ran
 use Rattle.vdcp_list.specs.Rests.{FromEvent, items_left}
-use Rattle.vdcp_journal_file.specs.Recorded.{Loses, Notes}
+use Rattle.vdcp_journal_file.specs.Recorded.{Loses, Notes, recorder_rules}
 use Rattle.vdcp_journal_file.specs.Recording.{Recording}
 use Rattle.vdcp_run.proofs.Ends.{EndedWith, comes_so}
 use Rattle.vdcp_run.specs.Ends.{line_end_of, outcome_in_list}
 use Rattle.vdcp_run.specs.Run.{ComesTo, EndsRun, HasAsrun, IsEndBy, MayBeUnkept, journal_of}
-use Rattle.vdcp_run.specs.Session.{IsClosed, Plays, rules_of, start_of}
-use Rattle.vdcp_run.specs.Waiting.{RunsFrom, over}
+use Rattle.vdcp_run.specs.Asking.{Comes, over, start_of}
+use Rattle.vdcp_run.specs.Session.{IsClosed, Plays}
 use Rattle.vdcp_run.specs.declared.run_end.LineEnd.TheVariants as line_end
 use Rattle.vdcp_run.specs.declared.run_end.RunEnd.{RunEnd}
 use Rattle.vdcp_run.specs.declared.settings.RunSettings.{RunSettings}
@@ -35,16 +36,19 @@ not_some None h = λ is. cc
 not_some (Some x) h = cc
 
 ended_with : {S E W J : Type 0} (items : S → List Item) (rules : Rules W J) (fold : Fold E) (failures : W → ℕ)
-    (listens : ℕ) (old new : Driving S E W) (keep keep' : J) (answer : Result Ran KeptFault)
+    (listens : ℕ) (old new : Driving S E W) (keep keep' : J) (answer : Result Ran BrokenOff)
     → RunLeaves items rules fold failures listens old new keep keep' answer
     → EndedWith answer (outcome_of new.controller.state.stage)
 ended_with items rules fold failures listens old new keep keep' (Ok a) left = left.ended
 ended_with items rules fold failures listens old new keep keep' (Err fault.Device) left = tt
-ended_with items rules fold failures listens old new keep keep' (Err fault.Unkept) left = not_some _ (left.unended refl)
+ended_with items rules fold failures listens old new keep keep' (Err fault.Unkept) left =
+    not_some _ (left.unended fault.Unkept refl (λ other. cc))
+ended_with items rules fold failures listens old new keep keep' (Err fault.Left) left =
+    not_some _ (left.unended fault.Left refl (λ other. cc))
 
 -- an automation that was made with a controller of the rest of a list has run
 comes_to : {S E W J : Type 0} (items : S → List Item) (rules : Rules W J) (fold : Fold E) (failures : W → ℕ)
-    (listens : ℕ) (old new : Driving (FromEvent S) E W) (keep keep' : J) (answer : Result Ran KeptFault) (end : RunEnd)
+    (listens : ℕ) (old new : Driving (FromEvent S) E W) (keep keep' : J) (answer : Result Ran BrokenOff) (end : RunEnd)
     → RunLeaves (items_left items) rules fold failures listens old new keep keep' answer
     → end.line ≡ line_end_of answer → IsEndBy new.controller end → (end.line ≡ line_end.Unkept → IsSome end.unkept)
     → ComesTo items old.controller end
@@ -52,31 +56,32 @@ comes_to items rules fold failures listens old new keep keep' answer end left li
     comes_so items old.controller old.controller new.controller answer end refl left.controller left.reached
     (ended_with (items_left items) rules fold failures listens old new keep keep' answer left) line by kept
 
--- ---- An automation that runs by itself
+-- ---- An automation that asks
 
-pub runs_from : {S E W J : Type 0} (items : S → List Item) (rules : Rules W J) (fold : Fold E) (failures : W → ℕ)
-    (n listens : ℕ) → n ≡ listens → (old new : Driving S E W) (keep keep' : J) (answer : Result Ran KeptFault)
+pub comes_over : {S E W J : Type 0} (items : S → List Item) (rules : Rules W J) (fold : Fold E) (failures : W → ℕ)
+    (n turns : ℕ) → n ≡ turns → (old new : Driving S E W) (keep keep' : J) (answer : Result Ran BrokenOff)
     → RunLeaves items rules fold failures n old new keep keep' answer → failures old.wire ≡ 0
-    → RunsFrom rules fold old.ear (plan_of items old.controller) old.unit listens old.controller.state
-    (over old.wire keep) new.wire
-runs_from items rules fold failures n listens is old new keep keep' answer left works = record {
+    → (wire : W) (outcome : Option Outcome) → wire ≡ new.wire → outcome ≡ outcome_of new.controller.state.stage
+    → Comes rules fold old.ear (plan_of items old.controller) old.unit turns old.controller.state
+    (over old.wire keep) (over wire keep') answer outcome
+comes_over items rules fold failures n turns is old new keep keep' answer left works wire outcome same ends = rw same (record {
   auto = auto_of new;
-  keep' = keep';
-  answer = answer;
-  ran = subst (λ (m : ℕ). HasRun rules fold (plan_of items old.controller) old.unit m (auto_of old) (auto_of new)
+  runs = subst (λ (m : ℕ). HasRun rules fold (plan_of items old.controller) old.unit m (auto_of old) (auto_of new)
       (over old.wire keep) (over new.wire keep') answer) is (left.runs works);
-}
+  outcome_is = ends;
+})
 
 -- ---- A run's journal stays that of its name, and nothing is lost without one
 
-lost_by : {E : Type 0} (fold : Fold E) (plan : Plan) (unit count : ℕ) (came : List Arrival) (a a' : Auto E)
-    (answer : Result Ran KeptFault) (more : List Step) → Ending fold plan unit count came a answer more a'
-    → answer ≡ Err fault.Unkept → (r : Kept) × (more ≡ misses r ∷ [])
-lost_by fold plan unit count came a a' answer more (by_itself r is runs none stays) e = cc
-lost_by fold plan unit count came a a' answer more (in_keep r is going missed stays) e = (r, missed)
-lost_by fold plan unit count came a a' answer more (in_drop c is drops gives last stays) e = cc
-lost_by fold plan unit count came a a' answer more (in_send c front rest is gives bytes last stays) e = cc
-lost_by fold plan unit count came a a' answer more (in_listen is last stays) e = cc
+lost_by : {E : Type 0} (fold : Fold E) (plan : Plan) (unit count : ℕ) (events : List Event) (a a' : Auto E)
+    (answer : Result Ran BrokenOff) (more : List Step) → Ending fold plan unit count events a answer more a'
+    → answer ≡ Err fault.Unkept → (r : Kept) × (more ≡ asks a.state (asked_before r) ∷ misses r ∷ [])
+lost_by fold plan unit count events a a' answer more (by_itself r is runs none stays) e = cc
+lost_by fold plan unit count events a a' answer more (by_hooks is going last stays) e = cc
+lost_by fold plan unit count events a a' answer more (in_keep r is going missed stays) e = (r, missed)
+lost_by fold plan unit count events a a' answer more (in_drop c is drops gives last stays) e = cc
+lost_by fold plan unit count events a a' answer more (in_send c front rest is gives bytes last stays) e = cc
+lost_by fold plan unit count events a a' answer more (in_listen is last stays) e = cc
 
 module _ {W F : Type 0} (does : Act → W → W → Type 0) (safe : F → Option (List ℕ)) where
   name_noted : (r : Kept) (old new : Option (Recording F)) → MayKeep (Notes safe) r old new
@@ -93,11 +98,13 @@ module _ {W F : Type 0} (does : Act → W → W → Type 0) (safe : F → Option
   name_lost r (Some old) None h = absurd h
   name_lost r (Some old) (Some new) (time, fault, made, is) = ap (λ (r : Recording F). Some r.name) is
 
-  names_stay : (steps : List Step) (old new : World W (Option (Recording F))) → Happens (rules_of does safe) steps old new
+  names_stay : (steps : List Step) (old new : World W (Option (Recording F))) → Happens (recorder_rules does safe) steps old new
       → journal_of new.keep ≡ journal_of old.keep
   names_stay [] old new h = ap (λ (w : World W (Option (Recording F))). journal_of w.keep) h
   names_stay (acts a ∷ later) old new (next, (done, is), rest) = names_stay later next new rest
       ∙ ap (λ (w : World W (Option (Recording F))). journal_of w.keep) is
+  names_stay (asks s n ∷ later) old new (next, (asked, is), rest) =
+      names_stay later next new rest ∙ ap journal_of asked
   names_stay (keeps r ∷ later) old new (next, (kept, is), rest) =
       names_stay later next new rest ∙ name_noted r old.keep next.keep kept
   names_stay (misses r ∷ later) old new (next, (lost, is), rest) =
@@ -108,36 +115,37 @@ module _ {W F : Type 0} (does : Act → W → W → Type 0) (safe : F → Option
   has_lost r (Some old) None h = absurd h
   has_lost r (Some old) (Some new) h = refl
 
-  last_lost : (steps : List Step) (r : Kept) (old new : World W (Option (Recording F)))
-      → Happens (rules_of does safe) (steps ++ misses r ∷ []) old new → IsSome new.keep
-  last_lost [] r old new (next, (lost, is), same) =
-      subst (λ (w : World W (Option (Recording F))). IsSome w.keep) (sym same) (has_lost r old.keep next.keep lost)
-  last_lost (s ∷ later) r old new (next, one, rest) = last_lost later r next new rest
+  last_lost : (steps : List Step) (s : State) (n : Next) (r : Kept) (old new : World W (Option (Recording F)))
+      → Happens (recorder_rules does safe) (steps ++ asks s n ∷ misses r ∷ []) old new → IsSome new.keep
+  last_lost [] s n r old new (next, asked, (then, (lost, is), same)) =
+      subst (λ (w : World W (Option (Recording F))). IsSome w.keep) (sym same) (has_lost r next.keep then.keep lost)
+  last_lost (x ∷ later) s n r old new (next, one, rest) = last_lost later s n r next new rest
 
   unkept_has : {E : Type 0} (fold : Fold E) (plan : Plan) (unit count : ℕ) (a a' : Auto E)
-      (old new : World W (Option (Recording F))) (answer : Result Ran KeptFault)
-      → HasRun (rules_of does safe) fold plan unit count a a' old new answer → answer ≡ Err fault.Unkept → IsSome new.keep
+      (old new : World W (Option (Recording F))) (answer : Result Ran BrokenOff)
+      → HasRun (recorder_rules does safe) fold plan unit count a a' old new answer → answer ≡ Err fault.Unkept → IsSome new.keep
   unkept_has fold plan unit count a a' old new answer h e =
       let lost = lost_by fold plan unit count _ _ a' answer h.run.more h.run.ending e in
-      last_lost (steps_of fold plan unit a h.run.events) lost.0 old new
-      (subst (λ (m : List Step). Happens (rules_of does safe) (steps_of fold plan unit a h.run.events ++ m) old new) lost.1
+      last_lost (steps_of fold plan unit a h.run.events) _ _ lost.0 old new
+      (subst (λ (m : List Step). Happens (recorder_rules does safe) (steps_of fold plan unit a h.run.events ++ m) old new) lost.1
       h.happened)
 
-unkept_by : (answer : Result Ran KeptFault) → line_end_of answer ≡ line_end.Unkept → answer ≡ Err fault.Unkept
+unkept_by : (answer : Result Ran BrokenOff) → line_end_of answer ≡ line_end.Unkept → answer ≡ Err fault.Unkept
 unkept_by (Ok ran.Ended) h = cc
 unkept_by (Ok ran.Closed) h = cc
 unkept_by (Ok ran.Spent) h = cc
 unkept_by (Err fault.Device) h = cc
+unkept_by (Err fault.Left) h = cc
 unkept_by (Err fault.Unkept) h = refl
 
 -- ---- A new driver has run, and its journal was ended
 
 pub record HasEnded {S E W F : Type 0} (items : S → List Item) (does : Act → W → W → Type 0)
     (safe : F → Option (List ℕ)) (fold : Fold E) (failures : W → ℕ) (settings : RunSettings) (n : ℕ)
-    (old new : Driving (FromEvent S) E W) (keep keep' : Option (Recording F)) (answer : Result Ran KeptFault) (end : RunEnd)
+    (old new : Driving (FromEvent S) E W) (keep keep' : Option (Recording F)) (answer : Result Ran BrokenOff) (end : RunEnd)
     : Type 0 where
   pub listens : n ≡ settings.listens
-  pub leaves : RunLeaves (items_left items) (rules_of does safe) fold failures n old new keep keep' answer
+  pub leaves : RunLeaves (items_left items) (recorder_rules does safe) fold failures n old new keep keep' answer
   pub works : failures old.wire ≡ 0
   pub line : end.line ≡ line_end_of answer
   pub by : IsEndBy new.controller end
@@ -148,7 +156,7 @@ pub record HasEnded {S E W F : Type 0} (items : S → List Item) (does : Act →
 
 module _ {S E W F : Type 0} (items : S → List Item) (does : Act → W → W → Type 0) (safe : F → Option (List ℕ))
     (fold : Fold E) (failures : W → ℕ) (settings : RunSettings) (n : ℕ) (old new : Driving (FromEvent S) E W)
-    (keep keep' : Option (Recording F)) (answer : Result Ran KeptFault) (end : RunEnd)
+    (keep keep' : Option (Recording F)) (answer : Result Ran BrokenOff) (end : RunEnd)
     (h : HasEnded items does safe fold failures settings n old new keep keep' answer end) where
   abbrev from_is : end.from ≡ old.controller.source.from
   from_is = h.by.from_is ∙ ap (λ (c : View (FromEvent S)). c.source.from) h.leaves.controller
@@ -159,7 +167,7 @@ module _ {S E W F : Type 0} (items : S → List Item) (does : Act → W → W �
     ran = answer;
     auto = auto_of new;
     left = over new.wire keep';
-    runs = subst (λ (m : ℕ). HasRun (rules_of does safe) fold (plan_of (items_left items) old.controller) old.unit m
+    runs = subst (λ (m : ℕ). HasRun (recorder_rules does safe) fold (plan_of (items_left items) old.controller) old.unit m
         (auto_of old) (auto_of new) (over old.wire keep) (over new.wire keep') answer) h.listens (h.leaves.runs h.works);
     line_is = h.line;
     outcome_is = subst (λ (from : ℕ). end.outcome ≡ outcome_in_list from (outcome_of new.controller.state.stage)) from_is
@@ -170,7 +178,7 @@ module _ {S E W F : Type 0} (items : S → List Item) (does : Act → W → W �
 
   ends_so : EndsRun settings (journal_of keep) items old.controller end
   ends_so = let run = h.leaves.runs h.works in record {
-    comes = comes_to items (rules_of does safe) fold failures n old new keep keep' answer end h.leaves h.line h.by
+    comes = comes_to items (recorder_rules does safe) fold failures n old new keep keep' answer end h.leaves h.line h.by
         (λ unkept. h.told unkept (unkept_has does safe fold (plan_of (items_left items) old.controller) old.unit n
         (auto_of old) (auto_of new) (over old.wire keep) (over new.wire keep') answer run
         (unkept_by answer (sym h.line ∙ unkept))));

@@ -2,47 +2,55 @@
 use Rattle.std.proofs.Common.{◌≡◌, ◌≢◌, ◌⊎◌, ◌+◌, ◌≤◌, ◌++◌, [], ℕ, List, ap, arith, inl, inr, refl, sym, ◌∙◌, subst}
 use Rattle.std.proofs.lemmas.List.{append-nil}
 use Rattle.std.specs.Io.KnownBytes.{Appends, Keeps}
-use Rattle.std.specs.Prelude.{◌↔◌, Bool, IfOk, IsSome, None, OnOk, Option, Result, Ok, Err, Some}
+use Rattle.std.specs.Prelude.{◌↔◌, Bool, true, false, if◌then◌else◌, nat_eq, IfOk, IsSome, None, OnOk, Option, Result, Ok, Err, Some}
 use Rattle.std.specs.Result.{result_unwrap_or}
 use Rattle.vdcp_auto.specs.Course.{Reached}
 use Rattle.vdcp_auto.specs.Plan.{Plan, View, plan_of}
 use Rattle.vdcp_auto.specs.State.{Ready, Awaiting, Ended, Stage}
-use Rattle.vdcp_auto.specs.Turn.{given_in, outcome_of}
+use Rattle.vdcp_auto.specs.Turn.{outcome_of}
 use Rattle.vdcp_auto.specs.declared.exchange.Exchange.{Exchange}
 use Rattle.vdcp_auto.specs.declared.outcome.Outcome.{Outcome}
+use Rattle.vdcp_auto.specs.declared.outcome.Outcome.TheVariants.{Denied, Strange}
 use Rattle.vdcp_drive.specs.Auto.{IsReachedFrom}
-use Rattle.vdcp_drive.specs.declared.hooks.KeptFault.{KeptFault}
-use Rattle.vdcp_drive.specs.declared.hooks.KeptFault.TheVariants as fault
+use Rattle.vdcp_drive.specs.declared.hooks.BrokenOff.{BrokenOff}
+use Rattle.vdcp_drive.specs.declared.hooks.BrokenOff.TheVariants as fault
 use Rattle.vdcp_drive.specs.declared.line.Ran.{Ran}
 use Rattle.vdcp_drive.specs.declared.line.Ran.TheVariants as ran
 use Rattle.vdcp_list.specs.Rests.{FromEvent, items_left}
-use Rattle.vdcp_run.specs.Ends.{IsOpening, line_end_of, outcome_in_list}
+use Rattle.vdcp_run.specs.Asking.{Asker, HasAsked, Inquiring, Start, asker_of, if_vacancy, is_called_off, left_line, line_of, ran_line, state_line}
+use Rattle.vdcp_run.specs.declared.asking.Purpose.{Purpose}
+use Rattle.vdcp_run.specs.declared.asking.Purpose.TheVariants as purpose
+use Rattle.vdcp_run.specs.declared.settings.RunSettings.{RunSettings}
+use Rattle.vdcp_wire.specs.Acts.{Act}
+use Rattle.vdcp_run.specs.Ends.{line_end_of, outcome_in_list}
 use Rattle.vdcp_files.specs.Files.{File}
 use Rattle.vdcp_run.specs.Run.{ComesTo, IsEndBy, IsEndOf, IsPlayed, IsRun, asrun_failure, end_text, fault_text, faults_text, lack_text, line_failure, outcome_status, run_status, status_unless, told_outcome}
 use Rattle.vdcp_run.specs.declared.lack.Lack.{Lack}
 use Rattle.vdcp_run.specs.declared.run_end.LineEnd.{LineEnd}
 use Rattle.vdcp_run.specs.declared.run_end.LineEnd.TheVariants as line_end
 use Rattle.vdcp_run.specs.declared.run_end.RunEnd.{RunEnd}
-use Rattle.vdcp_run.specs.declared.settings.RunSettings.{RunSettings}
 use Rattle.vdcp_text.specs.declared.failure.Failure.{Failure}
 use Rattle.vdcp_value.specs.declared.part.Item.{Item}
 
 -- the run answered Ended exactly if the controller has ended, and no command was kept back once it has
-abbrev pub EndedWith : Result Ran KeptFault → Option Outcome → Type 0
+abbrev pub EndedWith : Result Ran BrokenOff → Option Outcome → Type 0
 EndedWith (Ok a) outcome = (a ≡ ran.Ended) ↔ IsSome outcome
 EndedWith (Err fault.Device) outcome = Unit {0}
 EndedWith (Err fault.Unkept) outcome = ¬ IsSome outcome
+EndedWith (Err fault.Left) outcome = ¬ IsSome outcome
 
 -- so it is with the number that the event of the outcome has in the list
-ends_in_list : (answer : Result Ran KeptFault) (from : ℕ) (outcome : Option Outcome) → EndedWith answer outcome
+ends_in_list : (answer : Result Ran BrokenOff) (from : ℕ) (outcome : Option Outcome) → EndedWith answer outcome
     → EndedWith answer (outcome_in_list from outcome)
 ends_in_list (Ok a) from None h = h
 ends_in_list (Ok a) from (Some outcome) h = h
 ends_in_list (Err fault.Device) from outcome h = tt
 ends_in_list (Err fault.Unkept) from None h = h
 ends_in_list (Err fault.Unkept) from (Some outcome) h = h
+ends_in_list (Err fault.Left) from None h = h
+ends_in_list (Err fault.Left) from (Some outcome) h = h
 
-ends_unneeded : (answer : Result Ran KeptFault) (outcome : Option Outcome) → EndedWith answer outcome
+ends_unneeded : (answer : Result Ran BrokenOff) (outcome : Option Outcome) → EndedWith answer outcome
     → line_end_of answer ≡ line_end.Unneeded
     → IsSome outcome
 ends_unneeded (Ok ran.Ended) outcome h is = h.0 refl
@@ -50,8 +58,9 @@ ends_unneeded (Ok ran.Closed) outcome h is = cc
 ends_unneeded (Ok ran.Spent) outcome h is = cc
 ends_unneeded (Err fault.Device) outcome h is = cc
 ends_unneeded (Err fault.Unkept) outcome h is = cc
+ends_unneeded (Err fault.Left) outcome h is = cc
 
-ended_needs_none : (answer : Result Ran KeptFault) (outcome : Option Outcome) → EndedWith answer outcome
+ended_needs_none : (answer : Result Ran BrokenOff) (outcome : Option Outcome) → EndedWith answer outcome
     → IsSome outcome
     → (line_end_of answer ≡ line_end.Unneeded) ⊎ (line_end_of answer ≡ line_end.Failed)
 ended_needs_none (Ok ran.Ended) outcome h ended = inl refl
@@ -59,26 +68,28 @@ ended_needs_none (Ok ran.Closed) outcome h ended = let is = h.1 ended in cc
 ended_needs_none (Ok ran.Spent) outcome h ended = let is = h.1 ended in cc
 ended_needs_none (Err fault.Device) outcome h ended = inr refl
 ended_needs_none (Err fault.Unkept) outcome h ended = absurd (h ended)
+ended_needs_none (Err fault.Left) outcome h ended = absurd (h ended)
 
 -- a line that isn't needed is one whose controller has ended
-unneeded_ended : (end : LineEnd) (answer : Result Ran KeptFault) (outcome : Option Outcome)
+unneeded_ended : (end : LineEnd) (answer : Result Ran BrokenOff) (outcome : Option Outcome)
     → end ≡ line_end_of answer → EndedWith answer outcome
     → end ≡ line_end.Unneeded → IsSome outcome
 unneeded_ended end answer outcome is h unneeded = ends_unneeded answer outcome h (sym is ∙ unneeded)
 
-ended_unneeded : (end : LineEnd) (answer : Result Ran KeptFault) (outcome : Option Outcome)
+ended_unneeded : (end : LineEnd) (answer : Result Ran BrokenOff) (outcome : Option Outcome)
     → end ≡ line_end_of answer → EndedWith answer outcome
     → IsSome outcome → (end ≡ line_end.Unneeded) ⊎ (end ≡ line_end.Failed)
 ended_unneeded end answer outcome is h ended =
     subst (λ (e : LineEnd). (e ≡ line_end.Unneeded) ⊎ (e ≡ line_end.Failed)) (sym is)
     (ended_needs_none answer outcome h ended)
 
--- a controller that gives the first command hasn't ended
-pub opens_unended : (plan : Plan) (stop : Bool) (stage : Stage) → IsSome (outcome_of stage)
-    → ¬ IsOpening (given_in plan stop stage)
-opens_unended plan stop (Ready p) ended = λ opens. cc
-opens_unended plan stop (Awaiting p) ended = λ opens. cc
-opens_unended plan stop (Ended outcome) ended = λ opens. opens
+-- before the next command of a controller that has ended nothing is asked
+pub asks_nothing : (ask : Bool) (start : Start) (stage : Stage) → start.state.stage ≡ stage → IsSome (outcome_of stage)
+    → asker_of ask start ≡ None
+asks_nothing ask start (Ready p) is over = cc
+asks_nothing ask start (Awaiting p) is over = cc
+asks_nothing true start (Ended outcome) is over = rw is refl
+asks_nothing false start (Ended outcome) is over = rw is refl
 
 some_in_list : (from : ℕ) (outcome : Option Outcome) → IsSome (outcome_in_list from outcome) → IsSome outcome
 some_in_list from None some = some
@@ -125,7 +136,7 @@ unbegun_comes items controller end by unended needed kept = still_comes items co
     (subst (λ (o : Option Outcome). IsSome o) by.outcome_is some)))) (λ is. absurd (kept is))
 
 -- the controller of a run was led from one state to the next, with which the driver's answer fits
-is_end_so : {S : Type 0} (items : S → List Item) (controller old new : View S) (answer : Result Ran KeptFault)
+is_end_so : {S : Type 0} (items : S → List Item) (controller old new : View S) (answer : Result Ran BrokenOff)
     (end : RunEnd) (log : List Exchange)
     → old ≡ controller → IsReachedFrom (plan_of items old) old.state new.state
     → EndedWith answer (outcome_of new.state.stage) → end.line ≡ line_end_of answer
@@ -149,7 +160,7 @@ is_end_so {S} items controller old new answer end log same led ended line outcom
 
 -- the controller of the rest of a list stays the same, but for its state
 pub comes_so : {S : Type 0} (items : S → List Item) (controller old new : View (FromEvent S))
-    (answer : Result Ran KeptFault) (end : RunEnd)
+    (answer : Result Ran BrokenOff) (end : RunEnd)
     → old ≡ controller → new ≡ record old { state = new.state }
     → IsReachedFrom (plan_of (items_left items) old) old.state new.state
     → EndedWith answer (outcome_of new.state.stage) → end.line ≡ line_end_of answer → IsEndBy new end
@@ -188,3 +199,57 @@ told_with n low settings list end (Ok status) out out' err err' played lines fau
       (outcome_status (told_outcome end.line end.outcome)) (sym is ∙ one)) faults,
 )
 told_with n low settings list end (Err e) out out' err err' played lines faults is one = absurd (omega (arith, low, one))
+
+-- ---- What is asked doesn't end a line that isn't needed, and keeps nothing back
+
+abbrev IsNeeded : LineEnd → Type 0
+IsNeeded line = (line ≢ line_end.Unneeded) × (line ≢ line_end.Unkept)
+
+abbrev AreNeeded : Option LineEnd → Type 0
+AreNeeded None = Unit {0}
+AreNeeded (Some line) = IsNeeded line
+
+ran_needed : (r : Ran) (outcome : Option Outcome) → AreNeeded (ran_line r outcome)
+ran_needed ran.Closed outcome = (λ is. cc, λ is. cc)
+ran_needed ran.Spent outcome = (λ is. cc, λ is. cc)
+ran_needed ran.Ended (Some Denied) = tt
+ran_needed ran.Ended (Some (Strange k)) = (λ is. cc, λ is. cc)
+ran_needed ran.Ended outcome = (λ is. cc, λ is. cc)
+
+state_needed : (state : Option ℕ) → AreNeeded (state_line state)
+state_needed None = (λ is. cc, λ is. cc)
+state_needed (Some state) = by (nat_eq state 1) where
+  by : (b : Bool) → AreNeeded (if b then None else Some line_end.Occupied)
+  by true = tt
+  by false = (λ is. cc, λ is. cc)
+
+left_needed : (i : Inquiring) → AreNeeded (left_line i)
+left_needed i = by (is_called_off i.purpose i.held) where
+  by : (b : Bool) → AreNeeded (if b then Some line_end.Stopped else state_line i.state)
+  by true = (λ is. cc, λ is. cc)
+  by false = state_needed i.state
+
+purpose_needed : (p : Purpose) (line : Option LineEnd) → AreNeeded line → AreNeeded (if_vacancy p line)
+purpose_needed purpose.Vacancy line h = h
+purpose_needed purpose.ClipEnd line h = tt
+
+line_needed : (i : Inquiring) (answer : Result Ran BrokenOff) (outcome : Option Outcome) → AreNeeded (line_of i answer outcome)
+line_needed i (Ok r) outcome = purpose_needed i.purpose (ran_line r outcome) (ran_needed r outcome)
+line_needed i (Err fault.Device) outcome = (λ is. cc, λ is. cc)
+line_needed i (Err fault.Unkept) outcome = (λ is. cc, λ is. cc)
+line_needed i (Err fault.Left) outcome = purpose_needed i.purpose (left_line i) (left_needed i)
+
+pub asked_needed : {W : Type 0} (asker : Option Asker) (does : Act → W → W → Type 0) (settings : RunSettings) (wire wire' : W)
+    (left : ℕ) (line : LineEnd) → HasAsked asker does settings wire wire' left (Some line) → IsNeeded line
+asked_needed None does settings wire wire' left line h = let no = h.2 in cc
+asked_needed (Some asker) does settings wire wire' left line h =
+    subst (λ (l : Option LineEnd). AreNeeded l) (sym h.line_is) (line_needed h.last h.answer h.outcome)
+
+-- of a controller that has ended it ends none
+pub asked_unended : {W : Type 0} (ask : Bool) (start : Start) (does : Act → W → W → Type 0) (settings : RunSettings)
+    (wire wire' : W) (left : ℕ) (line : LineEnd) → HasAsked (asker_of ask start) does settings wire wire' left (Some line)
+    → ¬ IsSome (outcome_of start.state.stage)
+asked_unended ask start does settings wire wire' left line h = λ over.
+    let none = subst (λ (asker : Option Asker). HasAsked asker does settings wire wire' left (Some line))
+    (asks_nothing ask start start.state.stage refl over) h in
+    let no = none.2 in cc

@@ -3,6 +3,6 @@ pub mod EarlierRuns
 mod Begun
 mod Driven
 mod Ends
-mod Heeding
 mod Unplayed
 pub mod Seen
+mod Questions

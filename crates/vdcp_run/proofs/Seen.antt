@@ -2,74 +2,49 @@
 use Rattle.std.proofs.Common.{◌≡◌, ℕ, List, [], ◌∷◌, ap, inl, inr, refl}
 use Rattle.std.specs.Prelude.{Bool, true, false, IfOk, OnErr, None, Some, Option, Result, Ok, Err}
 use Rattle.vdcp_auto.specs.Plan.{Plan}
-use Rattle.vdcp_auto.specs.State.{State, Stage}
+use Rattle.vdcp_auto.specs.State.{State}
+use Rattle.vdcp_auto.specs.declared.outcome.Outcome.{Outcome}
 use Rattle.vdcp_drive.specs.Auto.{Auto}
 use Rattle.vdcp_drive.specs.Ears.{Fold}
 use Rattle.vdcp_drive.specs.Hearing as ears
 use Rattle.vdcp_drive.specs.Leaves.{HasRun, steps_in}
 use Rattle.vdcp_drive.specs.Reading.{holds}
-use Rattle.vdcp_drive.specs.Steps.{Chain, Does, Happens, Rules, Step, World, acts, keeps, misses}
+use Rattle.vdcp_drive.specs.Steps.{Does, Happens, Rules, Step, World, acts, asks, keeps, misses}
 use Rattle.vdcp_drive.specs.declared.hooks.Kept.{Kept}
-use Rattle.vdcp_drive.specs.declared.hooks.KeptFault.{KeptFault}
+use Rattle.vdcp_drive.specs.declared.hooks.Next.{Next}
+use Rattle.vdcp_drive.specs.declared.hooks.BrokenOff.{BrokenOff}
 use Rattle.vdcp_drive.specs.declared.line.Ran.{Ran}
-use Rattle.vdcp_drive.specs.declared.vacancy.Vacancy.{Vacancy}
 use Rattle.vdcp_drive.specs.declared.hearing.Hearing.{Hearing}
 use Rattle.vdcp_drive.specs.declared.hearing.Hearing.TheVariants as hears
 use Rattle.vdcp_journal_file.specs.Recording.{Recording}
 use Rattle.vdcp_run.specs.Lapse.{Lapses, MayLapse}
-use Rattle.vdcp_run.specs.Session.{HasAwaited, HasPlayed, HasSession, HasTried, IsAsked, MayStop, Plays, Start, TriesOver, broke, left_off, no_wire, played, tried, unbegun, went_on}
-use Rattle.vdcp_run.specs.Waiting.{AsksState, AwaitsIn, waiting_in}
+use Rattle.vdcp_run.specs.Session.{HasPlayed, HasSession, HasTried, Plays, TriesOver, no_wire, played, tried, unbegun}
+use Rattle.vdcp_run.specs.Asking.{Asker, Comes, ComesBy, HasAsked, Start, asker_of}
+use Rattle.vdcp_run.specs.declared.run_end.LineEnd.{LineEnd}
 use Rattle.vdcp_run.specs.declared.run_end.LineEnd.TheVariants as line_end
 use Rattle.vdcp_run.specs.declared.run_end.RunEnd.{RunEnd}
 use Rattle.vdcp_run.specs.declared.settings.RunSettings.{RunSettings}
 use Rattle.vdcp_wire.specs.Acts.{Act, sends, brings, drops, fails}
 use Rattle.vdcp_wire.specs.Streams.{StreamDoes, Streamed}
-use Rattle.vdcp_wire.specs.Wires as arrives
 use Rattle.vdcp_wire.specs.declared.stream.Connection.TheVariants as connection
-use Rattle.vdcp_wire.specs.declared.wire.WireFault.{WireFault}
 
--- what one wire does, another one does below it: the questions to a port
-module _ {W W' : Type 0} (does : Act → W → W → Type 0) (does' : Act → W' → W' → Type 0) (w : W → W')
-    (acting : (a : Act) (old new : W) → does a old new → does' a (w old) (w new)) where
-  chain_seen : (acts : List Act) (old new : W) → Chain does acts old new → Chain does' acts (w old) (w new)
-  chain_seen [] old new h = ap w h
-  chain_seen (act ∷ later) old new (next, one, rest) =
-      (w next, acting act old next one, chain_seen later next new rest)
-
-  pub asked_seen : (settings : RunSettings) (start : Start) (wire wire' : W) (left : ℕ) (answer : Result Vacancy WireFault)
-      → IsAsked does settings start wire wire' left answer → IsAsked does' settings start (w wire) (w wire') left answer
-  asked_seen settings start wire wire' left answer asked = record {
-    unasked = λ no. let a = asked.unasked no in (a.0, ap w a.1, a.2);
-    opened = λ no. let a = asked.opened no in (a.0, ap w a.1, a.2);
-    asks = λ yes opens. let h = asked.asks yes opens in record {
-      exchanges = h.exchanges;
-      asking = h.asking;
-      led = h.led;
-      last = h.last;
-      happened = chain_seen _ wire wire' h.happened;
-      ending = h.ending;
-      few = h.few;
-      said = h.said;
-      listened = h.listened;
-    };
-  }
-
--- a session
+-- what one wire does, another one does below it: a session
 module _ {W W' : Type 0} (does : Act → W → W → Type 0) (does' : Act → W' → W' → Type 0) (w : W → W')
     (acting : (a : Act) (old new : W) → does a old new → does' a (w old) (w new)) where
   abbrev below : {J : Type 0} → World W J → World W' J
   below world = record { wire = w world.wire; keep = world.keep }
 
   -- a run, by the same rules for what is kept
-  module _ {J : Type 0} (adds loses : Kept → J → J → Type 0) (can : Bool) where
+  module _ {J : Type 0} (asked : State → Next → J → J → Type 0) (adds loses : Kept → J → J → Type 0) where
     abbrev here : Rules W J
-    here = record { does = does; adds = adds; loses = loses; can_call = can }
+    here = record { does = does; asks = asked; adds = adds; loses = loses }
 
     abbrev there : Rules W' J
-    there = record { does = does'; adds = adds; loses = loses; can_call = can }
+    there = record { does = does'; asks = asked; adds = adds; loses = loses }
 
     step_seen : (s : Step) (old new : World W J) → Does here s old new → Does there s (below old) (below new)
     step_seen (acts a) old new h = (acting a old.wire new.wire h.0, ap below h.1)
+    step_seen (asks s n) old new h = (h.0, ap below h.1)
     step_seen (keeps r) old new h = (h.0, ap below h.1)
     step_seen (misses r) old new h = (h.0, ap below h.1)
 
@@ -80,44 +55,44 @@ module _ {W W' : Type 0} (does : Act → W → W → Type 0) (does' : Act → W'
         (below next, step_seen s old next one, happens_seen later next new rest)
 
     run_seen : {E : Type 0} (fold : Fold E) (plan : Plan) (unit count : ℕ) (a a' : Auto E) (old new : World W J)
-        (answer : Result Ran KeptFault) → HasRun here fold plan unit count a a' old new answer
+        (answer : Result Ran BrokenOff) → HasRun here fold plan unit count a a' old new answer
         → HasRun there fold plan unit count a a' (below old) (below new) answer
     run_seen fold plan unit count a a' old new answer h =
         record { run = h.run; happened = happens_seen (steps_in h.run) old new h.happened }
 
-  stop_seen : (act : Act) (old new : W) → MayStop does act old new → MayStop does' act (w old) (w new)
-  stop_seen (sends bytes) old new h = acting (sends bytes) old new h
-  stop_seen (brings (arrives.bytes piece)) old new h = acting (brings (arrives.bytes piece)) old new h
-  stop_seen (brings arrives.silence) old new h = acting (brings arrives.silence) old new h
-  stop_seen (brings arrives.close) old new (inl h) = inl (acting (brings arrives.close) old new h)
-  stop_seen (brings arrives.close) old new (inr h) = inr (acting (brings arrives.silence) old new h)
-  stop_seen drops old new h = acting drops old new h
-  stop_seen fails old new h = acting fails old new h
-
-  -- a clip that is waited for
-  asks_seen : {E : Type 0} (fold : Fold E) (ear : E) (plan : Plan) (unit listens : ℕ) (state : State) (old new : W)
-      → AsksState does fold ear plan unit listens state old new
-      → AsksState does' fold ear plan unit listens state (w old) (w new)
-  asks_seen fold ear plan unit listens state old new (held, h) = (
-    held,
-    record {
+    comes_seen : {E : Type 0} (fold : Fold E) (ear : E) (plan : Plan) (unit turns : ℕ) (state : State) (old new : World W J)
+        (answer : Result Ran BrokenOff) (outcome : Option Outcome)
+        → Comes here fold ear plan unit turns state old new answer outcome
+        → Comes there fold ear plan unit turns state (below old) (below new) answer outcome
+    comes_seen fold ear plan unit turns state old new answer outcome h = record {
       auto = h.auto;
-      keep' = h.keep';
-      answer = h.answer;
-      ran = run_seen _ _ _ fold plan unit listens _ h.auto _ _ h.answer h.ran;
-    },
-  )
+      runs = run_seen fold plan unit turns _ h.auto old new answer h.runs;
+      outcome_is = h.outcome_is;
+    }
 
-  awaits_in_seen : (hearing : Hearing) (stage : Option Stage) (settings : RunSettings) → settings.hearing ≡ hearing
-      → (plan : Plan) (state : State) (old new : W) → AwaitsIn stage does settings plan state old new
-      → AwaitsIn stage does' settings plan state (w old) (w new)
-  awaits_in_seen hearing None settings is plan state old new h = ap w h
-  awaits_in_seen hears.AtSilences (Some stage) settings is plan state old new h =
-      rw is (asks_seen ears.at_silences (ears.begun (holds [])) plan settings.unit settings.listens
-      (record state { stage = stage }) old new (rw is at h))
-  awaits_in_seen hears.AtOnce (Some stage) settings is plan state old new h =
-      rw is (asks_seen ears.at_once (holds []) plan settings.unit settings.listens
-      (record state { stage = stage }) old new (rw is at h))
+    comes_by_seen : (hearing : Hearing) (plan : Plan) (unit turns : ℕ) (state : State) (old new : World W J)
+        (answer : Result Ran BrokenOff) (outcome : Option Outcome)
+        → ComesBy hearing here plan unit turns state old new answer outcome
+        → ComesBy hearing there plan unit turns state (below old) (below new) answer outcome
+    comes_by_seen hears.AtSilences plan unit turns state old new answer outcome h =
+        comes_seen ears.at_silences (ears.begun (holds [])) plan unit turns state old new answer outcome h
+    comes_by_seen hears.AtOnce plan unit turns state old new answer outcome h =
+        comes_seen ears.at_once (holds []) plan unit turns state old new answer outcome h
+
+  -- what was asked
+  asked_seen : (asker : Option Asker) (settings : RunSettings) (wire wire' : W) (left : ℕ) (line : Option LineEnd)
+      → HasAsked asker does settings wire wire' left line → HasAsked asker does' settings (w wire) (w wire') left line
+  asked_seen None settings wire wire' left line h = (ap w h.0, h.1, h.2)
+  asked_seen (Some asker) settings wire wire' left line h = record {
+    held = h.held;
+    last = h.last;
+    answer = h.answer;
+    outcome = h.outcome;
+    comes = comes_by_seen _ _ _ settings.hearing asker.plan settings.unit settings.listens asker.state _ _ h.answer h.outcome
+        h.comes;
+    left_is = h.left_is;
+    line_is = h.line_is;
+  }
 
   -- what is played
   module _ {F : Type 0} (safe : F → Option (List ℕ)) where
@@ -143,24 +118,13 @@ module _ {W W' : Type 0} (does : Act → W → W → Type 0) (does' : Act → W'
     played_seen hears.AtOnce unit listens start world end plays =
         plays_seen ears.at_once (holds []) unit listens start world end plays
 
-    tries_seen : (settings : RunSettings) (start : Start) (world : World W (Option (Recording F))) (end : RunEnd)
+    pub tries_seen : (settings : RunSettings) (start : Start) (world : World W (Option (Recording F))) (end : RunEnd)
         → HasTried does safe settings start world end → HasTried does' safe settings start (below world) end
-    tries_seen settings start world end (played answer wire left asked may plays) = played answer (w wire) left
-        (asked_seen does does' w acting settings start world.wire wire left answer asked) may
+    tries_seen settings start world end (played wire left asked plays) = played (w wire) left
+        (asked_seen (asker_of settings.ask start) settings world.wire wire left None asked)
         (played_seen settings.hearing settings.unit left start (record world { wire = wire }) end plays)
-    tries_seen settings start world end (unbegun answer wire left asked may line) = unbegun answer (w wire) left
-        (asked_seen does does' w acting settings start world.wire wire left answer asked) may line
-    tries_seen settings start world end (left_off answer wire left asked line) = left_off answer (w wire) left
-        (asked_seen (MayStop does) (MayStop does') w stop_seen settings start world.wire wire left answer asked) line
-
-    pub awaited_seen : (settings : RunSettings) (start : Start) (world : World W (Option (Recording F))) (end : RunEnd)
-        → HasAwaited does safe settings start world end → HasAwaited does' safe settings start (below world) end
-    awaited_seen settings start world end (went_on wire' awaits tries) =
-        went_on (w wire') (awaits_in_seen settings.hearing (waiting_in start.state.stage) settings refl start.plan start.state
-        world.wire wire' awaits) (tries_seen settings start (record world { wire = wire' }) end tries)
-    awaited_seen settings start world end (broke wire' awaits waits line) =
-        broke (w wire') (awaits_in_seen settings.hearing (waiting_in start.state.stage) settings refl start.plan start.state
-        world.wire wire' awaits) waits line
+    tries_seen settings start world end (unbegun wire left line asked is) = unbegun (w wire) left line
+        (asked_seen (asker_of settings.ask start) settings world.wire wire left (Some line) asked) is
 
 -- ---- a silence by the clock
 

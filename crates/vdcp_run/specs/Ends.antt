@@ -2,15 +2,10 @@
 use Rattle.std.specs.Prelude.{ℕ, ◌+◌, ◌-◌, ◌^◌, min, Option, None, Some, option_map, Result, Ok, Err}
 use Rattle.vdcp_auto.specs.declared.outcome.Outcome.{Outcome}
 use Rattle.vdcp_auto.specs.declared.outcome.Outcome.TheVariants.{Done, Stopped, Lost, Denied, Missing, Refused, Foreign, Strange}
-use Rattle.vdcp_drive.specs.declared.hooks.KeptFault.{KeptFault}
-use Rattle.vdcp_drive.specs.declared.hooks.KeptFault.TheVariants as fault
+use Rattle.vdcp_drive.specs.declared.hooks.BrokenOff.{BrokenOff}
+use Rattle.vdcp_drive.specs.declared.hooks.BrokenOff.TheVariants as fault
 use Rattle.vdcp_drive.specs.declared.line.Ran.{Ran}
 use Rattle.vdcp_drive.specs.declared.line.Ran.TheVariants as ran
-use Rattle.vdcp_drive.specs.declared.vacancy.Vacancy.{Vacancy}
-use Rattle.vdcp_drive.specs.declared.vacancy.Vacancy.TheVariants as vacancy
-use Rattle.vdcp_wire.specs.declared.wire.WireFault.{WireFault}
-use Rattle.vdcp_words.specs.declared.command.Command.{Command}
-use Rattle.vdcp_words.specs.declared.command.Command.TheVariants.{Open}
 use Rattle.vdcp_run.specs.declared.run_end.LineEnd.{LineEnd}
 use Rattle.vdcp_run.specs.declared.run_end.LineEnd.TheVariants as line_end
 
@@ -33,25 +28,10 @@ abbrev pub outcome_in_list : ℕ → Option Outcome → Option Outcome
 outcome_in_list from outcome = option_map (outcome_with from) outcome
 
 -- how the line ended, by what the driver's run answered
-abbrev pub line_end_of : Result Ran KeptFault → LineEnd
+abbrev pub line_end_of : Result Ran BrokenOff → LineEnd
 line_end_of (Ok ran.Ended) = line_end.Unneeded
 line_end_of (Ok ran.Closed) = line_end.Closed
 line_end_of (Ok ran.Spent) = line_end.Spent
 line_end_of (Err fault.Device) = line_end.Failed
 line_end_of (Err fault.Unkept) = line_end.Unkept
-
--- of a list that isn't begun, by what the port was found to be
-abbrev pub unbegun_line : Result Vacancy WireFault → LineEnd
-unbegun_line (Ok vacancy.Unanswered) = line_end.Unanswered
-unbegun_line (Ok vacancy.Closed) = line_end.Closed
-unbegun_line (Ok vacancy.Spent) = line_end.Spent
-unbegun_line (Ok vacancy.Vacant) = line_end.Occupied
-unbegun_line (Ok (vacancy.Occupied state)) = line_end.Occupied
-unbegun_line (Ok vacancy.Denied) = line_end.Occupied
-unbegun_line (Err fault) = line_end.Failed
-
--- the next command is OPEN
-abbrev pub IsOpening : Option Command → Type 0
-IsOpening None = ⊥
-IsOpening (Some (Open port mode)) = Unit {0}
-IsOpening (Some command) = ⊥
+line_end_of (Err fault.Left) = line_end.Stopped

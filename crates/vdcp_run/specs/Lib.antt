@@ -2,7 +2,7 @@
 pub mod Ends
 pub mod Lapse
 pub mod Stalls
-pub mod Waiting
+pub mod Asking
 pub mod Session
 pub mod Run
 pub mod Advice

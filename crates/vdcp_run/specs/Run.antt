@@ -33,7 +33,8 @@ use Rattle.vdcp_journal_file.specs.declared.pending.RecordFault.TheVariants as r
 use Rattle.vdcp_text.specs.Outcome.{outcome_text}
 use Rattle.vdcp_wire.specs.Address.{IsAddress}
 use Rattle.vdcp_run.specs.Ends.{outcome_in_list}
-use Rattle.vdcp_run.specs.Session.{HasSession, Start}
+use Rattle.vdcp_run.specs.Asking.{Start}
+use Rattle.vdcp_run.specs.Session.{HasSession}
 use Rattle.vdcp_run.specs.declared.lack.Lack.{Lack}
 use Rattle.vdcp_run.specs.declared.place.Apart.{Apart}
 use Rattle.vdcp_run.specs.declared.settings.RunJournal.{RunJournal}

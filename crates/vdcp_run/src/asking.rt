@@ -1,33 +1,64 @@
-//! What the port is asked before a list is begun, unless the operator stops.
-ghost use Rattle.std.specs.Prelude.{◌≡◌, ◌≢◌, ◌≤◌, ◌↔◌, true, false, IsTrue, Ok, OnOk};
-ghost use Rattle.vdcp_auto.specs.Plan.{plan_of};
+//! What is asked before a list's own commands: is the port empty, and has the clip before ended?
+ghost use Rattle.std.specs.Option.{option_map};
+ghost use Rattle.std.specs.Prelude.{◌≡◌, ◌≢◌, ◌≤◌, Err, None};
+ghost use Rattle.vdcp_auto.specs.Plan.{View, plan_of};
 ghost use Rattle.vdcp_auto.specs.Turn as turns;
-ghost use Rattle.vdcp_drive.specs.Vacancy.{HasAsked};
-ghost use Rattle.vdcp_run.specs.Ends.{IsOpening, unbegun_line};
-ghost use Rattle.vdcp_list.specs.Rests.{items_left};
-ghost use Rattle.vdcp_run.specs.Session.{IsAsked, MayBegin, MayStop, start_of};
+ghost use Rattle.vdcp_list.specs.Rests.{FromEvent, items_left};
+ghost use Rattle.vdcp_run.specs.Asking.{Comes, ComesBy, HasAsked, asker_of, asking, is_answered, is_called_off, is_opening, is_question, left_line, line_of, may_ask, over, ran_line, start_of};
 
 use crate::console::Console;
 use crate::run_end::LineEnd;
 use crate::settings::RunSettings;
 use std::io;
 use std::rt::{Clock, Files};
-use vdcp_auto::{Controller, Heard, Source};
-use vdcp_drive::{Call, Vacancy, ask_port};
+use vdcp_auto::{Controller, Heard, Outcome, Phase, Snapshot, Source, Standing};
+use vdcp_drive::{
+    AutoDriver, BrokenOff, Call, Driver, Ear, Hearing, Hooks, KeepFault, Next, PromptDriver, Ran,
+};
 use vdcp_list::Rest;
-use vdcp_wire::{Came, PIECE, Wire, WireFault};
-use vdcp_words::Command;
+use vdcp_wire::Wire;
+use vdcp_words::{Command, Reply};
 
-/// What the questions to a port came to, and what they left.
+/// What a port is asked for.
+#[derive(Clone, Copy, PartialEq, Eq)]
+pub enum Purpose {
+    /// Whether something is cued or plays there. The operator's stop ends the asking.
+    Vacancy,
+    /// When the clip before ends. Each call ends the asking.
+    ClipEnd,
+}
+
+/// What was asked has left this.
 #[derive(Drop)]
 pub struct Asked<W, C> {
-    pub answer: Result<Vacancy, WireFault>,
+    /// How the line ends, if the list isn't begun.
+    pub line: Option<LineEnd>,
     pub wire: W,
     pub console: C,
-    /// How many listens may still be made.
+    /// How many turns may still be made.
     pub left: u32,
-    /// The operator stopped at the end of an exchange, and nothing was asked after it.
-    pub is_stopped: bool,
+}
+
+/// Takes part in the run of an automation that asks: only questions go out, and none once the answer is there, or the
+/// operator has called it off.
+#[derive(Drop)]
+struct Inquiry<'c, 'r, 'l, S: Source, R: Clock, I: io::Read, O: io::Write, V: io::Write> {
+    purpose: Purpose,
+    // That of the run, which the operator is shown.
+    controller: &'c Controller<Rest<S>>,
+    console: Console<'r, 'l, R, I, O, V>,
+    // The state byte that was heard last.
+    state: Option<u8>,
+    // How many turns may still be made.
+    left: u32,
+}
+
+/// What an automation came to that asked.
+#[derive(Drop)]
+struct Answer<W> {
+    ran: Result<Ran, BrokenOff>,
+    outcome: Option<Outcome>,
+    wire: W,
 }
 
 impl<
@@ -38,170 +69,321 @@ impl<
     O: io::Write + Drop,
     V: io::Write + Drop,
 > Console<'r, 'l, R, I, O, V> {
-    /// Asks the port over this wire whether it is empty, if it is to be asked, unless the operator stops; what he called is
-    /// held.
-    pub fn ask_first<S: Source, W: Wire + Drop>(
+    /// Asks over this wire what has to be asked before the next command of a run. If that is OPEN, and the port is to be asked,
+    /// this is whether the port is empty; if a PLAY may have been lost, and would be sent again at once, when the clip before
+    /// ends. An automation of its own asks, of which only OPEN, SELECT and STATUS go out. What the operator calls is held.
+    pub fn ask_first<S: Source + Copy, W: Wire + Drop>(
         self,
         controller: &Controller<Rest<S>>,
         wire: W,
         settings: RunSettings<'_>,
     ) -> Asked<W, Self>
         requires unit { settings.unit ≤ 15 }
-        requires some { 1 ≤ settings.limit }
         requires works { W.failures wire ≡ 0 }
-        ensures works { OnOk result.answer (W.failures result.wire ≡ 0) }
-        ensures asked { result.is_stopped ≡ false → IsAsked W.does settings.entry (start_of S.items controller.now) wire
-            result.wire result.left result.answer }
-        ensures stopped { result.is_stopped ≡ true → IsAsked (MayStop W.does) settings.entry
-            (start_of S.items controller.now) wire result.wire result.left result.answer }
-        ensures opened { ¬ IsOpening (turns.given (plan_of (items_left S.items) controller.now) controller.now.state) →
-            result.is_stopped ≡ false }
+        ensures asks { HasAsked (asker_of settings.entry.ask (start_of S.items controller.now)) W.does settings.entry wire
+            result.wire result.left result.line }
+        ensures works { result.line ≡ None → W.failures result.wire ≡ 0 }
     {
-        let mut left = settings.listens;
-        let mut heeding = Heeding {
-            wire,
-            console: self,
-            controller,
-            heard: None,
-            is_stopped: false,
+        let Some((purpose, asker)) = asker_of(controller, settings.ask) else {
+            return Asked {
+                line: None,
+                wire,
+                console: self,
+                left: settings.listens,
+            };
         };
-        let answer = vacancy_for(controller, settings, &mut left, &mut heeding);
-        let Heeding {
-            wire,
-            console,
-            is_stopped,
-            ..
-        } = heeding;
+        let mut inquiry = Inquiry {
+            purpose,
+            controller,
+            console: self,
+            state: None,
+            left: settings.listens,
+        };
+        let answer = inquiry.ask(asker, wire, settings);
         Asked {
-            answer,
-            wire,
-            console,
-            left,
-            is_stopped,
+            line: inquiry.line_of(answer.ran, answer.outcome),
+            wire: answer.wire,
+            console: inquiry.console,
+            left: inquiry.left,
         }
     }
 }
 
-/// A wire before each of whose listens the progress is shown, and at the end of each of whose bursts the operator is asked:
-/// once he stops, it looks closed.
-#[derive(Drop)]
-struct Heeding<'c, 'r, 'l, S: Source, R: Clock, I: io::Read, O: io::Write, V: io::Write, W: Wire> {
-    wire: W,
-    console: Console<'r, 'l, R, I, O, V>,
-    // That of the run, which the operator is shown.
-    controller: &'c Controller<Rest<S>>,
-    // Something, once bytes of a burst have come.
-    heard: Option<Heard>,
-    is_stopped: bool,
-}
-
-impl<
-    S: Source,
-    R: Files + Clock + AllocGlobal,
-    I: io::Read + Drop,
-    O: io::Write + Drop,
-    V: io::Write + Drop,
-    W: Wire,
-> Wire for Heeding<'_, '_, '_, S, R, I, O, V, W> {
-    ghost use Rattle.std.specs.Prelude.{None, refl};
-    ghost use Rattle.vdcp_run.specs.Session.{Heeds};
-
-    ghost does = { λ act old new. Heeds W.does new.console.hand.held old.is_stopped new.is_stopped act old.wire new.wire };
-
-    ghost told = { λ _. None };
-
-    ghost failures = { λ w. W.failures w.wire };
-
-    fn send(&mut self, bytes: &[u8]) -> Result<(), WireFault> {
-        self.wire.send(bytes)?;
-        self.console.note_sent();
-        Ok(())
-    }
-
-    fn listen(&mut self, buffer: &mut [u8; PIECE]) -> Result<Came, WireFault> {
-        self.console.see(self.controller);
-        match self.wire.listen(buffer)? {
-            Came::Bytes(n) => {
-                self.heard = Some(Heard::Other);
-                Ok(Came::Bytes(n))
-            }
-            Came::Silence => {
-                self.console.note_end(self.heard.take());
-                if let Some(Call::Stop) = self.console.hand.heed(self.controller) {
-                    self.is_stopped = true;
-                    return Ok(Came::Closed);
-                }
-                Ok(Came::Silence)
-            }
-            Came::Closed => Ok(Came::Closed),
-        }
-    }
-
-    fn drop_waiting(&mut self) -> Result<(), WireFault> {
-        self.wire.drop_waiting()
-    }
-
-    ghost fails_once = { λ w. W.fails_once w.wire };
-
-    ghost tells = { λ _ _ _ _. refl };
-}
-
-// Asks the port whether it is empty, if it is to be asked, until it was opened for the list, since from then on what is
-// cued may be the list's own. `left` is how many listens may be made.
-fn vacancy_for<S: Source, W: Wire>(
-    controller: &Controller<S>,
-    settings: RunSettings<'_>,
-    left: &mut u32,
-    wire: &mut W,
-) -> Result<Vacancy, WireFault>
-    requires unit { settings.unit ≤ 15 }
-    requires some { 1 ≤ settings.limit }
-    requires works { W.failures wire.old ≡ 0 }
-    ensures works { OnOk result (W.failures wire.new ≡ 0) }
-    ensures unasked { settings.entry.ask ≡ false → (result ≡ Ok Vacancy.Vacant) × (wire.new ≡ wire.old)
-        × (left.new ≡ left.old) }
-    ensures opened { ¬ IsOpening (turns.given (plan_of S.items controller.now) controller.now.state) →
-        (result ≡ Ok Vacancy.Vacant) × (wire.new ≡ wire.old) × (left.new ≡ left.old) }
-    ensures asks { settings.entry.ask ≡ true →
-        IsOpening (turns.given (plan_of S.items controller.now) controller.now.state) →
-        HasAsked W.does settings.entry.unit settings.entry.port settings.entry.limit left.old left.new wire.old wire.new
-        result }
+// The automation that asks before the next command of this controller, and for what, if anything is to be asked.
+fn asker_of<S: Source + Copy>(
+    controller: &Controller<Rest<S>>,
+    ask: bool,
+) -> Option<(Purpose, Controller<Rest<S>>)>
+    ensures { option_map (λ (a : Purpose × View (FromEvent S)). record {
+      purpose = a.0;
+      plan = plan_of (items_left S.items) a.1;
+      state = a.1.state;
+    }) result ≡ asker_of ask (start_of S.items controller.now) }
 {
-    if !settings.ask || !opens_next(controller) {
-        return Ok(Vacancy::Vacant);
+    let snapshot = controller.snapshot();
+    let rest = controller.source();
+    let whole = *rest.whole();
+    if let Standing::Ready(Phase::Probe(event)) = snapshot.standing {
+        let waits = Snapshot {
+            standing: Standing::Ready(Phase::Wait(event)),
+            ..snapshot
+        };
+        let asker = Controller::of_snapshot(Rest::new(whole, rest.from()), &waits);
+        return Some((Purpose::ClipEnd, asker));
     }
-    ask_port(settings.unit, settings.port, settings.limit, left, wire)
+    if !ask || !opens_next(controller) {
+        return None;
+    }
+    let opens = Snapshot {
+        standing: Standing::Ready(Phase::Open),
+        take: false,
+        stop: false,
+        unanswered: 0,
+        settled: 0,
+        tries: 0,
+        ..snapshot
+    };
+    let asker = Controller::of_snapshot(Rest::new(whole, whole.len()), &opens);
+    Some((Purpose::Vacancy, asker))
 }
 
 // Whether the next command is OPEN.
 fn opens_next<S: Source>(controller: &Controller<S>) -> bool
-    ensures { IsTrue result ↔ IsOpening (turns.given (plan_of S.items controller.now) controller.now.state) }
+    ensures { result ≡ is_opening (turns.given (plan_of S.items controller.now) controller.now.state) }
 {
     matches!(controller.to_send(), Some(Command::Open(_, _)))
 }
 
-/// Whether the list may be begun, by what the port was found to be. (One that was denied is denied again.)
-pub fn may_begin(asked: Result<Vacancy, WireFault>) -> bool
-    ensures { IsTrue result ↔ MayBegin asked }
-{
-    match asked {
-        Ok(Vacancy::Vacant | Vacancy::Denied) => true,
-        Ok(Vacancy::Occupied(_) | Vacancy::Unanswered | Vacancy::Closed | Vacancy::Spent) => false,
-        Err(WireFault) => false,
+impl<
+    'c,
+    'r,
+    'l,
+    S: Source + Copy,
+    R: Files + Clock + AllocGlobal,
+    I: io::Read + Drop,
+    O: io::Write + Drop,
+    V: io::Write + Drop,
+> Inquiry<'c, 'r, 'l, S, R, I, O, V> {
+    // Has this automation ask.
+    fn ask<W: Wire + Drop>(
+        &mut self,
+        asker: Controller<Rest<S>>,
+        wire: W,
+        settings: RunSettings<'_>,
+    ) -> Answer<W>
+        requires unit { settings.unit ≤ 15 }
+        requires works { W.failures wire ≡ 0 }
+        ensures comes { ComesBy settings.entry.hearing (asking W.does (plan_of (items_left S.items) asker))
+            (plan_of (items_left S.items) asker) settings.entry.unit settings.entry.listens asker.state
+            (over wire (record {
+              purpose = self.old.purpose;
+              held = self.old.console.hand.held;
+              state = self.old.state;
+              left = self.old.left;
+            })) (over result.wire (record {
+              purpose = self.new.purpose;
+              held = self.new.console.hand.held;
+              state = self.new.state;
+              left = self.new.left;
+            })) result.ran result.outcome }
+        ensures works { result.ran ≢ Err BrokenOff.Device → W.failures result.wire ≡ 0 }
+    {
+        let (unit, turns) = (settings.unit, settings.listens);
+        match settings.hearing {
+            Hearing::AtSilences => run_by(AutoDriver::new(asker, unit, wire), turns, self),
+            Hearing::AtOnce => run_by(PromptDriver::new(asker, unit, wire), turns, self),
+        }
+    }
+
+    // Whether the automation goes on to this command, if it gives one.
+    fn may_ask(&self, command: Option<Command>) -> bool
+        ensures { result ≡ may_ask (record {
+          purpose = self.now.purpose;
+          held = self.now.console.hand.held;
+          state = self.now.state;
+          left = self.now.left;
+        }) command }
+    {
+        let Some(command) = command else {
+            return true;
+        };
+        is_question(command) && !self.is_answered() && !self.is_called_off()
+    }
+
+    // The answer is there.
+    fn is_answered(&self) -> bool
+        ensures { result ≡ is_answered self.now.purpose self.now.state }
+    {
+        match self.purpose {
+            Purpose::Vacancy => self.state.is_some(),
+            Purpose::ClipEnd => false,
+        }
+    }
+
+    // The operator has called it off.
+    fn is_called_off(&self) -> bool
+        ensures { result ≡ is_called_off self.now.purpose self.now.console.hand.held }
+    {
+        match (self.purpose, self.console.hand.held) {
+            (Purpose::Vacancy, held) => held == Some(Call::Stop),
+            (Purpose::ClipEnd, held) => held.is_some(),
+        }
+    }
+
+    // Asks the operator before a question goes out. While a clip is awaited, that waits until the state may be asked again.
+    fn heed(&mut self)
+        ensures purpose { self.new.purpose ≡ self.old.purpose }
+        ensures state { self.new.state ≡ self.old.state }
+        ensures left { self.new.left ≡ self.old.left }
+    {
+        match self.purpose {
+            Purpose::Vacancy => {
+                self.console.hand.heed(self.controller);
+            }
+            Purpose::ClipEnd => self.console.hand.held = self.console.hand.call(self.controller),
+        }
+    }
+
+    // How the line ends, if the list isn't begun, by what the automation came to.
+    fn line_of(&self, ran: Result<Ran, BrokenOff>, outcome: Option<Outcome>) -> Option<LineEnd>
+        ensures { result ≡ line_of (record {
+          purpose = self.now.purpose;
+          held = self.now.console.hand.held;
+          state = self.now.state;
+          left = self.now.left;
+        }) ran outcome }
+    {
+        let line = match ran {
+            Err(BrokenOff::Device) => return Some(LineEnd::Failed),
+            Err(BrokenOff::Unkept) => return Some(LineEnd::Failed),
+            Err(BrokenOff::Left) => self.left_line(),
+            Ok(ran) => ran_line(ran, outcome),
+        };
+        match self.purpose {
+            Purpose::Vacancy => line,
+            Purpose::ClipEnd => None,
+        }
+    }
+
+    // How the line ends of an asking that was left.
+    fn left_line(&self) -> Option<LineEnd>
+        ensures { result ≡ left_line (record {
+          purpose = self.now.purpose;
+          held = self.now.console.hand.held;
+          state = self.now.state;
+          left = self.now.left;
+        }) }
+    {
+        if self.is_called_off() {
+            return Some(LineEnd::Stopped);
+        }
+        match self.state {
+            None => Some(LineEnd::Unanswered),
+            Some(0x01) => None,
+            Some(_) => Some(LineEnd::Occupied),
+        }
     }
 }
 
-/// How the line of a list that isn't begun ends, by what the port was found to be.
-pub fn unbegun_line(asked: Result<Vacancy, WireFault>) -> LineEnd
-    ensures line { result ≡ unbegun_line asked }
-    ensures begun { result ≢ LineEnd.Unneeded }
-    ensures kept { result ≢ LineEnd.Unkept }
+// How the line ends of an asking that ran to its end. (One that was denied is denied again.)
+fn ran_line(ran: Ran, outcome: Option<Outcome>) -> Option<LineEnd>
+    ensures { result ≡ ran_line ran outcome }
 {
-    match asked {
-        Ok(Vacancy::Unanswered) => LineEnd::Unanswered,
-        Ok(Vacancy::Closed) => LineEnd::Closed,
-        Ok(Vacancy::Spent) => LineEnd::Spent,
-        Ok(Vacancy::Vacant | Vacancy::Occupied(_) | Vacancy::Denied) => LineEnd::Occupied,
-        Err(WireFault) => LineEnd::Failed,
+    match (ran, outcome) {
+        (Ran::Closed, _) => Some(LineEnd::Closed),
+        (Ran::Spent, _) => Some(LineEnd::Spent),
+        (Ran::Ended, Some(Outcome::Denied)) => None,
+        (Ran::Ended, Some(Outcome::Strange(_))) => Some(LineEnd::Occupied),
+        (Ran::Ended, _) => Some(LineEnd::Unanswered),
+    }
+}
+
+// Whether a command asks, and neither cues nor plays.
+fn is_question(command: Command) -> bool
+    ensures { result ≡ is_question command }
+{
+    matches!(
+        command,
+        Command::Open(_, _) | Command::Select(_) | Command::Status(_)
+    )
+}
+
+// Runs an automation, and says what it came to.
+fn run_by<S: Source + Drop, E: Ear + Drop, W: Wire + Drop, H: Hooks<S>>(
+    mut driver: Driver<S, E, W>,
+    turns: u32,
+    hooks: &mut H,
+) -> Answer<W>
+    requires works { W.failures driver.wire ≡ 0 }
+    ensures comes { Comes (record {
+      does = W.does;
+      asks = H.asks (plan_of S.items driver.controller);
+      adds = H.adds;
+      loses = H.loses;
+    }) E.fold driver.ear (plan_of S.items driver.controller) driver.unit turns driver.controller.state
+        (over driver.wire (H.journal hooks.old)) (over result.wire (H.journal hooks.new)) result.ran result.outcome }
+    ensures works { result.ran ≢ Err BrokenOff.Device → W.failures result.wire ≡ 0 }
+{
+    let ran = driver.run_with(u64::from(turns), hooks);
+    Answer {
+        ran,
+        outcome: driver.controller().outcome(),
+        wire: driver.into_wire(),
+    }
+}
+
+impl<
+    S: Source + Copy,
+    R: Files + Clock + AllocGlobal,
+    I: io::Read + Drop,
+    O: io::Write + Drop,
+    V: io::Write + Drop,
+> Hooks<Rest<S>> for Inquiry<'_, '_, '_, S, R, I, O, V> {
+    ghost use Rattle.vdcp_run.specs.Asking.{Adds, Asks, Inquiring};
+
+    ghost Journal = { Inquiring };
+
+    ghost journal = { λ i. record { purpose = i.purpose; held = i.console.hand.held; state = i.state; left = i.left } };
+
+    ghost asks = { Asks };
+
+    ghost adds = { Adds };
+
+    ghost loses = { λ _ _ _. ⊥ };
+
+    fn due(&mut self, controller: &Controller<Rest<S>>) -> Next {
+        self.left = self.left.saturating_sub(1);
+        let command = controller.to_send();
+        if command.is_some() && self.may_ask(command) {
+            self.heed();
+        }
+        if self.may_ask(command) {
+            Next::GoOn
+        } else {
+            Next::Leave
+        }
+    }
+
+    fn keep_call(&mut self, _call: Call) -> Result<(), KeepFault> {
+        Ok(())
+    }
+
+    fn keep_sent(&mut self, _unit: u8, _command: &Command, _bytes: &[u8]) -> Result<(), KeepFault> {
+        self.console.note_sent();
+        Ok(())
+    }
+
+    fn note_end(&mut self, heard: Option<Heard>) {
+        self.console.note_end(heard);
+        if let Some(Heard::Reply(Reply::State(_, Some(state)))) = heard {
+            self.state = Some(state);
+        }
+    }
+
+    fn see(&mut self, controller: &Controller<Rest<S>>) {
+        match self.purpose {
+            Purpose::Vacancy => self.console.see(self.controller),
+            Purpose::ClipEnd => self.console.see(controller),
+        }
     }
 }

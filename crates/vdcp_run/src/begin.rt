@@ -2,7 +2,7 @@
 ghost use Rattle.std.specs.Prelude.{◌≡◌, ◌⊎◌, ◌≤◌, IfErr, IfOk, IfSome, IsSome, IsSomeAnd, Some, length};
 ghost use Rattle.vdcp_journal_file.specs.Recording.{BeganWith, IsUnbegun};
 ghost use Rattle.vdcp_run.specs.Run.{HasRecorder, IsApart, IsBegun, IsPlaceRefused, IsUnkept, first_event, heading_for, name_of, new_controller};
-ghost use Rattle.vdcp_run.specs.Session.{start_of};
+ghost use Rattle.vdcp_run.specs.Asking.{start_of};
 
 use crate::place::{Apart, test_place};
 use crate::settings::{RunJournal, RunSettings};

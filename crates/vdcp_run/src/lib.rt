@@ -3,8 +3,8 @@
 //! `do_run` connects to an address and plays a list through the port of the server there. Each fault has a line on
 //! standard error, and the exit status is given.
 //!
-//! Files, in reading order: `settings`, `run`, `begin`, `connecting`, `session`, `playing`, `console`, `stalling`, `waiting`, `asking`,
-//! `lapsing`, `lack`, `run_end`, `advice`, `asrun`, `saved`, `place`, `in_list`, `before`.
+//! Files, in reading order: `settings`, `run`, `begin`, `connecting`, `session`, `playing`, `console`, `stalling`, `asking`,
+//! `lapsing`, `lack`, `run_end`, `advice`, `asrun`, `saved`, `place`, `in_list`, `before`, `laws`.
 #![tactic(auto)]
 
 mod advice;
@@ -17,6 +17,7 @@ mod console;
 mod in_list;
 mod lack;
 mod lapsing;
+pub mod laws;
 mod place;
 mod playing;
 mod run;
@@ -25,7 +26,6 @@ mod saved;
 mod session;
 mod settings;
 mod stalling;
-mod waiting;
 
 pub use advice::{Advice, Next, Reason};
 pub use run::do_run;

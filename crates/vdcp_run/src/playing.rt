@@ -3,7 +3,7 @@ use crate::console::Console;
 use std::io;
 use std::rt::{Clock, Files};
 use vdcp_auto::{Controller, Heard, Source};
-use vdcp_drive::{Call, Hooks, KeepFault};
+use vdcp_drive::{Call, Hooks, KeepFault, Next};
 use vdcp_journal_file::{Disk, Recorder};
 use vdcp_list::Rest;
 use vdcp_words::Command;
@@ -23,7 +23,7 @@ impl<
     O: io::Write + Drop,
     V: io::Write + Drop,
 > Hooks<Rest<S>> for Playing<'_, '_, '_, R, F, I, O, V> {
-    ghost use Rattle.std.specs.Prelude.{Option};
+    ghost use Rattle.std.specs.Prelude.{◌≡◌, Option};
     ghost use Rattle.vdcp_drive.specs.Hooked.{MayKeep, MayLose};
     ghost use Rattle.vdcp_journal_file.specs.Recorded.{Loses, Notes};
     ghost use Rattle.vdcp_journal_file.specs.Recording.{Recording};
@@ -32,34 +32,31 @@ impl<
 
     ghost journal = { λ p. p.recorder };
 
+    ghost asks = { λ _ _ _ old new. new ≡ old };
+
     ghost adds = { MayKeep (Notes F.safe) };
 
     ghost loses = { MayLose (Loses F.safe) };
 
-    fn due(&mut self, controller: &Controller<Rest<S>>) -> Option<Call> {
-        self.console.hand.call(controller)
+    fn due(&mut self, controller: &Controller<Rest<S>>) -> Next {
+        match self.console.hand.call(controller) {
+            Some(call) => Next::Call(call),
+            None => Next::GoOn,
+        }
     }
 
     fn keep_call(&mut self, call: Call) -> Result<(), KeepFault> {
-        match &mut self.recorder {
-            Some(recorder) => Hooks::<Rest<S>>::keep_call(recorder, call),
-            None => Ok(()),
-        }
+        Hooks::<Rest<S>>::keep_call(&mut self.recorder, call)
     }
 
     fn keep_sent(&mut self, unit: u8, command: &Command, bytes: &[u8]) -> Result<(), KeepFault> {
         self.console.note_sent();
-        match &mut self.recorder {
-            Some(recorder) => Hooks::<Rest<S>>::keep_sent(recorder, unit, command, bytes),
-            None => Ok(()),
-        }
+        Hooks::<Rest<S>>::keep_sent(&mut self.recorder, unit, command, bytes)
     }
 
     fn note_end(&mut self, heard: Option<Heard>) {
         self.console.note_end(heard);
-        if let Some(recorder) = &mut self.recorder {
-            Hooks::<Rest<S>>::note_end(recorder, heard);
-        }
+        Hooks::<Rest<S>>::note_end(&mut self.recorder, heard);
     }
 
     fn see(&mut self, controller: &Controller<Rest<S>>) {

@@ -12,7 +12,7 @@ use crate::settings::RunSettings;
 use std::io;
 use std::rt::Files;
 use vdcp_auto::{Controller, Outcome, Source};
-use vdcp_drive::{KeptFault, Ran};
+use vdcp_drive::{BrokenOff, Ran};
 use vdcp_list::Rest;
 use vdcp_text::{Failure, OutcomeText};
 
@@ -23,7 +23,7 @@ pub enum LineEnd {
     Unneeded,
     /// The other end closed it.
     Closed,
-    /// All listens were made.
+    /// All turns were made.
     Spent,
     /// It failed.
     Failed,
@@ -39,15 +39,16 @@ pub enum LineEnd {
 
 impl LineEnd {
     /// By what the driver's run answered.
-    pub fn of_run(ran: Result<Ran, KeptFault>) -> LineEnd
+    pub fn of_run(ran: Result<Ran, BrokenOff>) -> LineEnd
         ensures { result ≡ line_end_of ran }
     {
         match ran {
             Ok(Ran::Ended) => LineEnd::Unneeded,
             Ok(Ran::Closed) => LineEnd::Closed,
             Ok(Ran::Spent) => LineEnd::Spent,
-            Err(KeptFault::Device) => LineEnd::Failed,
-            Err(KeptFault::Unkept) => LineEnd::Unkept,
+            Err(BrokenOff::Device) => LineEnd::Failed,
+            Err(BrokenOff::Unkept) => LineEnd::Unkept,
+            Err(BrokenOff::Left) => LineEnd::Stopped,
         }
     }
 

@@ -2,11 +2,11 @@
 ghost use Rattle.std.specs.Duration.{as_nanos};
 ghost use Rattle.std.specs.Prelude.{◌≡◌, ◌⊎◌, ◌≤◌, ◌*◌, IfErr, IfOk, IsSome, None, OnErr};
 ghost use Rattle.vdcp_run.specs.Run.{EndsRun, MayBeUnkept, journal_of};
-ghost use Rattle.vdcp_run.specs.Session.{HasAwaited, HasSession, IsClosed, Plays, TriesOver, start_of};
-ghost use Rattle.vdcp_run.specs.Waiting.{over};
+ghost use Rattle.vdcp_run.specs.Asking.{over, start_of};
+ghost use Rattle.vdcp_run.specs.Session.{HasSession, HasTried, IsClosed, Plays, TriesOver};
 
 use crate::advice::Seen;
-use crate::asking::{Asked, may_begin, unbegun_line};
+use crate::asking::Asked;
 use crate::before::events_before;
 use crate::connecting::connect_in_time;
 use crate::console::Console;
@@ -140,9 +140,7 @@ impl<
         end
     }
 
-    // Plays a list over a wire, once the clip before has ended, if that is to be awaited. If it is to be asked, the port is
-    // asked then, and the list is begun only if nothing is cued there and nothing plays, and the operator doesn't stop
-    // meanwhile.
+    // Plays a list over a wire, once what has to be asked before was asked, and unless that ends the line.
     fn play_in_turn<S: Source + Copy, W: Wire + Drop>(
         self,
         controller: Controller<Rest<S>>,
@@ -151,29 +149,20 @@ impl<
         seen: &mut Seen,
     ) -> RunEnd<'a>
         requires unit { settings.unit ≤ 15 }
-        requires some { 1 ≤ settings.limit }
         requires works { W.failures wire ≡ 0 }
-        ensures session { HasAwaited W.does F.safe settings.entry (start_of S.items controller)
+        ensures session { HasTried W.does F.safe settings.entry (start_of S.items controller)
             (over wire self.entry.recorder) result }
         ensures end { EndsRun settings.entry (journal_of self.entry.recorder) S.items controller result }
     {
         let Playing { recorder, console } = self;
-        let (wire, console) = match console.await_clip(&controller, wire, settings) {
-            Ok(awaited) => awaited,
-            Err(console) => return console.end(&controller, LineEnd::Failed, settings),
-        };
         let Asked {
-            answer,
+            line,
             wire,
             console,
             left,
-            is_stopped,
         } = console.ask_first(&controller, wire, settings);
-        if is_stopped {
-            return console.end(&controller, LineEnd::Stopped, settings);
-        }
-        if !may_begin(answer) {
-            return console.end(&controller, unbegun_line(answer), settings);
+        if let Some(line) = line {
+            return console.end(&controller, line, settings);
         }
         let playing = Playing { recorder, console };
         let rest = RunSettings {

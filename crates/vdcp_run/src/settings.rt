@@ -27,7 +27,7 @@ pub struct RunSettings<'a> {
     pub silence: u32,
     /// When answers are heard.
     pub hearing: Hearing,
-    /// The most listens that are made.
+    /// The most turns that are made: listens, and calls.
     pub listens: u32,
     /// The event of the list that a new controller begins with, if one is named; else it is the first one, 0.
     pub from: Option<usize>,

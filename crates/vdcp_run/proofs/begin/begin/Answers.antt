@@ -2,7 +2,7 @@ use Rattle.std.proofs.Common.{None, refl, subst, sym}
 use Rattle.vdcp_run.proofs.Begun.{begun_new}
 use Rattle.vdcp_run.proofs.begin.begin.Goals as goal
 use Rattle.vdcp_run.specs.Run.{BeginsBy, new_controller}
-use Rattle.vdcp_run.specs.Session.{start_of}
+use Rattle.vdcp_run.specs.Asking.{start_of}
 
 pub returns-in-None-clause-begun : goal.returns-in-None-clause-begun
 returns-in-None-clause-begun g c =

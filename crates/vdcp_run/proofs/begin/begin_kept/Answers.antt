@@ -3,7 +3,7 @@ use Rattle.std.proofs.lemmas.Result.{IfOk-weaker}
 use Rattle.std.specs.Prelude.{Some}
 use Rattle.vdcp_run.proofs.Begun.{begun_again, begun_new, begun_older, both}
 use Rattle.vdcp_run.proofs.begin.begin_kept.Goals as goal
-use Rattle.vdcp_run.specs.Session.{start_of}
+use Rattle.vdcp_run.specs.Asking.{start_of}
 use Rattle.vdcp_run.specs.declared.settings.RunJournal.TheVariants as journals
 
 pub returns-in-New-clause-begun : goal.returns-in-New-clause-begun

@@ -3,7 +3,7 @@ use Rattle.std.specs.Prelude.{None, is_some}
 use Rattle.vdcp_run.proofs.Ends.{over_comes}
 use Rattle.vdcp_run.proofs.Seen.{session_so}
 use Rattle.vdcp_run.proofs.session.Session.play_at.Goals as goal
-use Rattle.vdcp_run.specs.Session.{start_of}
+use Rattle.vdcp_run.specs.Asking.{start_of}
 
 pub returns-then-is_some-clause-end : goal.returns-then-is_some-clause-end
 returns-then-is_some-clause-end g c = record {

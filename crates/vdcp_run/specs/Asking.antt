@@ -1,0 +1,209 @@
+-- What is asked before a list's own commands: whether the port is empty, or when the clip before ends. An automation of its own
+-- asks, of which only questions go out.
+use Rattle.std.specs.Prelude.{ℕ, ◌≡◌, ◌-◌, Bool, true, false, not, ◌&&◌, if◌then◌else◌, is_some, nat_eq, List, [], Option, None, Some, Result, Ok, Err}
+use Rattle.vdcp_auto.specs.Plan.{Plan, View, plan_of}
+use Rattle.vdcp_auto.specs.State.{State, Stage, Ready}
+use Rattle.vdcp_auto.specs.Turn as turns
+use Rattle.vdcp_auto.specs.Turn.{given, outcome_of}
+use Rattle.vdcp_auto.specs.declared.exchange.Heard.{Heard}
+use Rattle.vdcp_auto.specs.declared.exchange.Heard.TheVariants as heard
+use Rattle.vdcp_auto.specs.declared.outcome.Outcome.{Outcome}
+use Rattle.vdcp_auto.specs.declared.outcome.Outcome.TheVariants.{Denied, Strange}
+use Rattle.vdcp_auto.specs.declared.phase.Phase.TheVariants as phase
+use Rattle.vdcp_drive.specs.Auto.{Auto}
+use Rattle.vdcp_drive.specs.Ears.{Fold}
+use Rattle.vdcp_drive.specs.Hearing as ears
+use Rattle.vdcp_drive.specs.Leaves.{HasRun}
+use Rattle.vdcp_drive.specs.Reading.{holds}
+use Rattle.vdcp_drive.specs.Steps.{Rules, World}
+use Rattle.vdcp_drive.specs.declared.hearing.Hearing.{Hearing}
+use Rattle.vdcp_drive.specs.declared.hearing.Hearing.TheVariants as hears
+use Rattle.vdcp_drive.specs.declared.hooks.BrokenOff.{BrokenOff}
+use Rattle.vdcp_drive.specs.declared.hooks.BrokenOff.TheVariants as fault
+use Rattle.vdcp_drive.specs.declared.hooks.Call.{Call}
+use Rattle.vdcp_drive.specs.declared.hooks.Call.TheVariants.{Take, Stop}
+use Rattle.vdcp_drive.specs.declared.hooks.Kept.{Kept}
+use Rattle.vdcp_drive.specs.declared.hooks.Kept.TheVariants as kept
+use Rattle.vdcp_drive.specs.declared.hooks.Next.{Next}
+use Rattle.vdcp_drive.specs.declared.hooks.Next.TheVariants as next
+use Rattle.vdcp_drive.specs.declared.line.Ran.{Ran}
+use Rattle.vdcp_drive.specs.declared.line.Ran.TheVariants as ran
+use Rattle.vdcp_list.specs.Rests.{FromEvent, items_left}
+use Rattle.vdcp_run.specs.declared.asking.Purpose.{Purpose}
+use Rattle.vdcp_run.specs.declared.asking.Purpose.TheVariants as purpose
+use Rattle.vdcp_run.specs.declared.run_end.LineEnd.{LineEnd}
+use Rattle.vdcp_run.specs.declared.run_end.LineEnd.TheVariants as line_end
+use Rattle.vdcp_run.specs.declared.settings.RunSettings.{RunSettings}
+use Rattle.vdcp_value.specs.declared.part.Item.{Item}
+use Rattle.vdcp_wire.specs.Acts.{Act}
+use Rattle.vdcp_words.specs.declared.command.Command.{Command}
+use Rattle.vdcp_words.specs.declared.command.Command.TheVariants as command
+use Rattle.vdcp_words.specs.declared.reply.Reply.TheVariants as reply
+
+-- what a session begins with: its controller's plan and state, and the event of the list from which that plays
+pub record Start : Type 0 where
+  pub plan : Plan
+  pub from : ℕ
+  pub state : State
+
+abbrev pub start_of : {S : Type 0} → (S → List Item) → View (FromEvent S) → Start
+start_of items controller = record {
+  plan = plan_of (items_left items) controller;
+  from = controller.source.from;
+  state = controller.state;
+}
+
+-- ---- what is asked, if anything is
+
+-- the next command is OPEN
+abbrev pub is_opening : Option Command → Bool
+is_opening None = false
+is_opening (Some (command.Open port mode)) = true
+is_opening (Some other) = false
+
+-- the event whose PLAY may have been lost
+abbrev pub probed_in : Stage → Option ℕ
+probed_in (Ready (phase.Probe k)) = Some k
+probed_in _ = None
+
+-- an automation that asks: for what, by which list, and from which state
+pub record Asker : Type 0 where
+  pub purpose : Purpose
+  pub plan : Plan
+  pub state : State
+
+-- it waits for the clip before; or it asks by an empty list, if the port is to be asked and is opened next
+abbrev pub asker_with : Bool → Start → Option ℕ → Option Asker
+asker_with ask start (Some k) = Some (record {
+  purpose = purpose.ClipEnd;
+  plan = start.plan;
+  state = record start.state { stage = Ready (phase.Wait k) };
+})
+asker_with ask start None = if ask && is_opening (given start.plan start.state) then Some (record {
+  purpose = purpose.Vacancy;
+  plan = record start.plan { list = [] };
+  state = turns.start;
+}) else None
+
+abbrev pub asker_of : Bool → Start → Option Asker
+asker_of ask start = asker_with ask start (probed_in start.state.stage)
+
+-- ---- by which rules
+
+-- these commands ask; none of them cues or plays
+abbrev pub is_question : Command → Bool
+is_question (command.Open port mode) = true
+is_question (command.Select port) = true
+is_question (command.Status groups) = true
+is_question other = false
+
+-- what is asked, what the operator called, the state byte that was heard last, and how many turns are left
+pub record Inquiring : Type 0 where
+  pub purpose : Purpose
+  pub held : Option Call
+  pub state : Option ℕ
+  pub left : ℕ
+
+-- the operator has called it off: by stop, or, while a clip is awaited, by any call
+abbrev pub is_called_off : Purpose → Option Call → Bool
+is_called_off purpose.Vacancy None = false
+is_called_off purpose.Vacancy (Some Take) = false
+is_called_off purpose.Vacancy (Some Stop) = true
+is_called_off purpose.ClipEnd held = is_some held
+
+-- the answer is there
+abbrev pub is_answered : Purpose → Option ℕ → Bool
+is_answered purpose.Vacancy state = is_some state
+is_answered purpose.ClipEnd state = false
+
+-- it goes on while an answer is awaited, and with a question, until the answer is there or it is called off
+abbrev pub may_ask : Inquiring → Option Command → Bool
+may_ask i None = true
+may_ask i (Some c) = is_question c && (not (is_answered i.purpose i.state) && not (is_called_off i.purpose i.held))
+
+abbrev pub next_for : Inquiring → Option Command → Next
+next_for i command = if may_ask i command then next.GoOn else next.Leave
+
+abbrev pub Asks : Plan → State → Next → Inquiring → Inquiring → Type 0
+Asks plan state n old new =
+    (n ≡ next_for new (given plan state)) × (new ≡ record old { held = new.held; left = old.left - 1 })
+
+-- a state is remembered
+abbrev pub state_in : Option Heard → Option ℕ → Option ℕ
+state_in (Some (heard.Reply (reply.State groups (Some state)))) before = Some state
+state_in _ before = before
+
+abbrev pub Adds : Kept → Inquiring → Inquiring → Type 0
+Adds (kept.Heard h) old new = new ≡ record old { state = state_in (Some h) old.state }
+Adds _ old new = new ≡ old
+
+abbrev pub asking : {W : Type 0} → (Act → W → W → Type 0) → Plan → Rules W Inquiring
+asking does plan = record { does = does; asks = Asks plan; adds = Adds; loses = λ _ _ _. ⊥ }
+
+-- ---- what it comes to: how the line ends, if the list isn't begun
+
+-- one that was denied is denied again; a state that is cued or cueing is strange to an empty list
+abbrev pub ended_line : Option Outcome → Option LineEnd
+ended_line (Some Denied) = None
+ended_line (Some (Strange k)) = Some line_end.Occupied
+ended_line _ = Some line_end.Unanswered
+
+abbrev pub ran_line : Ran → Option Outcome → Option LineEnd
+ran_line ran.Ended outcome = ended_line outcome
+ran_line ran.Closed outcome = Some line_end.Closed
+ran_line ran.Spent outcome = Some line_end.Spent
+
+-- of the six state bytes 01h alone says that nothing is cued and nothing plays
+abbrev pub state_line : Option ℕ → Option LineEnd
+state_line None = Some line_end.Unanswered
+state_line (Some state) = if nat_eq state 1 then None else Some line_end.Occupied
+
+abbrev pub left_line : Inquiring → Option LineEnd
+left_line i = if is_called_off i.purpose i.held then Some line_end.Stopped else state_line i.state
+
+abbrev pub if_vacancy : Purpose → Option LineEnd → Option LineEnd
+if_vacancy purpose.Vacancy line = line
+if_vacancy purpose.ClipEnd line = None
+
+abbrev pub line_of : Inquiring → Result Ran BrokenOff → Option Outcome → Option LineEnd
+line_of i (Err fault.Device) outcome = Some line_end.Failed
+line_of i (Err fault.Unkept) outcome = Some line_end.Failed
+line_of i (Err fault.Left) outcome = if_vacancy i.purpose (left_line i)
+line_of i (Ok r) outcome = if_vacancy i.purpose (ran_line r outcome)
+
+-- ---- it has asked
+
+abbrev pub over : {W J : Type 0} → W → J → World W J
+over wire keep = record { wire = wire; keep = keep }
+
+-- an automation ran with this ear by these rules, and came to this
+pub record Comes {E W J : Type 0} (rules : Rules W J) (fold : Fold E) (ear : E) (plan : Plan) (unit turns : ℕ) (state : State)
+    (world world' : World W J) (answer : Result Ran BrokenOff) (outcome : Option Outcome) : Type 0 where
+  pub auto : Auto E
+  pub runs : HasRun rules fold plan unit turns (record { ear = ear; state = state }) auto world world' answer
+  pub outcome_is : outcome ≡ outcome_of auto.state.stage
+
+-- so with the ear that a run has
+abbrev pub ComesBy : {W J : Type 0} → Hearing → Rules W J → Plan → (unit turns : ℕ) → State → (world world' : World W J)
+    → Result Ran BrokenOff → Option Outcome → Type 0
+ComesBy hears.AtSilences rules plan unit turns state world world' answer outcome =
+    Comes rules ears.at_silences (ears.begun (holds [])) plan unit turns state world world' answer outcome
+ComesBy hears.AtOnce rules plan unit turns state world world' answer outcome =
+    Comes rules ears.at_once (holds []) plan unit turns state world world' answer outcome
+
+pub record Asked {W : Type 0} (asker : Asker) (does : Act → W → W → Type 0) (settings : RunSettings) (wire wire' : W)
+    (left : ℕ) (line : Option LineEnd) : Type 0 where
+  pub held : Option Call
+  pub last : Inquiring
+  pub answer : Result Ran BrokenOff
+  pub outcome : Option Outcome
+  pub comes : ComesBy settings.hearing (asking does asker.plan) asker.plan settings.unit settings.listens asker.state
+      (over wire (record { purpose = asker.purpose; held = held; state = None; left = settings.listens })) (over wire' last)
+      answer outcome
+  pub left_is : left ≡ last.left
+  pub line_is : line ≡ line_of last answer outcome
+
+-- over this wire what was to be asked was, which left this many turns, and the list is begun unless the line ends
+abbrev pub HasAsked : {W : Type 0} → Option Asker → (Act → W → W → Type 0) → RunSettings → W → W → ℕ → Option LineEnd → Type 0
+HasAsked None does settings wire wire' left line = (wire' ≡ wire) × (left ≡ settings.listens) × (line ≡ None)
+HasAsked (Some asker) does settings wire wire' left line = Asked asker does settings wire wire' left line
