@@ -1,3 +1,4 @@
 -- The lemmas, file by file.
+pub mod Lapses
 pub mod Scripting
 pub mod Streaming

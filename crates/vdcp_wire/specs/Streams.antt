@@ -2,12 +2,13 @@
 use Rattle.std.proofs.Common.{rules}
 use Rattle.std.specs.IoError.{error_kind}
 use Rattle.std.specs.Io.KnownBytes.{Appends, Consumes, Keeps}
-use Rattle.std.specs.Prelude.{ℕ, zero, suc, ◌+◌, ◌≤◌, ◌≡◌, List, [], Option, Result, Ok, Err}
+use Rattle.std.specs.Prelude.{ℕ, zero, suc, ◌+◌, ◌≤◌, ◌≡◌, Bool, true, false, List, [], Option, Result, Ok, Err}
 use Rattle.std.specs.declared.io.Error.{Error}
 use Rattle.std.specs.declared.io.ErrorKind.{ErrorKind}
 use Rattle.std.specs.declared.io.ErrorKind.TheVariants.{WouldBlock, Interrupted}
 use Rattle.vdcp_wire.specs.declared.stream.Connection.{Connection}
 use Rattle.vdcp_wire.specs.declared.stream.Connection.TheVariants as connection
+use Rattle.vdcp_wire.specs.Answers.{HasCome, IsRead, Limit, lapses}
 use Rattle.vdcp_wire.specs.Acts.{Act, sends, brings, drops, fails}
 use Rattle.vdcp_wire.specs.Wires.{Arrival, bytes, silence, close}
 use Rattle.vdcp_wire.specs.declared.wire.Came.{Came}
@@ -15,13 +16,14 @@ use Rattle.vdcp_wire.specs.declared.wire.Came.TheVariants as came
 
 -- a wire over a connection: what is known of the connection, the bytes that its reads will give, and those that it
 -- holds of what was written, if the connection tells them; how many reads in vain are a silence, and how many of them
--- are left until the next one
+-- are left until the next one; and how long an answer may go on, if that is limited
 pub record Streamed : Type 0 where
   pub connection : Connection
   pub ahead : Option (List ℕ)
   pub written : Option (List ℕ)
   pub reads : ℕ
   pub left : ℕ
+  pub answer : Option Limit
 
 -- some of the next bytes, or none, were taken
 abbrev pub Takes : Option (List ℕ) → Option (List ℕ) → Type 0
@@ -77,6 +79,15 @@ Counts (came.Bytes zero) old new = old.left ≤ new.left + 1
 Counts (came.Bytes (suc n)) old new = new.left ≡ new.reads
 Counts came.Silence old new = (old.left ≤ 1) × (new.left ≡ new.reads)
 Counts came.Closed old new = Unit {0}
+
+-- a listen takes nothing, and is silent, if an answer has gone on for too long; else it counts the reads in vain
+abbrev pub ListensBy : (lapsed : Bool) → Came → Streamed → Streamed → Type 0
+ListensBy true what old new = (what ≡ came.Silence) × IsRead old.answer new.answer
+    × (new ≡ record old { answer = new.answer })
+ListensBy false what old new = Counts what old new × HasCome what old.answer new.answer
+
+abbrev pub Listens : Came → Streamed → Streamed → Type 0
+Listens what old new = ListensBy (lapses old.answer new.answer) what old new
 
 -- what is known of the connection after it
 abbrev pub connection_behind : Came → Connection → Connection

@@ -1,16 +1,21 @@
 //! The wire over a connection: how it sends, listens and fails.
 ghost use Rattle.std.specs.Io.KnownBytes.{Appends, Consumes, IsAtEnd, Keeps, WriteAppends};
 ghost use Rattle.std.specs.Io.{WritesAtMost};
-ghost use Rattle.std.specs.Prelude.{◌≡◌, take, IfOk, IsOk, OnErr, OnOk};
-ghost use Rattle.vdcp_wire.specs.Acts.{OfFront};
-ghost use Rattle.vdcp_wire.specs.Streams.{came_of, connection_behind, failures_of, Counts, heard_of, left_behind, Takes};
-ghost use Rattle.vdcp_wire.specs.Wires.{brought, FitsBuffer};
+ghost use Rattle.std.specs.Duration.{as_nanos};
+ghost use Rattle.std.specs.Prelude.{◌≡◌, ◌-◌, ◌^◌, min, take, Err, IfOk, IsOk, None, Ok, OnErr, OnOk, Some};
+ghost use Rattle.std.specs.Option.{option_map};
+ghost use Rattle.vdcp_wire.specs.Acts.{OfFront, brings, fails};
+ghost use Rattle.vdcp_wire.specs.Answers.{IsRead, IsSent, heard, lapses, limit_of};
+ghost use Rattle.vdcp_wire.specs.Streams.{came_of, connection_behind, failures_of, Counts, Listens, StreamDoes, heard_of, left_behind, Takes};
+ghost use Rattle.vdcp_wire.specs.Wires.{arrival_of, brought, FitsBuffer};
 
+use crate::answering::Answering;
 use crate::duplex::Duplex;
 use crate::wire::{Came, PIECE, Wire, WireFault};
 use std::io::{self, ErrorKind};
 use std::marker::Model;
 use std::net::TcpStream;
+use std::rt::Clock;
 use std::time::Duration;
 
 /// Read limit of `drop_waiting`, so that a peer that goes on sending can't hold it up.
@@ -52,16 +57,35 @@ enum Connection {
 /// bytes, as an interrupted read does. Bytes that come begin the count anew. A connection that the system gives up,
 /// since nothing is acknowledged any more, has failed. `drop_waiting` doesn't wait. It drops what at most 128 reads
 /// take; the rest stays.
+///
+/// With a limit an answer ends at last, whatever comes: if bytes have come since the last send, and the limit has passed
+/// since that, `listen` is silent and takes nothing, until the next send.
 #[derive(Drop)]
-pub struct StreamWire<S: Duplex + Drop = TcpStream> {
+pub struct StreamWire<S: Duplex + Drop = TcpStream, C: Clock + Drop = Unclocked> {
     stream: S,
     connection: Connection,
     /// How many reads in vain are a silence, and how many of them are left until the next one.
     reads: u32,
     left: u32,
+    answering: Option<Answering<C>>,
 }
 
-impl<S: Duplex + Drop> Model for StreamWire<S> {
+/// No clock: it can't be read.
+#[derive(Drop)]
+pub struct Unclocked;
+
+impl Clock for Unclocked {
+    fn monotonic(&self) -> io::Result<Duration> {
+        Err(io::Error::from(ErrorKind::Unsupported))
+    }
+
+    fn since_1970(&self) -> io::Result<Duration> {
+        Err(io::Error::from(ErrorKind::Unsupported))
+    }
+}
+
+impl<S: Duplex + Drop, C: Clock + Drop> Model for StreamWire<S, C> {
+    ghost use Rattle.vdcp_wire.specs.Answers.{limit_of};
     ghost use Rattle.vdcp_wire.specs.Streams.{Streamed};
 
     ghost Value = { Streamed };
@@ -72,6 +96,7 @@ impl<S: Duplex + Drop> Model for StreamWire<S> {
       written = S.written w.stream;
       reads = w.reads;
       left = w.left;
+      answer = limit_of w.answering;
     } };
 }
 
@@ -84,12 +109,7 @@ impl<S: Duplex + Drop> StreamWire<S> {
         ensures ahead { IfOk result (λ wire. wire.ahead ≡ S.ahead stream) }
         ensures written { IfOk result (λ wire. wire.written ≡ S.written stream) }
     {
-        let waits = Waits {
-            read: silence,
-            reads: 1,
-            send: Duration::from_secs(SENDING),
-        };
-        StreamWire::with_waits(stream, waits)
+        StreamWire::with_waits(stream, waits_for(silence))
     }
 
     /// Likewise, but its calls wait as `waits` says. What is sent goes out at once.
@@ -98,6 +118,34 @@ impl<S: Duplex + Drop> StreamWire<S> {
         ensures ahead { IfOk result (λ wire. wire.ahead ≡ S.ahead stream) }
         ensures written { IfOk result (λ wire. wire.written ≡ S.written stream) }
         ensures reads { IfOk result (λ wire. (wire.reads ≡ waits.reads) × (wire.left ≡ waits.reads)) }
+        ensures unlimited { IfOk result (λ wire. wire.answer ≡ None) }
+    {
+        StreamWire::over(stream, waits, None)
+    }
+}
+
+impl<S: Duplex + Drop, C: Clock + Drop> StreamWire<S, C> {
+    /// As `new`, but an answer may go on for no longer than `limit`, by this clock.
+    pub fn with_limit(stream: S, silence: Duration, limit: Duration, clock: C) -> io::Result<Self>
+        ensures open { IfOk result (λ wire. wire.connection ≡ Connection.Open) }
+        ensures ahead { IfOk result (λ wire. wire.ahead ≡ S.ahead stream) }
+        ensures written { IfOk result (λ wire. wire.written ≡ S.written stream) }
+        ensures limit { IfOk result (λ wire. option_map (λ l. l.most) wire.answer ≡ Some (min (as_nanos limit) (2 ^ 64 - 1))) }
+    {
+        StreamWire::over(
+            stream,
+            waits_for(silence),
+            Some(Answering::new(clock, limit)),
+        )
+    }
+
+    // Over this connection, which may refuse that.
+    fn over(stream: S, waits: Waits, answering: Option<Answering<C>>) -> io::Result<Self>
+        ensures open { IfOk result (λ wire. wire.connection ≡ Connection.Open) }
+        ensures ahead { IfOk result (λ wire. wire.ahead ≡ S.ahead stream) }
+        ensures written { IfOk result (λ wire. wire.written ≡ S.written stream) }
+        ensures reads { IfOk result (λ wire. (wire.reads ≡ waits.reads) × (wire.left ≡ waits.reads)) }
+        ensures answer { IfOk result (λ wire. wire.answer ≡ limit_of answering) }
     {
         stream.set_nodelay(true)?;
         stream.set_read_timeout(Some(waits.read))?;
@@ -107,6 +155,7 @@ impl<S: Duplex + Drop> StreamWire<S> {
             connection: Connection::Open,
             reads: waits.reads,
             left: waits.reads,
+            answering,
         })
     }
 
@@ -131,6 +180,29 @@ impl<S: Duplex + Drop> StreamWire<S> {
         Ok(())
     }
 
+    // Reads once, and counts the reads in vain.
+    fn read(&mut self, buffer: &mut [u8; PIECE]) -> Result<Came, WireFault>
+        requires { self.old.connection ≡ Connection.Open }
+        ensures fits { IfOk result FitsBuffer }
+        ensures brings { IfOk result (λ c. StreamDoes (brings (arrival_of c buffer.new)) self.old self.new) }
+        ensures kept { OnErr result (StreamDoes fails self.old self.new × Keeps self.old.ahead self.new.ahead) }
+        ensures end { result ≡ Ok Came.Closed → IsAtEnd self.new.ahead }
+        ensures counts { IfOk result (λ came. Counts came self.old self.new) }
+        ensures reads { self.new.reads ≡ self.old.reads }
+        ensures next { IfOk result (λ came. self.new.connection ≡ connection_behind came self.old.connection) }
+        ensures answer { self.new.answer ≡ self.old.answer }
+        ensures failed { OnErr result (failures_of self.new.connection ≡ 1) }
+    {
+        let Ok(read) = came_of(self.stream.read_some(buffer)) else {
+            return Err(self.fail());
+        };
+        let came = self.count_read(read);
+        if let Came::Closed = came {
+            self.connection = Connection::Closed;
+        }
+        Ok(came)
+    }
+
     // What a listen tells of a read, whose reads in vain are counted.
     fn count_read(&mut self, read: Came) -> Came
         ensures told { result ≡ heard_of read self.old.left }
@@ -147,19 +219,47 @@ impl<S: Duplex + Drop> StreamWire<S> {
         read
     }
 
+    // A command has gone out.
+    fn note_sent(&mut self)
+        ensures noted { IsSent self.old.answer self.new.answer }
+        ensures rest { self.new ≡ record self.old { answer = self.new.answer } }
+    {
+        if let Some(answering) = &mut self.answering {
+            answering.note_sent();
+        }
+    }
+
+    // Whether an answer has gone on for too long.
+    fn is_over(&mut self) -> bool
+        ensures over { result ≡ lapses self.old.answer self.new.answer }
+        ensures read { IsRead self.old.answer self.new.answer }
+        ensures rest { self.new ≡ record self.old { answer = self.new.answer } }
+    {
+        match &mut self.answering {
+            Some(answering) => answering.is_over(),
+            None => false,
+        }
+    }
+
+    // This came.
+    fn note(&mut self, came: Came)
+        ensures { self.new ≡ record self.old { answer = heard came self.old.answer } }
+    {
+        if let Some(answering) = &mut self.answering {
+            answering.note(came);
+        }
+    }
+
     // The fault of a call that failed. None is made again.
     fn fail(&mut self) -> WireFault
-        ensures failed { self.new.connection ≡ Connection.Failed }
-        ensures ahead { self.new.ahead ≡ self.old.ahead }
-        ensures written { self.new.written ≡ self.old.written }
-        ensures reads { self.new.reads ≡ self.old.reads }
+        ensures { self.new ≡ record self.old { connection = Connection.Failed } }
     {
         self.connection = Connection::Failed;
         WireFault
     }
 }
 
-impl<S: Duplex + Drop> Wire for StreamWire<S> {
+impl<S: Duplex + Drop, C: Clock + Drop> Wire for StreamWire<S, C> {
     ghost use Rattle.std.specs.Prelude.{None, refl};
     ghost use Rattle.vdcp_wire.specs.Acts.{sends, brings, drops, fails};
     ghost use Rattle.vdcp_wire.specs.Streams.{StreamDoes, counted_once};
@@ -179,11 +279,13 @@ impl<S: Duplex + Drop> Wire for StreamWire<S> {
         ensures connection { OnOk result (self.new.connection ≡ self.old.connection) }
         ensures reads { self.new.reads ≡ self.old.reads }
         ensures left { OnOk result (self.new.left ≡ self.old.left) }
+        ensures noted { OnOk result (IsSent self.old.answer self.new.answer) }
         ensures failed { OnErr result (failures_of self.new.connection ≡ 1) }
     {
         let mut at = 0;
         'writes: for _ in 0..u32::MAX {
             if at == bytes.len() {
+                self.note_sent();
                 return Ok(());
             }
             match self.stream.write_some(&bytes[at..]) {
@@ -202,7 +304,7 @@ impl<S: Duplex + Drop> Wire for StreamWire<S> {
         ensures fails { OnErr result (StreamDoes fails self.old self.new) }
         ensures kept { OnErr result (Keeps self.old.ahead self.new.ahead) }
         ensures end { self.old.connection ≡ Connection.Open → result ≡ Ok Came.Closed → IsAtEnd self.new.ahead }
-        ensures silence { IfOk result (λ came. Counts came self.old self.new) }
+        ensures silence { self.old.connection ≡ Connection.Open → IfOk result (λ came. Listens came self.old self.new) }
         ensures reads { self.new.reads ≡ self.old.reads }
         ensures next { IfOk result (λ came. self.new.connection ≡ connection_behind came self.old.connection) }
         ensures closed { self.old.connection ≡ Connection.Closed → (result ≡ Ok Came.Closed) × (self.new ≡ self.old) }
@@ -211,14 +313,16 @@ impl<S: Duplex + Drop> Wire for StreamWire<S> {
         if let Connection::Closed = self.connection {
             return Ok(Came::Closed);
         }
-        let Ok(read) = came_of(self.stream.read_some(buffer)) else {
-            return Err(self.fail());
-        };
-        let came = self.count_read(read);
-        if let Came::Closed = came {
-            self.connection = Connection::Closed;
+        if self.is_over() {
+            return Ok(Came::Silence);
         }
-        Ok(came)
+        match self.read(buffer) {
+            Ok(came) => {
+                self.note(came);
+                Ok(came)
+            }
+            Err(fault) => Err(fault),
+        }
     }
 
     fn drop_waiting(&mut self) -> Result<(), WireFault>
@@ -240,6 +344,15 @@ impl<S: Duplex + Drop> Wire for StreamWire<S> {
     ghost fails_once = { λ w. counted_once w.connection };
 
     ghost tells = { λ _ _ _ _. refl };
+}
+
+// The waits of a line that is silent for this long at the end of a burst.
+fn waits_for(silence: Duration) -> Waits {
+    Waits {
+        read: silence,
+        reads: 1,
+        send: Duration::from_secs(SENDING),
+    }
 }
 
 // Reads what waits on a connection that doesn't wait, and says whether the other end has closed.

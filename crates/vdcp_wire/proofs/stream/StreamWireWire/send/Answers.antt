@@ -13,6 +13,7 @@ writes-preserved g c =
       connection = inv.connection;
       reads = inv.reads;
       left = inv.left;
+      answer = inv.answer;
     }
 
 pub returns-clause-sends_some : goal.returns-clause-sends_some

@@ -10,4 +10,5 @@ invariant-writes g l = record {
   connection : l.self.connection ≡ l.fn.self.connection;
   reads : l.self.reads ≡ l.fn.self.reads;
   left : l.self.left ≡ l.fn.self.left;
+  answer : l.self.answer ≡ l.fn.self.answer;
 }
