@@ -1,7 +1,8 @@
 //! A controller's state as plain data, taken between two calls and put back later.
-ghost use Rattle.std.specs.Prelude.{◌≡◌, ◌≤◌, ◌<◌, ◌↔◌, IsTrue, IsSome, IfSome, Some, length};
+ghost use Rattle.std.specs.Prelude.{ℕ, ◌≡◌, ◌≤◌, ◌<◌, ◌↔◌, IsTrue, IsSome, IfSome, Some, length};
 ghost use Rattle.vdcp_auto.specs.Bounds.{IsPhaseOf};
-ghost use Rattle.vdcp_auto.specs.Snapshots.{CanStand, view_of};
+ghost use Rattle.vdcp_auto.specs.Snapshots.{CanStand, state_in, view_of};
+ghost use Rattle.vdcp_auto.specs.Turn as turns;
 
 use crate::controller::Controller;
 use crate::outcome::Outcome;
@@ -31,6 +32,27 @@ pub struct Snapshot {
 }
 
 impl Snapshot {
+    /// What a new controller knows, whatever its list.
+    pub fn new(mode: Mode, port: u8, limit: u32) -> Snapshot
+        requires some { 1 ≤ limit }
+        requires few { limit ≤ 1000 }
+        ensures made { (result.mode ≡ mode) × (result.port ≡ port) × (result.limit ≡ limit) }
+        ensures start { state_in result ≡ turns.start }
+        ensures can { (count : ℕ) → CanStand count result }
+    {
+        Snapshot {
+            mode,
+            port,
+            limit,
+            standing: Standing::Ready(Phase::Open),
+            take: false,
+            stop: false,
+            unanswered: 0,
+            settled: 0,
+            tries: 0,
+        }
+    }
+
     /// Whether a controller over a list of this length can stand so.
     pub fn can_stand(&self, length: usize) -> bool
         ensures { IsTrue result ↔ CanStand length self.now }

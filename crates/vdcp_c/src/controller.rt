@@ -226,7 +226,7 @@ pub extern "C" fn vdcp_controller_new(
     if limit < 1 || limit > 1000 {
         return BAD_VALUE;
     }
-    put_snapshot(&new_snapshot(mode, port, limit), c);
+    put_snapshot(&Snapshot::new(mode, port, limit), c);
     OK
 }
 
@@ -247,27 +247,6 @@ pub fn code_of_mode(mode: Mode) -> u8
     match mode {
         Mode::Plain => 1,
         Mode::Confirming => 2,
-    }
-}
-
-// What a new controller knows.
-fn new_snapshot(mode: Mode, port: u8, limit: u32) -> Snapshot
-    requires some { 1 ≤ limit }
-    requires few { limit ≤ 1000 }
-    ensures made { (result.mode ≡ mode) × (result.port ≡ port) × (result.limit ≡ limit) }
-    ensures start { state_in result ≡ turns.start }
-    ensures can { (count : ℕ) → CanStand count result }
-{
-    Snapshot {
-        mode,
-        port,
-        limit,
-        standing: Standing::Ready(Phase::Open),
-        take: false,
-        stop: false,
-        unanswered: 0,
-        settled: 0,
-        tries: 0,
     }
 }
 

@@ -17,8 +17,7 @@ const REFUSED: Reply = Reply::Nak(0x01);
 /// play. It speaks only in answer.
 ///
 /// `answer`, `burst_answer` and `answer_into` bring in what the controller sends. `ready` and `ended`, or
-/// `frame` at each frame, bring in what the clips do. `start_anew` forgets all that came. `status_byte`,
-/// `unit` and `number` only look.
+/// `frame` at each frame, bring in what the clips do. `status_byte`, `unit` and `number` only look.
 ///
 /// ```text
 ///        OPEN          SELECT
@@ -167,13 +166,6 @@ impl<C: Catalogue> Port<C> {
         ensures { self.new ≡ after_ended self.old }
     {
         self.playing = None;
-    }
-
-    /// The port is as new, closed and with empty slots; its catalogue, unit, number and clock stay.
-    pub fn start_anew(&mut self)
-        ensures { self.new ≡ new_port self.old.clips self.old.state.unit self.old.state.number self.old.cue_frames }
-    {
-        (self.access, self.cued, self.playing) = (Access::Closed, None, None);
     }
 
     /// One frame passes at both slots. The answer is whether it was the last of the cue, which is then

@@ -6,17 +6,17 @@ use Rattle.vdcp_c.proofs.controller.vdcp_controller_new.Goals as goal
 
 pub returns-clause-new : goal.returns-clause-new
 returns-clause-new c _ rows =
-    let s = c.new_snapshot.result in (
+    let s = c.new.result in (
       plan_in (items_of rows) s,
       record {
         snapshot = s;
         stands = c.put_snapshot.ensures;
-        can = c.new_snapshot.ensures.can (length rows);
+        can = c.new.ensures.can (length rows);
         plan_is = refl;
-        state_is = sym c.new_snapshot.ensures.start;
+        state_is = sym c.new.ensures.start;
       },
-      ap mode_code c.new_snapshot.ensures.made.0 ∙ c.in-Some.ensures.some,
+      ap mode_code c.new.ensures.made.0 ∙ c.in-Some.ensures.some,
       refl,
-      c.new_snapshot.ensures.made.1,
-      c.new_snapshot.ensures.made.2,
+      c.new.ensures.made.1,
+      c.new.ensures.made.2,
     )
