@@ -218,12 +218,12 @@ impl<S: Source, E: Ear, W: Wire> Driver<S, E, W> {
     }
 }
 
-impl<S: Source + Drop, E: Ear + Drop, W: Wire> Driver<S, E, W> {
-    /// Its wire, for another driver.
-    pub fn into_wire(self) -> W
-        ensures { result ≡ self.wire }
+impl<S: Source + Drop, E: Ear, W: Wire> Driver<S, E, W> {
+    /// Its ear and its wire, for another driver.
+    pub fn into_parts(self) -> (E, W)
+        ensures { result ≡ (self.ear, self.wire) }
     {
-        self.wire
+        (self.ear, self.wire)
     }
 }
 
