@@ -8,15 +8,15 @@ use Rattle.vdcp_value.specs.declared.rate.Rate.{Rate}
 
 -- what the columns are, without and with those of a part
 abbrev pub timed_heading : Bool → FileRow
-timed_heading false = codes "number" ∷ codes "id" ∷ codes "played" ∷ codes "known" ∷ codes "ended" ∷ []
+timed_heading false = codes "number" ∷ codes "id" ∷ codes "played" ∷ codes "known" ∷ codes "ended" ∷ codes "end" ∷ []
 timed_heading true =
-    codes "number" ∷ codes "id" ∷ codes "start" ∷ codes "duration" ∷ codes "played" ∷ codes "known" ∷ codes "ended" ∷ []
+    codes "number" ∷ codes "id" ∷ codes "start" ∷ codes "duration" ∷ codes "played" ∷ codes "known" ∷ codes "ended" ∷ codes "end" ∷ []
 
--- an event's times, of which each is of some form
-abbrev pub times_of : {T : Type 0} → (played known ended : T → List ℕ) → T → FileRow
-times_of played known ended time = played time ∷ known time ∷ ended time ∷ []
+-- an event's times and its end, of which each is of some form
+abbrev pub times_of : {T : Type 0} → (played known ended end : T → List ℕ) → T → FileRow
+times_of played known ended end time = played time ∷ known time ∷ ended time ∷ end time ∷ []
 
--- an event's fields: those of the plain list, and its times
+-- an event's fields: those of the plain list, its times and its end
 abbrev pub timed_fields : Rate → Bool → Item → FileRow → FileRow
 timed_fields rate with_parts item times = item_row rate with_parts item ++ times
 

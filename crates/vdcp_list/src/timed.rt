@@ -15,13 +15,15 @@ use std::io::Write;
 use vdcp_auto::Source;
 use vdcp_value::{Item, Rate};
 
-/// The times of an event, as texts.
+/// The times of an event, and what its end was, as texts.
 pub trait Timed {
     ghost played: { Self → List ℕ };
 
     ghost known: { Self → List ℕ };
 
     ghost ended: { Self → List ℕ };
+
+    ghost end: { Self → List ℕ };
 
     /// When the event's last PLAY went out.
     fn played(&self) -> &[u8]
@@ -34,10 +36,14 @@ pub trait Timed {
     /// When its end was seen; empty if it wasn't.
     fn ended(&self) -> &[u8]
         ensures { result.now ≡ ended self.now };
+
+    /// What its end was.
+    fn end(&self) -> &[u8]
+        ensures { result.now ≡ end self.now };
 }
 
 /// Writes the row that goes before a timed as-run list of a source: what the columns are. They are those of `write_asrun`,
-/// and three more.
+/// and four more.
 pub fn write_timed_heading<S: Source, W: Write, A: Allocator>(
     alloc: A,
     source: &S,
@@ -55,8 +61,8 @@ pub fn write_timed_heading<S: Source, W: Write, A: Allocator>(
     write_out(writer, text.as_slice())
 }
 
-/// Writes the rows that `write_events` writes of as many events from event `from` on as there are `times`, with three
-/// columns more: the event's times.
+/// Writes the rows that `write_events` writes of as many events from event `from` on as there are `times`, with four
+/// columns more: the event's times, and what its end was.
 pub fn write_timed_events<S: Source, T: Timed, W: Write, A: Allocator>(
     alloc: A,
     source: &S,
@@ -67,12 +73,12 @@ pub fn write_timed_events<S: Source, T: Timed, W: Write, A: Allocator>(
 ) -> Result<(), WriteFault>
     requires { from + length times.now ≤ length (S.items source.now) }
     ensures ok { OnOk result (Appends (W.contents writer.old) (W.contents writer.new)
-        (timed_rows (times_of T.played T.known T.ended) rate (has_part (S.items source.now)) from (drop from (S.items source.now))
+        (timed_rows (times_of T.played T.known T.ended T.end) rate (has_part (S.items source.now)) from (drop from (S.items source.now))
         times.now)) }
     ensures kept { IfErr result (λ fault. fault ≢ Device → Keeps (W.contents writer.old) (W.contents writer.new)) }
     ensures beginning { IfErr result (λ fault. fault ≡ Device
         → AppendsBeginning (W.contents writer.old) (W.contents writer.new)
-        (timed_rows (times_of T.played T.known T.ended) rate (has_part (S.items source.now)) from (drop from (S.items source.now))
+        (timed_rows (times_of T.played T.known T.ended T.end) rate (has_part (S.items source.now)) from (drop from (S.items source.now))
         times.now)) }
 {
     let end = from + times.len();
@@ -107,7 +113,7 @@ fn timed_text<'a, S: Source, T: Timed, A: Allocator>(
     requires within { from + length times.now ≤ length (S.items source.now) }
     requires lawful { IsTrue (are_lawful rate (take (from + length times.now) (S.items source.now))) }
     ensures text { IfOk result (λ text. text.items
-        ≡ timed_rows (times_of T.played T.known T.ended) rate with_parts from (drop from (S.items source.now)) times.now) }
+        ≡ timed_rows (times_of T.played T.known T.ended T.end) rate with_parts from (drop from (S.items source.now)) times.now) }
     ensures memory { IfErr result (λ fault. fault ≡ WriteFault.Memory) }
 {
     let mut rows = WriterBuilder::new().from_writer(Vec::new(alloc));
@@ -141,7 +147,7 @@ fn write_rows<S: Source, T: Timed, A: Allocator>(
     requires clean { has_written rows.old ≡ false }
     requires empty { text_written (λ text. Some text.items) rows.old ≡ Some [] }
     ensures { IsTrue result → text_written (λ text. Some text.items) rows.new ≡ Some
-        (timed_rows (times_of T.played T.known T.ended) rate with_parts from (drop from (S.items source.now)) times.now) }
+        (timed_rows (times_of T.played T.known T.ended T.end) rate with_parts from (drop from (S.items source.now)) times.now) }
 {
     for k in 0..times.len() {
         if show_number(from + k, number).is_err() {
@@ -176,9 +182,10 @@ fn write_heading<W: Write + Drop>(rows: &mut Writer<W>, with_parts: bool) -> Res
             b"played",
             b"known",
             b"ended",
+            b"end",
         ]);
     }
-    rows.write_fields(&[b"number", b"id", b"played", b"known", b"ended"])
+    rows.write_fields(&[b"number", b"id", b"played", b"known", b"ended", b"end"])
 }
 
 /// Writes the row of an event.
@@ -195,7 +202,7 @@ fn write_event<T: Timed, W: Write + Drop>(
     requires ended { fields_written rows.old ≡ 0 }
     requires clean { has_written rows.old ≡ false }
     ensures text { OnOk result (Appends (text_written W.contents rows.old) (text_written W.contents rows.new)
-        (row_text default_writer (number.now ∷ timed_fields rate with_parts item.now (times_of T.played T.known T.ended time.now)))) }
+        (row_text default_writer (number.now ∷ timed_fields rate with_parts item.now (times_of T.played T.known T.ended T.end time.now)))) }
     ensures setup { OnOk result (writer_setup rows.new ≡ default_writer) }
     ensures ended { OnOk result (fields_written rows.new ≡ 0) }
     ensures clean { OnOk result (has_written rows.new ≡ false) }
@@ -209,6 +216,7 @@ fn write_event<T: Timed, W: Write + Drop>(
             time.played(),
             time.known(),
             time.ended(),
+            time.end(),
         ]);
     }
     let mut start = ArrayString::new();
@@ -222,5 +230,6 @@ fn write_event<T: Timed, W: Write + Drop>(
         time.played(),
         time.known(),
         time.ended(),
+        time.end(),
     ])
 }

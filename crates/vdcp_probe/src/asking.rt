@@ -1,85 +1,152 @@
-//! How one burst is sent, and what comes for it collected, also too late.
+//! One exchange with a server: how a burst is sent, and what comes for it collected, also too late.
 ghost use Rattle.std.specs.Prelude.{◌≡◌, IfOk, OnOk};
-ghost use Rattle.vdcp_wire.specs.Wires.{FitsBuffer};
+ghost use Rattle.vdcp_wire.specs.Streams.{failures_of};
 
 use std::alloc::Global;
+use std::net::{Net, SocketAddr, SocketAddrV4};
+use std::rt::Clock;
+use std::time::Duration;
+use vdcp_frame::LIMIT;
 use vdcp_text::Failure;
-use vdcp_wire::{Came, PIECE, Wire};
+use vdcp_wire::{Came, PIECE, StreamWire, Wire};
 
-/// The most listens to one answer: a server that goes on sending can't hold a probe up.
-const MOST_LISTENS: u32 = 1_000;
+/// How often a server that answers nothing is asked.
+const MOST_ASKS: u32 = 3;
 
-/// Drops what waits on the wire, sends a burst, and gives what comes until the line is silent. `LineFailed`, and
-/// `LineClosed` if the other end has closed; `Spent` if after 1,000 listens bytes still come; `Memory`.
-pub fn ask<W: Wire>(alloc: Global, burst: &[u8], wire: &mut W) -> Result<Vec<u8>, Failure<'static>>
-    requires { W.failures wire.old ≡ 0 }
-    ensures works { OnOk result (W.failures wire.new ≡ 0) }
-{
-    send(burst, wire)?;
-    hear(alloc, wire)
+/// How many silences after a burst its answer is taken for ended, also if bytes still come.
+const MOST_SILENCES: u64 = 16;
+
+/// Asks a server over a wire.
+#[derive(Drop)]
+pub struct Asker<'a, R: Clock, W: Wire> {
+    rt: &'a R,
+    pub wire: W,
+    // How long an answer may take.
+    patience: Duration,
 }
 
-// Drops what waits, and sends a burst.
-fn send<W: Wire>(burst: &[u8], wire: &mut W) -> Result<(), Failure<'static>>
-    requires { W.failures wire.old ≡ 0 }
-    ensures works { OnOk result (W.failures wire.new ≡ 0) }
-{
-    if wire.drop_waiting().is_err() {
-        return Err(Failure::LineFailed);
-    }
-    match wire.send(burst) {
-        Ok(()) => Ok(()),
-        Err(_) => Err(Failure::LineFailed),
-    }
+/// What came for a burst.
+#[derive(Drop)]
+pub struct Answer {
+    /// As much of it as a reader reads, and a piece more.
+    pub bytes: Vec<u8>,
+    /// The line was silent then: else bytes still came after 16 silences.
+    pub has_ended: bool,
 }
 
-/// Drops what comes until the line was silent twice, and says whether something came. The same faults.
-pub fn settle<W: Wire>(alloc: Global, wire: &mut W) -> Result<bool, Failure<'static>>
-    requires { W.failures wire.old ≡ 0 }
-    ensures works { OnOk result (W.failures wire.new ≡ 0) }
-{
-    let soon = hear(alloc, wire)?;
-    let late = hear(alloc, wire)?;
-    Ok(!soon.is_empty() || !late.is_empty())
-}
-
-// Gives what comes until the line is silent.
-fn hear<W: Wire>(alloc: Global, wire: &mut W) -> Result<Vec<u8>, Failure<'static>>
-    requires { W.failures wire.old ≡ 0 }
-    ensures works { OnOk result (W.failures wire.new ≡ 0) }
-{
-    let mut came = Vec::new(alloc);
-    'listens: for _ in 0..MOST_LISTENS {
-        if hear_piece(&mut came, wire)? {
-            return Ok(came);
+impl Answer {
+    /// Its bytes. `Spent` if it hasn't ended.
+    pub fn whole(self) -> Result<Vec<u8>, Failure<'static>> {
+        if self.has_ended {
+            Ok(self.bytes)
+        } else {
+            Err(Failure::Spent)
         }
     }
-    Err(Failure::Spent)
 }
 
-// Appends the next bytes that come, and says whether the line was silent instead.
-fn hear_piece<W: Wire>(came: &mut Vec<u8>, wire: &mut W) -> Result<bool, Failure<'static>>
-    requires { W.failures wire.old ≡ 0 }
-    ensures works { OnOk result (W.failures wire.new ≡ 0) }
-{
-    let mut buffer = [0; PIECE];
-    match listen(&mut buffer, wire)? {
-        Came::Bytes(n) => {
-            came.extend_from_slice(&buffer[..n])?;
-            Ok(false)
+impl<'a, R: Net + Clock + AllocGlobal> Asker<'a, R, StreamWire<R::Stream>> {
+    /// Connects to the server at an address. An answer has ended once nothing came for this many milliseconds.
+    pub fn connect(rt: &'a R, address: SocketAddrV4, silence: u32) -> Result<Self, Failure<'static>>
+        ensures { IfOk result (λ asker. failures_of asker.wire.connection ≡ 0) }
+    {
+        let Ok(stream) = rt.connect(SocketAddr::V4(address)) else {
+            return Err(Failure::Connect);
+        };
+        let silence = u64::from(silence);
+        match StreamWire::new(stream, Duration::from_millis(silence)) {
+            Ok(wire) => Ok(Asker {
+                rt,
+                wire,
+                patience: Duration::from_millis(silence * MOST_SILENCES),
+            }),
+            Err(_) => Err(Failure::LineFailed),
         }
-        Came::Silence => Ok(true),
-        Came::Closed => Err(Failure::LineClosed),
     }
 }
 
-fn listen<W: Wire>(buffer: &mut [u8; PIECE], wire: &mut W) -> Result<Came, Failure<'static>>
-    requires { W.failures wire.old ≡ 0 }
-    ensures fits { IfOk result FitsBuffer }
-    ensures works { OnOk result (W.failures wire.new ≡ 0) }
-{
-    match wire.listen(buffer) {
-        Ok(came) => Ok(came),
-        Err(_) => Err(Failure::LineFailed),
+impl<'a, R: Clock + AllocGlobal, W: Wire> Asker<'a, R, W> {
+    pub fn alloc(&self) -> Global {
+        self.rt.alloc()
+    }
+
+    /// Asks until something comes. `Unanswered` if three times nothing did; the faults of `ask`.
+    pub fn ask_again(&mut self, burst: &[u8]) -> Result<Answer, Failure<'static>>
+        requires { W.failures self.old.wire ≡ 0 }
+        ensures works { OnOk result (W.failures self.new.wire ≡ 0) }
+    {
+        'asks: for _ in 0..MOST_ASKS {
+            let answer = self.ask(burst)?;
+            if !answer.bytes.is_empty() {
+                return Ok(answer);
+            }
+        }
+        Err(Failure::Unanswered)
+    }
+
+    /// Drops what waits on the wire, sends a burst, and gives what comes until the line is silent, or for 16 silences.
+    /// `LineFailed`, and `LineClosed` if the other end has closed; `Memory`.
+    pub fn ask(&mut self, burst: &[u8]) -> Result<Answer, Failure<'static>>
+        requires { W.failures self.old.wire ≡ 0 }
+        ensures works { OnOk result (W.failures self.new.wire ≡ 0) }
+    {
+        if self.wire.drop_waiting().is_err() || self.wire.send(burst).is_err() {
+            return Err(Failure::LineFailed);
+        }
+        self.hear()
+    }
+
+    /// Drops what comes until the line was silent twice, and says whether something came. The same faults, and `Spent`.
+    pub fn settle(&mut self) -> Result<bool, Failure<'static>>
+        requires { W.failures self.old.wire ≡ 0 }
+        ensures works { OnOk result (W.failures self.new.wire ≡ 0) }
+    {
+        let soon = self.hear()?.whole()?;
+        let late = self.hear()?.whole()?;
+        Ok(!soon.is_empty() || !late.is_empty())
+    }
+
+    // What comes until the line is silent, or for 16 silences.
+    fn hear(&mut self) -> Result<Answer, Failure<'static>>
+        requires { W.failures self.old.wire ≡ 0 }
+        ensures works { OnOk result (W.failures self.new.wire ≡ 0) }
+    {
+        let mut bytes = Vec::new(self.alloc());
+        let end = self.now().saturating_add(self.patience);
+        'listens: for _ in 0..u64::MAX {
+            if self.hear_piece(&mut bytes)? {
+                let has_ended = true;
+                return Ok(Answer { bytes, has_ended });
+            }
+            if end <= self.now() {
+                break;
+            }
+        }
+        let has_ended = false;
+        Ok(Answer { bytes, has_ended })
+    }
+
+    // Appends the next bytes that come, and says whether the line was silent instead. What is read no further isn't kept.
+    fn hear_piece(&mut self, bytes: &mut Vec<u8>) -> Result<bool, Failure<'static>>
+        requires { W.failures self.old.wire ≡ 0 }
+        ensures works { OnOk result (W.failures self.new.wire ≡ 0) }
+    {
+        let mut buffer = [0; PIECE];
+        match self.wire.listen(&mut buffer) {
+            Ok(Came::Bytes(n)) => {
+                if bytes.len() <= LIMIT {
+                    bytes.extend_from_slice(&buffer[..n])?;
+                }
+                Ok(false)
+            }
+            Ok(Came::Silence) => Ok(true),
+            Ok(Came::Closed) => Err(Failure::LineClosed),
+            Err(_) => Err(Failure::LineFailed),
+        }
+    }
+
+    // By a clock that stands still if it can't be read.
+    fn now(&self) -> Duration {
+        self.rt.monotonic().unwrap_or(Duration::ZERO)
     }
 }

@@ -5,24 +5,18 @@ ghost use Rattle.vdcp_files.specs.Files.{file};
 ghost use Rattle.vdcp_list.specs.List.{items_of};
 ghost use Rattle.vdcp_probe.specs.Inventory.{IsAsked, IsCheckedBy};
 
-use crate::asking::ask;
-use crate::bounded::Bounded;
-use std::alloc::Global;
+use crate::asking::Asker;
 use std::io;
-use std::net::{Net, OpenStream, SocketAddr};
+use std::net::Net;
 use std::rt::Clock;
-use std::time::Duration;
 use vdcp_auto::{Heard, Source};
 use vdcp_files::{NamedFile, write_findings};
 use vdcp_frame::Messages;
 use vdcp_list::{List, Table};
 use vdcp_text::{Failure, ItemText};
 use vdcp_value::{ClipId, Item, Rate, Timecode};
-use vdcp_wire::{StreamWire, Wire, address_of};
+use vdcp_wire::{Wire, address_of};
 use vdcp_words::{Command, Reply};
-
-/// How often a server that doesn't answer is asked.
-const MOST_ASKS: u32 = 3;
 
 /// What a server is asked with.
 #[derive(Clone, Copy, Debug, PartialEq, Eq)]
@@ -31,7 +25,8 @@ pub struct AskSettings {
     pub unit: u8,
     /// The frame rate of time codes.
     pub rate: Rate,
-    /// How long the line has to be silent for an answer to have ended, in milliseconds, 1 to 60,000.
+    /// How long the line has to be silent for an answer to have ended, in milliseconds, 1 to 60,000. It has also ended
+    /// once bytes have come for 16 times as long.
     pub silence: u32,
 }
 
@@ -72,8 +67,7 @@ impl AskFault<'_> {
 ///
 /// The status is 0 if each event can be played, and 1 if one can't, or if a row of the list is refused. It is 2
 /// if the address is none, which is tested first; and 3 if the list can't be read, memory was refused, nobody takes
-/// the connection, it is closed or fails, a clip's answer never comes, doesn't end, or says neither yes nor no, or a
-/// writer failed. For each of these but the last `err` gets a line.
+/// the connection, it is closed or fails, a clip's answer never comes or says neither yes nor no, or a writer failed. For each of these but the last `err` gets a line.
 pub fn do_ask<R: Net + Clock + AllocGlobal, L: io::Read + Drop, W: io::Write, E: io::Write>(
     rt: &R,
     address: &str,
@@ -111,55 +105,26 @@ fn ask_at<'a, R: Net + Clock + AllocGlobal, L: io::Read + Drop, W: io::Write>(
         return Err(AskFault::Failed(Failure::Address));
     };
     let events = list.read_list(rt.alloc(), settings.rate)?;
-    let Ok(stream) = rt.connect(SocketAddr::V4(address)) else {
-        return Err(AskFault::Failed(Failure::Connect));
-    };
-    ask_connected(rt, &events, stream, settings, out)
+    let mut asker = Asker::connect(rt, address, settings.silence)?;
+    ask_events(&events, settings, &mut asker, out)
 }
 
-// So over a connection, on which bytes may come without end.
-fn ask_connected<
-    'a,
-    R: Clock + AllocGlobal,
-    T: io::Read + io::Write + OpenStream + Drop,
-    W: io::Write,
->(
-    rt: &R,
-    events: &List,
-    stream: T,
-    settings: AskSettings,
-    out: &mut W,
-) -> Result<bool, AskFault<'a>>
-    requires { settings.unit ≤ 15 }
-    ensures { IfOk result (IsCheckedBy (items_of events.now) (W.contents out.old) (W.contents out.new)) }
-{
-    let silence = Duration::from_millis(u64::from(settings.silence));
-    match StreamWire::new(stream, silence) {
-        Ok(wire) => {
-            let mut wire = Bounded::new(wire, rt, settings.silence);
-            ask_events(rt.alloc(), events, settings, &mut wire, out)
-        }
-        Err(_) => Err(AskFault::Failed(Failure::LineFailed)),
-    }
-}
-
-// Asks over a wire for the clips of all events, and writes what was found.
-fn ask_events<'a, S: Source, T: Wire, W: io::Write>(
-    alloc: Global,
+// Asks for the clips of all events, and writes what was found.
+fn ask_events<'a, S: Source, R: Clock + AllocGlobal, T: Wire, W: io::Write>(
     events: &S,
     settings: AskSettings,
-    wire: &mut T,
+    asker: &mut Asker<'_, R, T>,
     out: &mut W,
 ) -> Result<bool, AskFault<'a>>
     requires unit { settings.unit ≤ 15 }
-    requires works { T.failures wire.old ≡ 0 }
+    requires works { T.failures asker.old.wire ≡ 0 }
     ensures { IfOk result (IsCheckedBy (S.items events.now) (W.contents out.old) (W.contents out.new)) }
 {
-    let mut clips = Table::new(alloc);
+    let mut clips = Table::new(asker.alloc());
     for k in 0..events.len() {
         let id = events.at(k).id;
         if is_first(events, k, id)
-            && let Some(length) = length_at(alloc, id, settings, wire)?
+            && let Some(length) = length_at(id, settings, asker)?
         {
             if clips.add(id, length).is_err() {
                 return Err(AskFault::Failed(Failure::Memory));
@@ -185,22 +150,21 @@ fn is_first<S: Source>(events: &S, k: usize, id: ClipId) -> bool
 }
 
 // How long a clip is, by what the server says; None if it hasn't got it.
-fn length_at<'a, T: Wire>(
-    alloc: Global,
+fn length_at<'a, R: Clock + AllocGlobal, T: Wire>(
     id: ClipId,
     settings: AskSettings,
-    wire: &mut T,
+    asker: &mut Asker<'_, R, T>,
 ) -> Result<Option<Timecode>, AskFault<'a>>
     requires unit { settings.unit ≤ 15 }
-    requires works { T.failures wire.old ≡ 0 }
-    ensures works { OnOk result (T.failures wire.new ≡ 0) }
+    requires works { T.failures asker.old.wire ≡ 0 }
+    ensures works { OnOk result (T.failures asker.new.wire ≡ 0) }
 {
-    match reply_to(alloc, Command::IdRequest(id), settings.unit, wire)? {
+    match reply_to(Command::IdRequest(id), settings.unit, asker)? {
         Some(Reply::Present(false)) => return Ok(None),
         Some(Reply::Present(true)) => {}
         _ => return Err(AskFault::Answer(settings.rate, id)),
     }
-    match reply_to(alloc, Command::IdSize(id), settings.unit, wire)? {
+    match reply_to(Command::IdSize(id), settings.unit, asker)? {
         Some(Reply::Size(bytes)) => match Timecode::from_bcd(settings.rate, bytes) {
             Ok(length) => Ok(Some(length)),
             Err(_) => Err(AskFault::Answer(settings.rate, id)),
@@ -209,25 +173,18 @@ fn length_at<'a, T: Wire>(
     }
 }
 
-// The first reply that comes to a command, if what comes begins with one. The command goes out until something comes.
-fn reply_to<T: Wire>(
-    alloc: Global,
+// The first reply that comes to a command, if what comes begins with one.
+fn reply_to<R: Clock + AllocGlobal, T: Wire>(
     command: Command,
     unit: u8,
-    wire: &mut T,
+    asker: &mut Asker<'_, R, T>,
 ) -> Result<Option<Reply>, Failure<'static>>
     requires unit { unit ≤ 15 }
-    requires works { T.failures wire.old ≡ 0 }
-    ensures works { OnOk result (T.failures wire.new ≡ 0) }
+    requires works { T.failures asker.old.wire ≡ 0 }
+    ensures works { OnOk result (T.failures asker.new.wire ≡ 0) }
 {
-    let burst = command.encode(unit);
-    'asks: for _ in 0..MOST_ASKS {
-        let came = ask(alloc, &burst, wire)?;
-        if !came.is_empty() {
-            return Ok(first_reply(came.as_slice(), unit));
-        }
-    }
-    Err(Failure::Unanswered)
+    let answer = asker.ask_again(&command.encode(unit))?;
+    Ok(first_reply(answer.bytes.as_slice(), unit))
 }
 
 // The reply of a unit that a burst begins with, if it begins with one.

@@ -1,17 +1,16 @@
 //! The subcommands `probe` and `ask`: does a server's port keep the port's table, on which as-run lists rest, and does it
 //! have the clips of a list?
 //!
-//! `do_probe` puts rows of the table to a server over TCP, `probe_rows` over any `Wire`. `rows` gives the rows of the
-//! program. A `Row` brings the port to a `Start`, and then takes its `Step`s. Each burst that a step sends is
-//! also given to a `Follower`, a port of `vdcp_port`, and `hold_answer` holds what comes against what that may answer,
-//! whatever got done or ended by itself before the burst.
+//! `do_ask` asks for the clips of a list. `do_probe` puts `rows` of the table. A `Row` brings the port to a `Start`, and then
+//! takes its `Step`s. Each burst that a step sends is also given to a `Follower`, a port of `vdcp_port`, and `hold_answer`
+//! holds what comes against what that may answer, whatever got done or ended by itself before the burst. Both ask by an
+//! `Asker`, whose answers end at last: by a silence, or by the clock.
 //!
 //! Files, in reading order: `row`, `table`, `naming`, `asking`, `follower`, `walk`, `reading`, `report`, `settings`,
-//! `probe`, `bounded`, `inventory`.
+//! `probe`, `inventory`.
 #![tactic(auto)]
 
 mod asking;
-mod bounded;
 mod follower;
 mod inventory;
 mod naming;
@@ -25,10 +24,7 @@ mod walk;
 
 pub use follower::Follower;
 pub use inventory::{AskSettings, do_ask};
-pub use naming::Naming;
-pub use probe::{do_probe, probe_rows};
-pub use report::{Cause, Difference, Told};
-pub use row::{Ask, Awaited, Clip, Group, Number, Row, Start, Step};
+pub use probe::do_probe;
+pub use report::{Cause, Difference};
 pub use settings::{Only, ProbeSettings};
-pub use table::rows;
 pub use walk::hold_answer;

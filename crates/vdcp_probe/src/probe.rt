@@ -1,28 +1,23 @@
 //! The subcommand `probe`: rows are put to a server, one after another.
-ghost use Rattle.std.specs.Io.KnownBytes.{Appends};
-ghost use Rattle.std.specs.List.{flat_map};
-ghost use Rattle.std.specs.Prelude.{◌≡◌, ◌==◌, ◌≤◌, ◌∷◌, ◌++◌, [], ℕ, IfOk, List, OnOk, Option, if◌then◌else◌};
-ghost use Rattle.vdcp_probe.specs.Told.{counts_text, differing_in, probed_text, told_text};
+ghost use Rattle.std.specs.Prelude.{◌≡◌, ◌≤◌, IfOk, OnOk};
 
-use crate::asking::{ask, settle};
+use crate::asking::Asker;
 use crate::naming::Naming;
 use crate::report::{Told, differing_in, write_counts, write_hints, write_told};
 use crate::row::{Ask, Row};
-use crate::settings::ProbeSettings;
+use crate::settings::{Only, ProbeSettings};
+use crate::table::rows;
 use crate::walk::walk_row;
-use std::alloc::{AllocError, Global};
+use std::alloc::Global;
 use std::io;
-use std::net::{Net, OpenStream, SocketAddr};
-use std::time::Duration;
+use std::net::Net;
+use std::rt::Clock;
 use vdcp_files::NamedFile;
 use vdcp_list::Table;
 use vdcp_port::Catalogue;
 use vdcp_text::{Failure, NameText};
 use vdcp_value::ClipId;
-use vdcp_wire::{StreamWire, Wire, address_of};
-
-/// How often a server that answers nothing is asked.
-const MOST_ASKS: u32 = 3;
+use vdcp_wire::{Wire, address_of};
 
 /// How often a row that differs is put again at most, and how often rows are in vain: a server that is wrong in most rows
 /// isn't asked several times for all of them.
@@ -81,12 +76,11 @@ impl ProbeFault<'_> {
 /// The status is 0 if no row differs, and 1 if one does, if a row of the catalogue is refused, and if
 /// it has fewer than two clips. It is 2 if the port may not be stopped, and if the address is none, which is
 /// tested next; and 3 if the catalogue can't be read, memory was refused, nobody takes the connection, it is closed
-/// or fails, nothing is ever answered, an answer doesn't end, or a writer failed. For each of these but the last `err` gets a line.
-pub fn do_probe<R: Net + AllocGlobal, C: io::Read + Drop, W: io::Write, E: io::Write>(
+/// or fails, nothing is ever answered, bytes still come 16 silences after a burst, or a writer failed. For each of these but the last `err` gets a line.
+pub fn do_probe<R: Net + Clock + AllocGlobal, C: io::Read + Drop, W: io::Write, E: io::Write>(
     rt: &R,
     address: &str,
     catalogue: NamedFile<'_, C>,
-    rows: &[Row],
     settings: ProbeSettings,
     out: &mut W,
     err: &mut E,
@@ -94,27 +88,20 @@ pub fn do_probe<R: Net + AllocGlobal, C: io::Read + Drop, W: io::Write, E: io::W
     requires { settings.unit ≤ 15 }
     ensures statuses { result ≤ 3 }
 {
-    match probe(rt, address, catalogue, rows, settings, out) {
+    match probe(rt, address, catalogue, settings, out) {
         Ok(told) => match write_hints(told.as_slice(), err) {
-            Ok(()) => status_for(told.as_slice()),
+            Ok(()) if differing_in(told.as_slice()) == 0 => 0,
+            Ok(()) => 1,
             Err(_) => 3,
         },
         Err(fault) => fault.report(err),
     }
 }
 
-// The status if all rows were put.
-fn status_for(told: &[Told]) -> u8
-    ensures { result ≡ (if differing_in told.now == 0 then 0 else 1) }
-{
-    if differing_in(told) == 0 { 0 } else { 1 }
-}
-
-fn probe<'a, R: Net + AllocGlobal, C: io::Read + Drop, W: io::Write>(
+fn probe<'a, R: Net + Clock + AllocGlobal, C: io::Read + Drop, W: io::Write>(
     rt: &R,
     address: &str,
     catalogue: NamedFile<'a, C>,
-    rows: &[Row],
     settings: ProbeSettings,
     out: &mut W,
 ) -> Result<Vec<Told>, ProbeFault<'a>>
@@ -127,10 +114,16 @@ fn probe<'a, R: Net + AllocGlobal, C: io::Read + Drop, W: io::Write>(
         return Err(ProbeFault::Failed(Failure::Address));
     };
     let (clips, naming) = read_clips(rt.alloc(), catalogue, settings)?;
-    let Ok(stream) = rt.connect(SocketAddr::V4(address)) else {
-        return Err(ProbeFault::Failed(Failure::Connect));
-    };
-    Ok(probe_connected(rt.alloc(), &clips, &naming, rows, stream, settings, out)?)
+    let rows = rows(rt.alloc())?;
+    let mut asker = Asker::connect(rt, address, settings.silence)?;
+    Ok(probe_rows(
+        &clips,
+        &naming,
+        rows.as_slice(),
+        settings.only,
+        &mut asker,
+        out,
+    )?)
 }
 
 // Reads the catalogue, and what the commands name of it.
@@ -158,105 +151,68 @@ fn read_clips<'a, C: io::Read + Drop>(
     Ok((clips, naming))
 }
 
-fn probe_connected<T: io::Read + io::Write + OpenStream + Drop, C: Catalogue, W: io::Write>(
-    alloc: Global,
+// Asks a server for its state until it answers, and puts those rows to it that `only` has. Writes what is found of each, and then
+// the counts.
+fn probe_rows<C: Catalogue, R: Clock + AllocGlobal, T: Wire, W: io::Write>(
     clips: &C,
     naming: &Naming,
     rows: &[Row],
-    stream: T,
-    settings: ProbeSettings,
-    out: &mut W,
-) -> Result<Vec<Told>, Failure<'static>>
-    requires { naming.now.unit ≤ 15 }
-{
-    let silence = Duration::from_millis(u64::from(settings.silence));
-    match StreamWire::new(stream, silence) {
-        Ok(mut wire) => probe_rows(alloc, clips, naming, rows, settings, &mut wire, out),
-        Err(_) => Err(Failure::LineFailed),
-    }
-}
-
-/// Asks a server over a wire for its state until it answers, and puts those of the rows that `settings.only` has to it.
-/// Writes what is found of each, and then the counts. `Unanswered` if nothing came. Of the settings nothing else counts: the port is asked as `naming` says, and is stopped.
-pub fn probe_rows<C: Catalogue, T: Wire, W: io::Write>(
-    alloc: Global,
-    clips: &C,
-    naming: &Naming,
-    rows: &[Row],
-    settings: ProbeSettings,
-    wire: &mut T,
+    only: Only,
+    asker: &mut Asker<'_, R, T>,
     out: &mut W,
 ) -> Result<Vec<Told>, Failure<'static>>
     requires unit { naming.now.unit ≤ 15 }
-    requires works { T.failures wire.old ≡ 0 }
-    ensures printed { IfOk result (λ told. Appends (W.contents out.old) (W.contents out.new) (probed_text told.items)) }
+    requires works { T.failures asker.old.wire ≡ 0 }
 {
-    test_answers(alloc, naming, wire)?;
-    let mut all = Vec::new(alloc);
+    test_answers(naming, asker)?;
+    let mut all = Vec::new(asker.alloc());
     let mut spare = MOST_IN_VAIN;
     for k in 0..rows.len() {
         let row = &rows[k];
-        if settings.only.has(row.group) {
-            put_row(alloc, clips, naming, row, &mut spare, wire, out, &mut all)?;
+        if only.has(row.group) {
+            put_row(clips, naming, row, &mut spare, asker, out, &mut all)?;
         }
     }
-    match write_end(all.as_slice(), out) {
-        Ok(()) => Ok(all),
-        Err(_) => Err(Failure::Writer),
+    if write_counts(all.as_slice(), out).is_err() || out.flush().is_err() {
+        return Err(Failure::Writer);
     }
+    Ok(all)
 }
 
 // Asks for the state until something comes.
-fn test_answers<T: Wire>(
-    alloc: Global,
+fn test_answers<R: Clock + AllocGlobal, T: Wire>(
     naming: &Naming,
-    wire: &mut T,
+    asker: &mut Asker<'_, R, T>,
 ) -> Result<(), Failure<'static>>
     requires unit { naming.now.unit ≤ 15 }
-    requires works { T.failures wire.old ≡ 0 }
-    ensures works { OnOk result (T.failures wire.new ≡ 0) }
+    requires works { T.failures asker.old.wire ≡ 0 }
+    ensures works { OnOk result (T.failures asker.new.wire ≡ 0) }
 {
-    let mut status = Vec::new(alloc);
+    let mut status = Vec::new(asker.alloc());
     naming.add_ask(&Ask::Status(0x01), &mut status)?;
-    'asks: for _ in 0..MOST_ASKS {
-        if !ask(alloc, status.as_slice(), wire)?.is_empty() {
-            return Ok(());
-        }
-    }
-    Err(Failure::Unanswered)
+    asker.ask_again(status.as_slice())?.whole()?;
+    Ok(())
 }
 
 // Puts a row, writes what is found of it, and adds that.
-fn put_row<C: Catalogue, T: Wire, W: io::Write>(
-    alloc: Global,
+fn put_row<C: Catalogue, R: Clock + AllocGlobal, T: Wire, W: io::Write>(
     clips: &C,
     naming: &Naming,
     row: &Row,
     spare: &mut u32,
-    wire: &mut T,
+    asker: &mut Asker<'_, R, T>,
     out: &mut W,
     all: &mut Vec<Told>,
 ) -> Result<(), Failure<'static>>
     requires unit { naming.now.unit ≤ 15 }
-    requires works { T.failures wire.old ≡ 0 }
-    ensures works { OnOk result (T.failures wire.new ≡ 0) }
-    // What was printed before, of the rows before, goes on with this one.
-    ensures printed { OnOk result ((start : Option (List ℕ)) →
-        Appends start (W.contents out.old) (flat_map told_text all.old.items) →
-        Appends start (W.contents out.new) (flat_map told_text all.new.items)) }
+    requires works { T.failures asker.old.wire ≡ 0 }
+    ensures works { OnOk result (T.failures asker.new.wire ≡ 0) }
 {
-    let first = walk_row(alloc, clips, naming, row, wire)?;
+    let first = walk_row(clips, naming, row, asker)?;
     let again = match &first {
         Some(difference) => {
-            is_kept_again(
-                alloc,
-                clips,
-                naming,
-                row,
-                difference.may_be_late(),
-                spare,
-                wire,
-            )?
+            let is_late = difference.may_be_late();
+            is_kept_again(clips, naming, row, is_late, spare, asker)?
         }
         None => false,
     };
@@ -267,60 +223,40 @@ fn put_row<C: Catalogue, T: Wire, W: io::Write>(
         differs,
         again,
     };
-    if write_flushed(&told, out).is_err() {
+    if write_told(&told, out).is_err() || out.flush().is_err() {
         return Err(Failure::Writer);
     }
-    add(told, all)?;
+    if all.push(told).is_err() {
+        return Err(Failure::Memory);
+    }
     Ok(())
 }
 
 // Puts a row that differs again as long as something may have come too late: whether it is kept then. It isn't put in vain
 // more often than is spare.
-fn is_kept_again<C: Catalogue, T: Wire>(
-    alloc: Global,
+fn is_kept_again<C: Catalogue, R: Clock + AllocGlobal, T: Wire>(
     clips: &C,
     naming: &Naming,
     row: &Row,
     is_late: bool,
     spare: &mut u32,
-    wire: &mut T,
+    asker: &mut Asker<'_, R, T>,
 ) -> Result<bool, Failure<'static>>
     requires unit { naming.now.unit ≤ 15 }
-    requires works { T.failures wire.old ≡ 0 }
-    ensures works { OnOk result (T.failures wire.new ≡ 0) }
+    requires works { T.failures asker.old.wire ≡ 0 }
+    ensures works { OnOk result (T.failures asker.new.wire ≡ 0) }
 {
     let mut may_be_late = is_late;
     'tries: for _ in 0..MOST_AGAIN {
-        let has_come_late = settle(alloc, wire)?;
+        let has_come_late = asker.settle()?;
         if *spare == 0 || !(has_come_late || may_be_late) {
             return Ok(false);
         }
-        match walk_row(alloc, clips, naming, row, wire)? {
+        match walk_row(clips, naming, row, asker)? {
             Some(difference) => may_be_late = difference.may_be_late(),
             None => return Ok(true),
         }
         *spare -= 1;
     }
     Ok(false)
-}
-
-fn add(told: Told, all: &mut Vec<Told>) -> Result<(), AllocError>
-    ensures { OnOk result (all.new.items ≡ all.old.items ++ told ∷ []) }
-{
-    all.push(told)?;
-    Ok(())
-}
-
-fn write_flushed<W: io::Write>(told: &Told, out: &mut W) -> io::Result<()>
-    ensures { OnOk result (Appends (W.contents out.old) (W.contents out.new) (told_text told.now)) }
-{
-    write_told(told, out)?;
-    out.flush()
-}
-
-fn write_end<W: io::Write>(told: &[Told], out: &mut W) -> io::Result<()>
-    ensures { OnOk result (Appends (W.contents out.old) (W.contents out.new) (counts_text told.now)) }
-{
-    write_counts(told, out)?;
-    out.flush()
 }

@@ -7,6 +7,7 @@ use crate::row::Number::{Other, Own};
 use crate::row::Row;
 use crate::row::Step::{Ask, Bytes, Cut, Damaged, Elsewhere, Framed};
 use std::alloc::{AllocError, Global};
+use vdcp_text::Failure;
 
 // Rows of one group: each a name, what the port is brought to, and the bursts that it gets then.
 macro_rules! rows {
@@ -104,7 +105,7 @@ const BURSTS: [Row; 18] = rows! {
 };
 
 /// The rows of the program, those that can falsify no list first.
-pub fn rows(alloc: Global) -> Result<Vec<Row>, AllocError> {
+pub fn rows(alloc: Global) -> Result<Vec<Row>, Failure<'static>> {
     let mut rows = Vec::new(alloc);
     add_unselected(&mut rows)?;
     add_selected(&mut rows)?;

@@ -3,7 +3,7 @@ ghost use Rattle.std.specs.Prelude.{◌≡◌, ◌≤◌, IfOk, IfSome, IsSome, 
 ghost use Rattle.vdcp_probe.specs.Following.{IsForeseen, IsUnforeseen, LacksCut};
 ghost use Rattle.vdcp_probe.specs.Walks.{is_reached};
 
-use crate::asking::ask;
+use crate::asking::Asker;
 use crate::follower::Follower;
 use crate::naming::Naming;
 use crate::reading::difference;
@@ -14,6 +14,7 @@ use crate::row::Number::Own;
 use crate::row::Step::Ask;
 use crate::row::{Awaited, Row, Start, Step, steps};
 use std::alloc::{AllocError, Global};
+use std::rt::Clock;
 use vdcp_port::Catalogue;
 use vdcp_text::Failure;
 use vdcp_wire::Wire;
@@ -37,39 +38,37 @@ fn steps_to(start: Start) -> &'static [Step] {
 
 /// Puts a row to a server whose port has these clips. If what comes for a burst is none of what the port that got
 /// the same bursts may answer, the row is over, and the answer is the difference.
-pub fn walk_row<C: Catalogue, W: Wire>(
-    alloc: Global,
+pub fn walk_row<C: Catalogue, R: Clock + AllocGlobal, W: Wire>(
     catalogue: &C,
     naming: &Naming,
     row: &Row,
-    wire: &mut W,
+    asker: &mut Asker<'_, R, W>,
 ) -> Result<Option<Difference>, Failure<'static>>
     requires unit { naming.now.unit ≤ 15 }
-    requires works { W.failures wire.old ≡ 0 }
-    ensures works { OnOk result (W.failures wire.new ≡ 0) }
+    requires works { W.failures asker.old.wire ≡ 0 }
+    ensures works { OnOk result (W.failures asker.new.wire ≡ 0) }
 {
-    let mut steps = Vec::from_slice(alloc, steps_to(row.start))?;
+    let mut steps = Vec::from_slice(asker.alloc(), steps_to(row.start))?;
     steps.extend_from_slice(row.steps)?;
-    walk(alloc, catalogue, naming, steps.as_slice(), wire)
+    walk(catalogue, naming, steps.as_slice(), asker)
 }
 
 // Takes steps, one after another, from a new port.
-fn walk<C: Catalogue, W: Wire>(
-    alloc: Global,
+fn walk<C: Catalogue, R: Clock + AllocGlobal, W: Wire>(
     catalogue: &C,
     naming: &Naming,
     steps: &[Step],
-    wire: &mut W,
+    asker: &mut Asker<'_, R, W>,
 ) -> Result<Option<Difference>, Failure<'static>>
     requires unit { naming.now.unit ≤ 15 }
-    requires works { W.failures wire.old ≡ 0 }
-    ensures works { OnOk result (W.failures wire.new ≡ 0) }
+    requires works { W.failures asker.old.wire ≡ 0 }
+    ensures works { OnOk result (W.failures asker.new.wire ≡ 0) }
 {
     let mut follower = Follower::new(catalogue, naming.unit, naming.port);
-    let mut burst = Vec::new(alloc);
+    let mut burst = Vec::new(asker.alloc());
     for k in 0..steps.len() {
         let step = &steps[k];
-        let differs = take_step(alloc, naming, step, &mut burst, &mut follower, wire)?;
+        let differs = take_step(naming, step, &mut burst, &mut follower, asker)?;
         if differs.is_some() {
             return Ok(differs);
         }
@@ -77,25 +76,24 @@ fn walk<C: Catalogue, W: Wire>(
     Ok(None)
 }
 
-fn take_step<C: Catalogue, W: Wire>(
-    alloc: Global,
+fn take_step<C: Catalogue, R: Clock + AllocGlobal, W: Wire>(
     naming: &Naming,
     step: &Step,
     burst: &mut Vec<u8>,
     follower: &mut Follower<C>,
-    wire: &mut W,
+    asker: &mut Asker<'_, R, W>,
 ) -> Result<Option<Difference>, Failure<'static>>
     requires unit { naming.now.unit ≤ 15 }
-    requires works { W.failures wire.old ≡ 0 }
-    ensures works { OnOk result (W.failures wire.new ≡ 0) }
+    requires works { W.failures asker.old.wire ≡ 0 }
+    ensures works { OnOk result (W.failures asker.new.wire ≡ 0) }
 {
     match step {
         Step::Send => {
-            let differs = hold(alloc, burst.as_slice(), follower, wire)?;
+            let differs = hold(burst.as_slice(), follower, asker)?;
             burst.clear();
             Ok(differs)
         }
-        Step::Await(awaited) => wait(alloc, naming, *awaited, follower, wire),
+        Step::Await(awaited) => wait(naming, *awaited, follower, asker),
         _ => {
             naming.add_step(step, burst)?;
             Ok(None)
@@ -104,22 +102,22 @@ fn take_step<C: Catalogue, W: Wire>(
 }
 
 // Asks for the state until it is as awaited.
-fn wait<C: Catalogue, W: Wire>(
-    alloc: Global,
+fn wait<C: Catalogue, R: Clock + AllocGlobal, W: Wire>(
     naming: &Naming,
     awaited: Awaited,
     follower: &mut Follower<C>,
-    wire: &mut W,
+    asker: &mut Asker<'_, R, W>,
 ) -> Result<Option<Difference>, Failure<'static>>
     requires unit { naming.now.unit ≤ 15 }
-    requires works { W.failures wire.old ≡ 0 }
-    ensures works { OnOk result (W.failures wire.new ≡ 0) }
+    requires works { W.failures asker.old.wire ≡ 0 }
+    ensures works { OnOk result (W.failures asker.new.wire ≡ 0) }
 {
+    let alloc = asker.alloc();
     let mut status = Vec::new(alloc);
     naming.add_ask(&Status(0x01), &mut status)?;
     let status = status.as_slice();
     'polls: for _ in 0..MOST_POLLS {
-        let differs = hold(alloc, status, follower, wire)?;
+        let differs = hold(status, follower, asker)?;
         if differs.is_some() {
             return Ok(differs);
         }
@@ -152,17 +150,16 @@ fn overdue(alloc: Global, status: &[u8], answers: &[Vec<u8>]) -> Result<String, 
 }
 
 // Sends a burst to a server, and holds what comes against the port that got the same before.
-fn hold<C: Catalogue, W: Wire>(
-    alloc: Global,
+fn hold<C: Catalogue, R: Clock + AllocGlobal, W: Wire>(
     burst: &[u8],
     follower: &mut Follower<C>,
-    wire: &mut W,
+    asker: &mut Asker<'_, R, W>,
 ) -> Result<Option<Difference>, Failure<'static>>
-    requires works { W.failures wire.old ≡ 0 }
-    ensures works { OnOk result (W.failures wire.new ≡ 0) }
+    requires works { W.failures asker.old.wire ≡ 0 }
+    ensures works { OnOk result (W.failures asker.new.wire ≡ 0) }
 {
-    let came = ask(alloc, burst, wire)?;
-    Ok(hold_answer(alloc, burst, came.as_slice(), follower)?)
+    let came = asker.ask(burst)?.whole()?;
+    Ok(hold_answer(asker.alloc(), burst, came.as_slice(), follower)?)
 }
 
 /// Holds what came for a burst against what the port may answer that got the same before. If it is none of this, that is

@@ -21,7 +21,7 @@ loop-k-preserved g c =
     c.as_str.ensures.value ∙ on_ok c.show_number.result shown c.show_number.ensures in
     record {
       text =
-          timed_step (times_of g.T.Timed.played g.T.Timed.known g.T.Timed.ended) c.args.rate c.args.with_parts c.args.from
+          timed_step (times_of g.T.Timed.played g.T.Timed.known g.T.Timed.ended g.T.Timed.end) c.args.rate c.args.with_parts c.args.from
           (drop c.args.from items) c.args.times.now c.loop-k.k c.at-item.result c.index-times-k.result
           c.as_str.result.now
           (text_written (λ text. Some text.items) c.loop-k.rows)

@@ -7,7 +7,7 @@ use Rattle.vdcp_list.specs.Timed.{timed_rows, times_of}
 abbrev pub invariant-loop-k : goal.invariant-loop-k
 invariant-loop-k g l = record {
   text : text_written (λ text. Some text.items) l.rows ≡ Some
-      (timed_rows (times_of g.T.Timed.played g.T.Timed.known g.T.Timed.ended) l.rate l.with_parts l.from
+      (timed_rows (times_of g.T.Timed.played g.T.Timed.known g.T.Timed.ended g.T.Timed.end) l.rate l.with_parts l.from
       (drop l.from (g.S.Source.items l.source)) (take l.k l.times));
   setup : writer_setup l.rows ≡ default_writer;
   ended : fields_written l.rows ≡ 0;

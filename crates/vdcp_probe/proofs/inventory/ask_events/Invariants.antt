@@ -3,4 +3,4 @@ use Rattle.std.proofs.Common.{◌≡◌}
 use Rattle.vdcp_probe.proofs.inventory.ask_events.Given as goal
 
 abbrev pub invariant-loop-k : goal.invariant-loop-k
-invariant-loop-k g l = g.T.Wire.failures l.wire ≡ 0
+invariant-loop-k g l = g.T.Wire.failures l.asker.wire ≡ 0

@@ -3,4 +3,4 @@ use Rattle.std.proofs.Common.{◌≡◌}
 use Rattle.vdcp_probe.proofs.probe.is_kept_again.Given as goal
 
 abbrev pub invariant-tries : goal.invariant-tries
-invariant-tries g l = g.T.Wire.failures l.wire ≡ 0
+invariant-tries g l = g.T.Wire.failures l.asker.wire ≡ 0

@@ -1,6 +1,6 @@
 -- The wire hasn't failed.
 use Rattle.std.proofs.Common.{◌≡◌}
-use Rattle.vdcp_probe.proofs.asking.hear.Given as goal
+use Rattle.vdcp_probe.proofs.asking.Asker.hear.Given as goal
 
 abbrev pub invariant-listens : goal.invariant-listens
-invariant-listens g l = g.W.Wire.failures l.wire ≡ 0
+invariant-listens g l = g.W.Wire.failures l.self.wire ≡ 0
