@@ -21,19 +21,19 @@ state byte = note.Heard (heard.Reply (reply.State 1 (Some byte)))
 -- it plays, then plays with the next cue done, and then that cue is done alone
 plays_out : (a b c d e : Moment) → end_in
     (row a ack ∷ row b (note.Sent (command.Status 1)) ∷ row c (state 4) ∷ row d (state 132) ∷ row e (state 128) ∷ [])
-    ≡ Some e
+    ≡ Some (row e (state 128))
 plays_out a b c d e = refl
 
 is_taken_off : (a b c d e : Moment) → end_in
-    (row a ack ∷ row b (state 132) ∷ row c note.Take ∷ row d (note.Sent command.Play) ∷ row e (state 4) ∷ []) ≡ Some d
+    (row a ack ∷ row b (state 132) ∷ row c note.Take ∷ row d (note.Sent command.Play) ∷ row e (state 4) ∷ []) ≡ Some (row d (note.Sent command.Play))
 is_taken_off a b c d e = refl
 
 is_stopped : (a b c d : Moment) → end_in
-    (row a ack ∷ row b (state 4) ∷ row c note.Stop ∷ row d (note.Sent command.Stop) ∷ []) ≡ Some d
+    (row a ack ∷ row b (state 4) ∷ row c note.Stop ∷ row d (note.Sent command.Stop) ∷ []) ≡ Some (row d (note.Sent command.Stop))
 is_stopped a b c d = refl
 
 -- a short clip is over in the state that settles it
-is_over_at_once : (a : Moment) → end_in (row a (state 0) ∷ []) ≡ Some a
+is_over_at_once : (a : Moment) → end_in (row a (state 0) ∷ []) ≡ Some (row a (state 0))
 is_over_at_once a = refl
 
 still_plays : (a b c : Moment) → end_in (row a ack ∷ row b (state 4) ∷ row c note.Silence ∷ []) ≡ None

@@ -19,3 +19,4 @@ mod RunSteps
 mod StateAgain
 mod Thinning
 mod Journals
+mod Added

@@ -37,10 +37,10 @@ shows_end (note.Sent c) = is_play_command c || is_stop_command c
 shows_end (note.Heard h) = hears (has_off 4) (Some h)
 shows_end n = false
 
--- the time of the first row that shows that
-abbrev pub end_in : List Row → Option Moment
+-- the first row that shows that
+abbrev pub end_in : List Row → Option Row
 end_in [] = None
-end_in (row ∷ rows) = if shows_end row.note then Some row.time else end_in rows
+end_in (row ∷ rows) = if shows_end row.note then Some row else end_in rows
 
 -- event k is known to have aired with the row that settles it: up to that row, and not before, the rows show more than
 -- k events. It was played by the last PLAY before that row, and its end is what that row or a later one shows

@@ -7,6 +7,7 @@ pub mod Resume
 pub mod RunsSoFar
 pub mod Airings
 pub mod Thinned
+pub mod Mending
 pub mod Runs
 pub mod Reading
 pub mod Journals

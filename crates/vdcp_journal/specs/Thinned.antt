@@ -1,7 +1,8 @@
 -- What a journal may leave out: a state that is asked again and says nothing new, and what a PLAY tells by itself.
-use Rattle.std.specs.Prelude.{Bool, true, false, not, ◌&&◌, IsTrue, Some, List, [], ◌∷◌, ◌++◌, map}
+use Rattle.std.specs.Prelude.{Bool, true, false, not, ◌&&◌, if◌then◌else◌, IsTrue, Option, None, Some, List, [], ◌∷◌, ◌++◌, map}
 use Rattle.vdcp_auto.specs.Commands.{is_state, is_status_command}
 use Rattle.vdcp_auto.specs.Log.{hears}
+use Rattle.vdcp_auto.specs.declared.exchange.Heard.{Heard}
 use Rattle.vdcp_auto.specs.Replies.{is_done, is_playing}
 use Rattle.vdcp_journal.specs.declared.row.Note.{Note}
 use Rattle.vdcp_journal.specs.declared.row.Note.TheVariants as note
@@ -59,3 +60,21 @@ notes_in rows = map (λ row. row.note) rows
 -- these rows are a journal of those: what may be left of them
 abbrev pub AreThinned : List Row → List Row → Type 0
 AreThinned all rows = IsThinned (notes_in all) (notes_in rows)
+
+-- what ended the last exchange, if since then at the most the state was asked
+
+abbrev pub heard_after : Option Heard → Note → Option Heard
+heard_after before (note.Sent c) = if is_status_command c then before else None
+heard_after before (note.Heard h) = Some h
+heard_after before note.Silence = None
+heard_after before note.Take = None
+heard_after before note.Stop = None
+heard_after before (note.End outcome) = None
+heard_after before (note.From k) = None
+
+abbrev pub heard_from : Option Heard → List Note → Option Heard
+heard_from before [] = before
+heard_from before (n ∷ notes) = heard_from (heard_after before n) notes
+
+abbrev pub heard_last : List Note → Option Heard
+heard_last notes = heard_from None notes

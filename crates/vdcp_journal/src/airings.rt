@@ -7,6 +7,7 @@ ghost use Rattle.vdcp_auto.specs.declared.exchange.Exchange.{Exchange};
 ghost use Rattle.vdcp_auto.specs.declared.phase.Mode.{Mode};
 ghost use Rattle.vdcp_journal.specs.Airings.{AreAirings, FoundSoFar, announces_after, asks_play, end_in, ended_by, is_play_row, shows_end, unsettled_event};
 ghost use Rattle.vdcp_journal.specs.Resume.{ended_at, exchange_with, open_after};
+ghost use Rattle.vdcp_journal.specs.Times.{end_at, end_shown};
 ghost use Rattle.vdcp_journal.specs.declared.row.Row.{Row};
 
 use crate::moment::Moment;
@@ -25,18 +26,21 @@ pub struct Airing {
     pub played: Moment,
     /// It was known to have aired.
     pub known: Moment,
-    /// Its end was first seen: nothing played any more, or the next PLAY or a STOP went out. None if that wasn't seen.
-    pub ended: Option<Moment>,
+    /// The row in which its end was first seen: nothing played any more, or the next PLAY or a STOP went out. None if that
+    /// wasn't seen.
+    pub ended: Option<Row>,
 }
 
 impl Timed for Airing {
-    ghost use Rattle.vdcp_journal.specs.Times.{clocked_text, clocked_text_if};
+    ghost use Rattle.vdcp_journal.specs.Times.{clocked_text, end_text, ended_text};
 
     ghost played = { λ airing. clocked_text airing.played };
 
     ghost known = { λ airing. clocked_text airing.known };
 
-    ghost ended = { λ airing. clocked_text_if airing.ended };
+    ghost ended = { λ airing. ended_text airing.ended };
+
+    ghost end = { λ airing. end_text airing.ended };
 
     fn played(&self) -> &[u8] {
         self.played.clocked()
@@ -48,9 +52,39 @@ impl Timed for Airing {
 
     fn ended(&self) -> &[u8] {
         match &self.ended {
-            Some(ended) => ended.clocked(),
+            Some(row) => row.time.clocked(),
             None => &[],
         }
+    }
+
+    fn end(&self) -> &[u8] {
+        match &self.ended {
+            Some(row) => end_at(row.time.clocked(), &row.note).as_bytes(),
+            None => b"not seen",
+        }
+    }
+}
+
+/// What was seen of an end at this time, if a clock gave it.
+fn end_at<'a>(time: &[u8], note: &Note) -> &'a str
+    ensures { result.now ≡ end_at time.now note.now }
+{
+    match time {
+        [] => "not seen",
+        [_, ..] => end_shown(note),
+    }
+}
+
+/// What was seen of an end by what a row notes that shows it.
+fn end_shown<'a>(note: &Note) -> &'a str
+    ensures { result.now ≡ end_shown note.now }
+{
+    match note {
+        Note::Heard(_) => "ran out",
+        Note::Sent(Command::Play) => "cut by a take",
+        Note::Sent(Command::Stop) => "stopped",
+        Note::Sent(_) | Note::Silence | Note::Take | Note::Stop | Note::End(_) | Note::From(_) =>
+            "not seen",
     }
 }
 
@@ -203,7 +237,7 @@ fn ended_by(airing: Airing, row: &Row) -> Airing
 {
     match airing.ended {
         None if shows_end(&row.note) => Airing {
-            ended: Some(row.time),
+            ended: Some(*row),
             ..airing
         },
         _ => airing,

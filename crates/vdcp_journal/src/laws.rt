@@ -1,22 +1,27 @@
 //! The laws of the definitions in `specs/`. What a law says is the contract of its function.
 
-ghost use Rattle.std.specs.Prelude.{◌≡◌, ◌≤◌, ℕ, List, [], ◌∷◌, ◌++◌, ◌+◌, length, take};
+ghost use Rattle.std.specs.Prelude.{◌≡◌, ◌≤◌, ℕ, List, [], ◌∷◌, ◌++◌, ◌+◌, IsTrue, Some, false, length, take};
 ghost use Rattle.vdcp_auto.specs.Course.{Reached};
 ghost use Rattle.vdcp_auto.specs.Law.{IsLawful};
 ghost use Rattle.vdcp_auto.specs.Plan.{Plan};
 ghost use Rattle.vdcp_auto.specs.Settled.{may_have_aired};
-ghost use Rattle.vdcp_auto.specs.Turn.{outcome_of, start};
+ghost use Rattle.vdcp_auto.specs.State.{State};
+ghost use Rattle.vdcp_auto.specs.Turn.{came_to, given, outcome_of, start, taken, ticked};
+ghost use Rattle.vdcp_auto.specs.declared.exchange.Heard.{Heard};
 ghost use Rattle.vdcp_auto.specs.declared.phase.Mode.{Mode};
 ghost use Rattle.vdcp_journal.specs.Airings.{settled_in};
 ghost use Rattle.vdcp_journal.specs.Resume.{AreTold, MayGoOn, after_rows, log_of, timed_out};
 ghost use Rattle.vdcp_journal.specs.Reading.{AreWritable, IsWritableHeading, whole_lines};
 ghost use Rattle.vdcp_journal.specs.Rows.{journal_fields, journal_text};
 ghost use Rattle.vdcp_journal.specs.Runs.{begins_at, ended_in, ended_runs, last_run, run_after, runs_of};
-ghost use Rattle.vdcp_journal.specs.Thinned.{AreThinned};
+ghost use Rattle.vdcp_journal.specs.Mending.{announced_state};
+ghost use Rattle.vdcp_journal.specs.Thinned.{AreThinned, hears_done, hears_free};
 ghost use Rattle.vdcp_journal.specs.declared.moment.Moment.{Moment};
 ghost use Rattle.vdcp_journal.specs.declared.row.Heading.{Heading};
+ghost use Rattle.vdcp_journal.specs.declared.row.Note.TheVariants as note;
 ghost use Rattle.vdcp_journal.specs.declared.row.Row.{Row};
 ghost use Rattle.vdcp_list.specs.Rows.{rows_of};
+ghost use Rattle.vdcp_words.specs.declared.command.Command.TheVariants.{Play};
 
 use vdcp_auto::laws::{a_log_grows, reached_is_lawful};
 use vdcp_value::laws::an_id_has_one_text;
@@ -79,3 +84,11 @@ pub fn a_thinned_journal_makes_the_same()
 {
     a_log_grows();
 }
+
+/// What is added for a PLAY that the rows announce (`mended`): if what was heard last were heard once more, after a take, PLAY
+/// would come next, unless the operator wants to stop; the cue is done by it. The state that is added lets a PLAY go out.
+pub fn an_announced_play_comes_next()
+    ensures { (plan : Plan) (state : State) (h free : Heard) → announced_state (Some h) state.stage ≡ Some free →
+        state.stop ≡ false → (given plan (came_to plan (Some h) (taken (ticked state))) ≡ Some Play)
+        × IsTrue (hears_done (note.Heard h)) × IsTrue (hears_free (note.Heard free)) }
+{}

@@ -11,9 +11,10 @@
 //! A journal may have the rows of several runs, one after another: `begins_at` says whether a row begins another one.
 //! `RunSoFar` makes the controller of a run anew, row by row; if the run was lost it goes on under a greater limit.
 //! `AiringsSoFar` finds when each reported event aired, and which event may have aired besides.
+//! `mended` gives the notes that a killed run gets before it goes on.
 //!
 //! Files, in reading order: `moment`, `digest`, `row`, `fields`, `texts`, `write`, `whole`, `size`, `read`, `faults`,
-//! `replay`, `losses`, `airings`, `runs`, `laws`.
+//! `replay`, `losses`, `mending`, `airings`, `runs`, `laws`.
 #![tactic(auto)]
 
 mod airings;
@@ -22,6 +23,7 @@ mod faults;
 mod fields;
 pub mod laws;
 mod losses;
+mod mending;
 mod moment;
 mod read;
 mod replay;
@@ -35,6 +37,7 @@ mod write;
 pub use airings::{Airing, Airings, AiringsSoFar};
 pub use digest::digest_of;
 pub use faults::{JournalReadFault, JournalRowFault, ResumeFault};
+pub use mending::{heard_after, is_end, mended};
 pub use moment::Moment;
 pub use read::JournalRows;
 pub use replay::{Resumed, RunSoFar};

@@ -3,7 +3,7 @@ ghost use Rattle.std.specs.Borrow.{Bor};
 ghost use Rattle.std.specs.Prelude.{List, ◌≡◌, ◌≤◌, ◌↔◌, ◌+◌, ◌∷◌, ◌++◌, [], IfErr, IsFalse, IsTrue, OnErr, OnOk, Some, None, if◌then◌else◌, Option, Bool, length};
 ghost use Rattle.vdcp_auto.specs.Log.{is_answered, is_play};
 ghost use Rattle.vdcp_auto.specs.Plan.{Plan, plan_of};
-ghost use Rattle.vdcp_auto.specs.Snapshots.{CanStand};
+ghost use Rattle.vdcp_auto.specs.Snapshots.{CanStand, view_of};
 ghost use Rattle.vdcp_auto.specs.Turn.{awaited, new_controller, outcome_of};
 ghost use Rattle.vdcp_auto.specs.declared.outcome.Outcome.TheVariants as outcomes;
 ghost use Rattle.vdcp_journal.specs.RunsSoFar.{IsMadeBy, IsCalled, IsRaised, again_of};
@@ -26,6 +26,8 @@ pub struct Resumed<S: Source> {
     /// The command whose exchange was open, and is timed out now. The journal is to say so, by `Silence`,
     /// before the next command.
     pub open: Option<Command>,
+    /// The controller before that.
+    pub stood: Snapshot,
 }
 
 /// A run of a list that is made anew from its rows, one after another. Each time that it was lost its limit grows by the one
@@ -140,12 +142,16 @@ impl<'s, S: Source> RunSoFar<'s, S> {
           state = timed_out (plan_of (items_left (λ s. S.items s.now)) self.entry.controller) self.entry.controller.state;
         } }
         ensures open { result.«open» ≡ awaited (plan_of (items_left (λ s. S.items s.now)) self.entry.controller) self.entry.controller.state }
+        ensures stood { self.entry.controller ≡ view_of self.entry.controller.source result.stood }
+        ensures can_stand { CanStand (length (items_left (λ s. S.items s.now) self.entry.controller.source)) result.stood }
     {
+        let stood = self.controller.snapshot();
         let open = self.controller.awaited();
         self.controller.timeout();
         Resumed {
             controller: self.controller,
             open,
+            stood,
         }
     }
 }
@@ -222,8 +228,8 @@ fn goes_on<S: Source>(controller: &mut Controller<S>, note: &Note) -> bool
     }
 }
 
-// Makes the call of a controller that a note tells of.
-fn give<S: Source>(controller: &mut Controller<S>, note: &Note)
+/// Makes the call of a controller that a note tells of, if it tells of one.
+pub(crate) fn give<S: Source>(controller: &mut Controller<S>, note: &Note)
     ensures { controller.new ≡ record controller.old {
       state = after_call_if (plan_of S.items controller.old) (call_of note.now) controller.old.state;
     } }

@@ -1,8 +1,8 @@
 -- A torn last row gets its line feed.
 use Rattle.std.proofs.Common.{ℕ, ◌≡◌, ◌<◌, ◌+◌, Bool, true, false, List, [], ◌∷◌, ◌++◌, append_assoc, arith, length, nat_eq, take, true≢false, refl, sym, ap, ◌∙◌}
-use Rattle.std.proofs.lemmas.List.{append-nil, length-append, take_more}
+use Rattle.std.proofs.lemmas.List.{append-nil, take_more}
 use Rattle.std.specs.Io.KnownBytes.{Appends, Consumes, IsAtEnd, Keeps}
-use Rattle.std.specs.Prelude.{◌≤◌, IfSome, None, Option, Some, if◌then◌else◌, option_map, slice_index_or, slice_set}
+use Rattle.std.specs.Prelude.{IfSome, None, Option, Some, if◌then◌else◌, option_map, slice_index_or, slice_set}
 use Rattle.vdcp_journal_file.specs.Torn.{closed, feed_after, held_with, may_air, torn_after}
 
 pub torn_on : (begun xs ys : List ℕ) → torn_after begun (xs ++ ys) ≡ torn_after (torn_after begun xs) ys
@@ -47,31 +47,34 @@ stays None new begun same = tt
 stays (Some xs) None begun same = absurd same
 stays (Some xs) (Some ys) begun same = ap (λ (l : List ℕ). l ++ feed_after begun l) same
 
--- it is lacking exactly if the text is longer with it
+-- if none is lacking the file stays
+pub none_lacks : (known : Option (List ℕ)) (lacks : Bool) → IfSome known (λ text. lacks ≡ may_air (torn_after [] text))
+    → lacks ≡ false → Keeps (option_map closed known) known
+none_lacks None lacks is none = tt
+none_lacks (Some text) lacks is none =
+    sym (ap (λ (b : Bool). text ++ (if b then 10 ∷ [] else [])) (sym is ∙ none) ∙ append-nil text)
 
-as_short : (lacks : Bool) (text : List ℕ) → length (text ++ (if lacks then 10 ∷ [] else [])) ≤ length text
-    → text ≡ text ++ (if lacks then 10 ∷ [] else [])
-as_short true text few = absurd (omega (arith, few, length-append text (10 ∷ [])))
-as_short false text few = sym (append-nil text)
+pub gets_it : (known new : Option (List ℕ)) (lacks : Bool) → IfSome known (λ text. lacks ≡ may_air (torn_after [] text))
+    → lacks ≡ true → Appends known new (10 ∷ []) → Keeps (option_map closed known) new
+gets_it None new lacks is so wrote = tt
+gets_it (Some text) None lacks is so wrote = absurd wrote
+gets_it (Some text) (Some next) lacks is so wrote =
+    wrote ∙ sym (ap (λ (b : Bool). text ++ (if b then 10 ∷ [] else [])) (sym is ∙ so))
 
-longer : (lacks : Bool) (text : List ℕ) → length text < length (text ++ (if lacks then 10 ∷ [] else []))
-    → text ++ 10 ∷ [] ≡ text ++ (if lacks then 10 ∷ [] else [])
-longer true text more = refl
-longer false text more = absurd (omega (arith, more, ap length (append-nil text)))
+-- a piece more
+pub held_more : (given piece torn torn' : List ℕ) → torn ≡ torn_after [] given → torn' ≡ torn_after torn piece
+    → torn' ≡ torn_after [] (given ++ piece)
+held_more given piece torn torn' is next =
+    next ∙ ap (λ (l : List ℕ). torn_after l piece) is ∙ sym (torn_on [] given piece)
 
-pub lacks_none : (known : Option (List ℕ)) (size size' : ℕ) → IfSome known (λ text. size ≡ length text)
-    → IfSome (option_map closed known) (λ text. size' ≡ length text) → size' ≤ size → Keeps (option_map closed known) known
-lacks_none None size size' is is' few = tt
-lacks_none (Some text) size size' is is' few =
-    as_short (may_air (torn_after [] text)) text (omega (arith, is, is', few))
-
-pub gets_it : (known new : Option (List ℕ)) (size size' : ℕ) → IfSome known (λ text. size ≡ length text)
-    → IfSome (option_map closed known) (λ text. size' ≡ length text) → size < size' → Appends known new (10 ∷ [])
-    → Keeps (option_map closed known) new
-gets_it None new size size' is is' more wrote = tt
-gets_it (Some text) None size size' is is' more wrote = absurd wrote
-gets_it (Some text) (Some next) size size' is is' more wrote =
-    wrote ∙ longer (may_air (torn_after [] text)) text (omega (arith, is, is', more))
+-- all was given
+pub all_held : (old new : Option (List ℕ)) (given torn : List ℕ) → torn ≡ torn_after [] given → Consumes old new given
+    → IsAtEnd new → IfSome old (λ text. may_air torn ≡ may_air (torn_after [] text))
+all_held None new given torn is came end = tt
+all_held (Some xs) None given torn is came end = absurd came
+all_held (Some xs) (Some ys) given torn is came end =
+    ap may_air is ∙ ap (λ (l : List ℕ). may_air (torn_after [] l))
+    (sym (came ∙ ap (λ (l : List ℕ). given ++ l) end ∙ append-nil given))
 
 -- all bytes are counted
 pub counted : (old mid new : Option (List ℕ)) (a b : List ℕ) → Consumes old mid a → Consumes mid new b

@@ -4,11 +4,11 @@ use Rattle.std.proofs.KnownBytes.{Appends-kept, Appends-nil, Appends-trans}
 use Rattle.std.proofs.Math.Seq.{take-add, take-append_seam}
 use Rattle.std.proofs.lemmas.List.{append_cancel_left, take_rest, take-append-drop}
 use Rattle.std.specs.Io.KnownBytes.{Appends, WriteAppends}
-use Rattle.std.specs.Prelude.{◌==◌, IfSome, OnErr, Option, None, Some, Result, Ok, Err, if◌then◌else◌, option_map}
+use Rattle.std.specs.Prelude.{◌==◌, OnErr, Option, None, Some, Result, Ok, Err, if◌then◌else◌}
 use Rattle.vdcp_list.specs.Asrun.{AppendsBeginning}
 use Rattle.vdcp_journal.specs.Reading.{line_before, whole_lines}
 use Rattle.vdcp_journal.specs.declared.row.Row.{Row}
-use Rattle.vdcp_journal_file.specs.Disks.{HasJust, Spills}
+use Rattle.vdcp_journal_file.specs.Disks.{Spills}
 use Rattle.vdcp_journal_file.specs.Recording.{IsSynced, ended, is_announced, with_play}
 use Rattle.vdcp_journal_file.specs.declared.pending.Pending.{Pending}
 use Rattle.vdcp_journal_file.specs.declared.pending.Pending.TheVariants as pending
@@ -99,11 +99,3 @@ front_of byte more (next ∷ lines) is = ap (λ (l : List ℕ). byte ∷ l) is
 pub lines_in_front : (text : List ℕ) → take (length (whole_lines text)) text ≡ whole_lines text
 lines_in_front [] = refl
 lines_in_front (byte ∷ more) = front_of byte more (whole_lines more) (lines_in_front more)
-
--- what is cut off after them has just these
-pub just_lines : {F : Type 0} (safe written : F → Option (List ℕ)) (old : Option (List ℕ)) (new : F) (size : ℕ)
-    → IfSome old (λ bytes. size ≡ length (whole_lines bytes))
-    → HasJust safe written (option_map (take size) old) new → HasJust safe written (option_map whole_lines old) new
-just_lines safe written None new size is has = has
-just_lines safe written (Some bytes) new size is has =
-    subst (λ (l : List ℕ). HasJust safe written (Some l) new) (ap (λ (n : ℕ). take n bytes) is ∙ lines_in_front bytes) has

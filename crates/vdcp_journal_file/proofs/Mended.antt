@@ -1,92 +1,34 @@
--- What of a journal's file stays where a killed run left something undone.
-use Rattle.std.proofs.Common.{ℕ, ◌≡◌, ◌+◌, ◌-◌, ◌<◌, ◌≤◌, Bool, true, false, List, [], ◌∷◌, ◌++◌, append-nil, append_assoc, inl, inr, arith, length, take, drop, refl, subst, sym, ap, ◌∙◌}
-use Rattle.std.proofs.Math.Seq.{take-append-add}
-use Rattle.std.proofs.lemmas.List.{length-append, length-take, take-append-drop, take-append-le, take-take, take_all}
+-- What becomes of a journal's file in which a killed run left something undone.
+use Rattle.csv.specs.Writing.{default_writer, is_blank, row_body}
+use Rattle.std.proofs.Common.{ℕ, ◌≡◌, ◌<◌, Bool, true, false, List, [], ◌∷◌, ◌++◌, append-nil, append_assoc, arith, length, nat_eq, take, refl, sym, ap, ap₂, ◌∙◌}
+use Rattle.std.proofs.lemmas.Bool.{eqb-true}
+use Rattle.std.proofs.lemmas.List.{length-take, take_all}
 use Rattle.std.specs.Fmt.{option_append}
 use Rattle.std.specs.Io.KnownBytes.{Appends, Keeps}
 use Rattle.std.specs.List.{list_any}
-use Rattle.std.specs.Prelude.{◌==◌, ◌||◌, ◌⊎◌, IfSome, None, Option, Some, if◌then◌else◌, option_map}
+use Rattle.std.specs.Prelude.{◌==◌, ◌||◌, IfSome, OnOk, None, Option, Some, Result, Ok, Err, if◌then◌else◌, option_map}
+use Rattle.vdcp_auto.specs.Plan.{Plan, View, plan_of}
+use Rattle.vdcp_auto.specs.Snapshots.{state_in, view_of}
+use Rattle.vdcp_auto.specs.State.{State}
+use Rattle.vdcp_auto.specs.Turn.{start}
+use Rattle.vdcp_auto.specs.declared.exchange.Heard.{Heard}
+use Rattle.vdcp_auto.specs.declared.snapshot.Snapshot.{Snapshot}
+use Rattle.vdcp_journal.specs.Mending.{mended, mended_at}
 use Rattle.vdcp_journal.specs.Reading.{line_before, whole_lines}
+use Rattle.vdcp_journal.specs.Resume.{after_rows}
+use Rattle.vdcp_journal.specs.Rows.{Fields, fields_text, row_fields, rows_text}
+use Rattle.vdcp_journal.specs.declared.row.Heading.{Heading}
+use Rattle.vdcp_journal.specs.declared.row.Note.{Note}
+use Rattle.vdcp_journal.specs.declared.row.Row.{Row}
 use Rattle.vdcp_journal_file.proofs.Disking.{lines_in_front}
-use Rattle.vdcp_journal_file.specs.Disks.{AreLines, BeginsWith, HasJust, KeepsLines, lines_before_last}
+use Rattle.vdcp_journal_file.specs.Disks.{HasJust}
+use Rattle.vdcp_journal_file.specs.Mending.{lines_of}
+use Rattle.vdcp_journal_file.specs.Resuming.{Continues, plan_of_run}
 use Rattle.vdcp_journal_file.specs.Torn.{closed, may_air, torn_after}
-
--- what isn't changed
-pub untouched : (known : Option (List ℕ)) → BeginsWith (option_map whole_lines known) known
-untouched None = ([], tt)
-untouched (Some text) =
-    let size : ℕ = length (whole_lines text) in (
-      drop size text,
-      sym (take-append-drop size text) ∙ ap (λ (l : List ℕ). l ++ drop size text) (lines_in_front text),
-    )
-
--- the first lines of a beginning are those of the whole
-front_of_front : (size : ℕ) (text : List ℕ)
-    → take (length (whole_lines (take size text))) text ≡ whole_lines (take size text)
-front_of_front size text =
-    let front : List ℕ = take size text in
-    let count : ℕ = length (whole_lines front) in
-    let few : count ≤ size =
-    omega (arith, length-take count front, ap length (lines_in_front front), length-take size text) in
-    sym (take-take count size text few) ∙ lines_in_front front
-
--- what is replaced after so many bytes
-pub after_lines : (old new : Option (List ℕ)) (size : ℕ) (rows : List ℕ) → IfSome old (λ text. size ≡ length (whole_lines text))
-    → Appends (option_map (take size) old) new rows → BeginsWith (option_map whole_lines old) new
-after_lines None new size rows is wrote = (rows, tt)
-after_lines (Some text) None size rows is wrote = absurd wrote
-after_lines (Some text) (Some next) size rows is wrote =
-    (rows, wrote ∙ ap (λ (l : List ℕ). l ++ rows) (ap (λ (n : ℕ). take n text) is ∙ lines_in_front text))
-
-pub replaced : (old new : Option (List ℕ)) (size : ℕ) (rows : List ℕ) → IfSome old (λ text. AreLines text size)
-    → Appends (option_map (take size) old) new rows → KeepsLines old new
-replaced None new size rows are wrote = inl (rows, tt)
-replaced (Some text) new size rows (inl is) wrote = inl (after_lines (Some text) new size rows is wrote)
-replaced (Some text) None size rows (inr is) wrote = absurd wrote
-replaced (Some text) (Some next) size rows (inr is) wrote = inr (
-  rows,
-  wrote ∙ ap (λ (l : List ℕ). l ++ rows)
-      (ap (λ (n : ℕ). take n text) is ∙ front_of_front (length (whole_lines text) - 1) text),
-)
-
--- what is known to stay begins as it did
-pub keeps_on : (lines mid new : Option (List ℕ)) → BeginsWith lines mid → Keeps mid new → BeginsWith lines new
-keeps_on None mid new begins keeps = ([], tt)
-keeps_on (Some text) None new begins keeps = absurd begins.1
-keeps_on (Some text) (Some mid) None begins keeps = absurd keeps
-keeps_on (Some text) (Some mid) (Some next) begins keeps = (begins.0, keeps ∙ begins.1)
-
--- what has no line, nor lacks only a line feed, is replaced
-pub begun_anew : (old new : Option (List ℕ)) (rows : List ℕ) → IfSome old (λ text. whole_lines (closed text) ≡ [])
-    → Appends (option_map (take 0) old) new rows
-    → BeginsWith (option_map whole_lines (option_map closed old)) (option_map closed new)
-begun_anew None new rows is wrote = ([], tt)
-begun_anew (Some text) None rows is wrote = absurd wrote
-begun_anew (Some text) (Some next) rows is wrote = (closed next, ap (λ (l : List ℕ). l ++ closed next) (sym is))
-
--- rows after known bytes
-
-pub appended : (front : Option (List ℕ)) (rows : List ℕ) → Appends front (option_append front (Some rows)) rows
-appended None rows = tt
-appended (Some text) rows = refl
-
-pub kept_so : (front new : Option (List ℕ)) (rows : List ℕ) → Appends front new rows
-    → Keeps (option_append front (Some rows)) new
-kept_so None new rows wrote = tt
-kept_so (Some text) None rows wrote = absurd wrote
-kept_so (Some text) (Some next) rows wrote = wrote
-
-pub kept_same : (known : Option (List ℕ)) → Keeps known known
-kept_same None = tt
-kept_same (Some text) = refl
-
-pub just_kept : {F : Type 0} (safe written : F → Option (List ℕ)) (text known : Option (List ℕ)) (file : F)
-    → Keeps text known → HasJust safe written (option_map whole_lines known) file
-    → HasJust safe written (option_map whole_lines text) file
-just_kept safe written None known file keeps has = record { has = tt; synced = has.synced }
-just_kept safe written (Some text) None file keeps has = absurd keeps
-just_kept safe written (Some text) (Some next) file keeps has =
-    subst (λ (l : List ℕ). HasJust safe written (Some (whole_lines l)) file) keeps has
+use Rattle.vdcp_list.specs.Rests.{FromEvent, items_left}
+use Rattle.vdcp_list.specs.Rows.{FileBytes}
+use Rattle.vdcp_value.specs.declared.part.Item.{Item}
+use Rattle.vdcp_words.specs.declared.command.Command.{Command}
 
 or_left : (a b : Bool) → (a || b) ≡ false → a ≡ false
 or_left false b is = refl
@@ -119,7 +61,7 @@ torn_so (Some bytes) text most read few none =
     take_all most bytes (omega (arith, length-take most bytes, ap length read, few)) in
     ap (λ (l : List ℕ). whole_lines (closed l)) (sym all ∙ sym read) ∙ none
 
--- ---- the whole lines of what was mended
+-- ---- rows behind whole lines
 
 feed_before : (byte : ℕ) (lines : List ℕ) → (byte == 10) ≡ true → line_before byte lines ≡ byte ∷ lines
 feed_before byte [] is = rw is refl
@@ -139,62 +81,91 @@ whole_more : (text more : List ℕ) → whole_lines (whole_lines text ++ more) �
 whole_more [] more = refl
 whole_more (byte ∷ text) more = line_more byte (whole_lines text) more (whole_more text more)
 
-pub lines_begin : (old new : Option (List ℕ)) → BeginsWith (option_map whole_lines old) new
-    → BeginsWith (option_map whole_lines old) (option_map whole_lines new)
-lines_begin None new begins = ([], tt)
-lines_begin (Some text) None begins = absurd begins.1
-lines_begin (Some text) (Some next) begins =
-    (whole_lines begins.0, ap whole_lines begins.1 ∙ whole_more text begins.0)
+feed_last : (byte : ℕ) (body : List ℕ) → line_before byte (body ++ 10 ∷ []) ≡ byte ∷ (body ++ 10 ∷ [])
+feed_last byte [] = refl
+feed_last byte (next ∷ body) = refl
 
--- the lines before the last, if something follows whole lines: these stay, or all but the last of them
-last_so : (text more ends : List ℕ) → whole_lines more ≡ ends
-    → (lines_before_last (whole_lines text ++ more) ≡ lines_before_last text)
-    ⊎ ((rest : List ℕ) × (lines_before_last (whole_lines text ++ more) ≡ whole_lines text ++ rest))
-last_so text more [] is =
-    let lines : List ℕ = whole_lines text in
-    let whole : whole_lines (lines ++ more) ≡ lines =
-    whole_more text more ∙ ap (λ (l : List ℕ). lines ++ l) is ∙ append-nil lines in
-    let short : take (length lines - 1) (lines ++ more) ≡ take (length lines - 1) text =
-    take-append-le (length lines - 1) lines more (omega arith)
-    ∙ ap (λ (l : List ℕ). take (length lines - 1) l) (sym (lines_in_front text))
-    ∙ take-take (length lines - 1) (length lines) text (omega arith) in
-    inl (ap (λ (l : List ℕ). whole_lines (take (length l - 1) (lines ++ more))) whole ∙ ap whole_lines short)
-last_so text more (next ∷ ends) is =
-    let lines : List ℕ = whole_lines text in
-    let whole : whole_lines (lines ++ more) ≡ lines ++ next ∷ ends = whole_more text more ∙ ap (λ (l : List ℕ). lines ++ l) is in
-    let count : length (whole_lines (lines ++ more)) - 1 ≡ length lines + length ends =
-    omega (arith, ap length whole, length-append lines (next ∷ ends)) in
-    inr (
-      whole_lines (take (length ends) more),
-      ap (λ (n : ℕ). whole_lines (take n (lines ++ more))) count ∙ ap whole_lines (take-append-add lines more (length ends))
-          ∙ whole_more text (take (length ends) more),
-    )
+line_whole : (body : List ℕ) → whole_lines (body ++ 10 ∷ []) ≡ body ++ 10 ∷ []
+line_whole [] = refl
+line_whole (byte ∷ body) = ap (line_before byte) (line_whole body) ∙ feed_last byte body
 
--- what was mended twice, at the front alone first
-pub mended_so : (old mid new : Option (List ℕ)) → BeginsWith (option_map whole_lines old) mid → KeepsLines mid new
-    → KeepsLines old (option_map whole_lines new)
-mended_so None mid new begins keeps = inl ([], tt)
-mended_so (Some text) None new begins keeps = absurd begins.1
-mended_so (Some text) (Some mid) None begins (inl keeps) = absurd keeps.1
-mended_so (Some text) (Some mid) None begins (inr keeps) = absurd keeps.1
-mended_so (Some text) (Some mid) (Some next) begins (inl keeps) = inl (
-  whole_lines begins.0 ++ whole_lines keeps.0,
-  ap whole_lines keeps.1 ∙ whole_more mid keeps.0
-      ∙ ap (λ (l : List ℕ). l ++ whole_lines keeps.0) (ap whole_lines begins.1 ∙ whole_more text begins.0)
-      ∙ append_assoc (whole_lines text) (whole_lines begins.0) (whole_lines keeps.0),
-)
-mended_so (Some text) (Some mid) (Some next) begins (inr keeps) =
-    let rows : List ℕ = whole_lines keeps.0 in
-    let is : whole_lines next ≡ lines_before_last mid ++ rows =
-    ap whole_lines keeps.1 ∙ whole_more (take (length (whole_lines mid) - 1) mid) keeps.0 in
-    elim (last_so text begins.0 (whole_lines begins.0) refl) [
-      | inl same ↦ inr (
-        rows,
-        is ∙ ap (λ (l : List ℕ). l ++ rows) (ap lines_before_last begins.1 ∙ same),
-      )
-      | inr (rest, stays) ↦ inl (
-        rest ++ rows,
-        is ∙ ap (λ (l : List ℕ). l ++ rows) (ap lines_before_last begins.1 ∙ stays)
-            ∙ append_assoc (whole_lines text) rest rows,
-      )
-    ]
+-- rows are whole lines
+
+row_whole : (fields : Fields) → whole_lines (fields_text fields) ≡ fields_text fields
+row_whole fields =
+    let blank : List ℕ = if is_blank default_writer fields then 34 ∷ 34 ∷ [] else [] in
+    let body : List ℕ = row_body default_writer fields ++ blank in
+    let is : fields_text fields ≡ body ++ 10 ∷ [] = sym (append_assoc (row_body default_writer fields) blank (10 ∷ [])) in
+    ap whole_lines is ∙ line_whole body ∙ sym is
+
+rows_whole : (unit : ℕ) (rows : List Row) → whole_lines (rows_text unit rows) ≡ rows_text unit rows
+rows_whole unit [] = refl
+rows_whole unit (row ∷ rows) =
+    let first : List ℕ = fields_text (row_fields unit row) in
+    ap (λ (l : List ℕ). whole_lines (l ++ rows_text unit rows)) (sym (row_whole (row_fields unit row)))
+    ∙ whole_more first (rows_text unit rows)
+    ∙ ap₂ (λ (l m : List ℕ). l ++ m) (row_whole (row_fields unit row)) (rows_whole unit rows)
+
+pub rows_so : (unit : ℕ) (rows : List Row) (text : List ℕ) → text ≡ rows_text unit rows → whole_lines text ≡ text
+rows_so unit rows text is = ap whole_lines is ∙ rows_whole unit rows ∙ sym is
+
+-- and behind whole lines they still are
+pub lines_on : (known : Option (List ℕ)) (rows : List ℕ) → whole_lines rows ≡ rows
+    → option_map whole_lines (option_append (lines_of known) (Some rows)) ≡ option_append (lines_of known) (Some rows)
+lines_on None rows whole = refl
+lines_on (Some text) rows whole =
+    ap Some (whole_more (closed text) rows ∙ ap (λ (l : List ℕ). whole_lines (closed text) ++ l) whole)
+
+pub none_more : (known : Option (List ℕ)) → option_append known (Some []) ≡ known
+none_more None = refl
+none_more (Some text) = ap Some (append-nil text)
+
+pub adds_so : (known : Option (List ℕ)) (rows : List ℕ) → Appends known (option_append known (Some rows)) rows
+adds_so None rows = tt
+adds_so (Some text) rows = refl
+
+just_so : (text bytes rows : List ℕ) (size : ℕ) (new : Option (List ℕ)) → bytes ≡ closed text
+    → size ≡ length (whole_lines bytes) → Appends (Some (take size bytes)) new rows
+    → Keeps (Some (whole_lines (closed text) ++ rows)) new
+just_so text bytes rows size None same is wrote = absurd wrote
+just_so text bytes rows size (Some next) same is wrote =
+    wrote ∙ ap (λ (l : List ℕ). l ++ rows)
+    (ap (λ (n : ℕ). take n bytes) is ∙ lines_in_front bytes ∙ ap whole_lines same)
+
+-- a file has just its whole lines, and these rows
+pub has_just : {F : Type 0} (safe written : F → Option (List ℕ)) (old mid : Option (List ℕ)) (new : F) (size : ℕ)
+    (rows : List ℕ) → Keeps (option_map closed old) mid → IfSome mid (λ bytes. size ≡ length (whole_lines bytes))
+    → Appends (option_map (take size) mid) (written new) rows → safe new ≡ written new
+    → HasJust safe written (option_append (lines_of old) (Some rows)) new
+has_just safe written None mid new size rows keeps is wrote synced = record { has = tt; synced = synced }
+has_just safe written (Some text) None new size rows keeps is wrote synced = absurd keeps
+has_just safe written (Some text) (Some bytes) new size rows keeps is wrote synced =
+    record { has = just_so text bytes rows size (written new) keeps is wrote; synced = synced }
+
+pub has_just_if : {A E F : Type 0} (result : Result A E) (safe written : F → Option (List ℕ)) (old mid : Option (List ℕ))
+    (new : F) (size : ℕ) (rows : List ℕ) → Keeps (option_map closed old) mid
+    → IfSome mid (λ bytes. size ≡ length (whole_lines bytes))
+    → OnOk result (Appends (option_map (take size) mid) (written new) rows) → OnOk result (safe new ≡ written new)
+    → OnOk result (HasJust safe written (option_append (lines_of old) (Some rows)) new)
+has_just_if (Ok x) safe written old mid new size rows keeps is wrote synced =
+    has_just safe written old mid new size rows keeps is wrote synced
+has_just_if (Err e) safe written old mid new size rows keeps is wrote synced = tt
+
+pub same_so : (known : Option (List ℕ)) (rows : List ℕ) → nat_eq (length rows) 0 ≡ true
+    → known ≡ option_append known (Some rows)
+same_so known [] none = sym (none_more known)
+same_so known (byte ∷ rows) none =
+    let no : length (byte ∷ rows) ≡ 0 = eqb-true (length (byte ∷ rows)) 0 none in absurd (omega (arith, no))
+
+-- ---- what is written behind the rows
+
+pub mended_so : {S : Type 0} (items : S → List Item) (wanted : Heading) (list : List Item) (lines : FileBytes)
+    (controller : View (FromEvent S)) (asked : Option Command) (stood : Snapshot) (may : Option ℕ) (noted : Option Note)
+    (heard : Option Heard) → (c : Continues items wanted list lines controller asked stood may noted heard)
+    → mended_at (plan_of (items_left items) (view_of controller.source stood)) (state_in stood) noted heard
+    ≡ mended (plan_of_run wanted list c.run) c.journal.rows c.run.rows
+mended_so {S} items wanted list lines controller asked stood may noted heard c =
+    let state : State = after_rows (plan_of_run wanted list c.run) start c.run.rows in
+    ap (λ (v : View (FromEvent S)). mended_at (plan_of (items_left items) v) v.state noted heard) c.has_stood.is
+    ∙ ap (λ (p : Plan). mended_at p state noted heard) c.on.resumes.plan_is
+    ∙ ap₂ (λ (n : Option Note) (h : Option Heard). mended_at (plan_of_run wanted list c.run) state n h) c.noted_is c.heard_is

@@ -5,6 +5,8 @@ use Rattle.std.proofs.lemmas.List.{length-drop}
 use Rattle.std.specs.Prelude.{IfOk, IsFalse, IsSome, IsTrue, Option, None, Some, Result, Ok, Err, if◌then◌else◌}
 use Rattle.vdcp_auto.specs.Plan.{Plan, View, plan_of}
 use Rattle.vdcp_auto.specs.State.{State}
+use Rattle.vdcp_auto.specs.declared.exchange.Heard.{Heard}
+use Rattle.vdcp_auto.specs.declared.snapshot.Snapshot.{Snapshot}
 use Rattle.vdcp_journal.specs.Airings.{settled_in}
 use Rattle.vdcp_journal.specs.Runs.{Run}
 use Rattle.vdcp_journal.specs.declared.row.Heading.{Heading}
@@ -76,10 +78,10 @@ both (Err e) P Q p q = tt
 
 -- what continues was replayed
 pub replayed_of : {S : Type 0} (items : S → List Item) (wanted : Heading) (list : List Item) (lines : FileBytes)
-    (controller : View (FromEvent S)) (asked : Option Command) (may : Option ℕ) (noted : Option Note)
-    → (c : Continues items wanted list lines controller asked may noted)
+    (controller : View (FromEvent S)) (asked : Option Command) (stood : Snapshot) (may : Option ℕ) (noted : Option Note)
+    (heard : Option Heard) → (c : Continues items wanted list lines controller asked stood may noted heard)
     → IsReplayed list wanted lines c.run (plan_of (items_left items) controller) controller.state
-replayed_of items wanted list lines controller asked may noted c = record {
+replayed_of items wanted list lines controller asked stood may noted heard c = record {
   journal = c.journal;
   reads = c.reads;
   wanted_is = c.wanted_is;

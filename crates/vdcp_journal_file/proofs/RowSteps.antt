@@ -5,19 +5,24 @@ use Rattle.std.specs.Prelude.{⊤, IfNone, IfOk, IfSome, OnOk, Option, None, Som
 use Rattle.vdcp_auto.specs.Law.{IsLawful}
 use Rattle.vdcp_auto.specs.declared.phase.Mode.{Mode}
 use Rattle.vdcp_auto.specs.Plan.{Plan, View, plan_of}
+use Rattle.vdcp_auto.specs.Snapshots.{CanStand, view_of}
 use Rattle.vdcp_auto.specs.State.{State}
+use Rattle.vdcp_auto.specs.declared.exchange.Heard.{Heard}
+use Rattle.vdcp_auto.specs.declared.snapshot.Snapshot.{Snapshot}
 use Rattle.vdcp_auto.specs.Turn.{awaited, start}
 use Rattle.vdcp_journal.specs.Airings.{FoundSoFar, unsettled_event}
 use Rattle.vdcp_journal.specs.Journals.{IsJournal, Journal}
 use Rattle.vdcp_journal.specs.RunsSoFar.{RunView}
 use Rattle.vdcp_journal.specs.Resume.{AllStand, AreTold, IsResumeFault, Stands, after_rows, fault_of, limit_after, log_of, losses, timed_out}
+use Rattle.vdcp_journal.specs.Mending.{last_note}
 use Rattle.vdcp_journal.specs.Runs.{Run, begins_at, last_run, run_after}
+use Rattle.vdcp_journal.specs.Thinned.{heard_after, heard_from, heard_last, notes_in}
 use Rattle.vdcp_journal.specs.declared.airings.AiringsSoFar.{AiringsSoFar}
 use Rattle.vdcp_journal.specs.declared.faults.JournalReadFault.TheVariants as unread
 use Rattle.vdcp_journal.specs.declared.faults.ResumeFault.{ResumeFault}
 use Rattle.vdcp_journal.specs.declared.row.Heading.{Heading}
 use Rattle.vdcp_journal.specs.declared.row.Row.{Row}
-use Rattle.vdcp_journal_file.specs.Resuming.{Differs, IsLastRun, IsMadeOrRefused, IsOther, IsRefused, IsRunOn, IsRunRefused, RunShows, RunsShow, bad_run, falls, last_note, no_event, no_journal, of_other, plan_begun, plan_of_run, state_after}
+use Rattle.vdcp_journal_file.specs.Resuming.{Differs, HasStood, IsLastRun, IsMadeOrRefused, IsOther, IsRefused, IsRunOn, IsRunRefused, RunShows, RunsShow, bad_run, falls, no_event, no_journal, of_other, plan_begun, plan_of_run, state_after}
 use Rattle.vdcp_journal_file.specs.declared.reading.Refusal.{Refusal}
 use Rattle.vdcp_journal_file.specs.declared.reading.RunAirings.{RunAirings}
 use Rattle.vdcp_journal_file.specs.declared.reading.Refusal.TheVariants as refusal
@@ -173,6 +178,35 @@ pub last_of : (rows : List Row) (row : Row) → last_note (rows ++ row ∷ []) �
 last_of [] row = refl
 last_of (first ∷ []) row = refl
 last_of (first ∷ next ∷ rows) row = last_of (next ∷ rows) row
+
+-- what ended the last exchange, after one row more
+heard_on : (before : Option Heard) (rows : List Row) (row : Row)
+    → heard_from before (notes_in (rows ++ row ∷ [])) ≡ heard_after (heard_from before (notes_in rows)) row.note
+heard_on before [] row = refl
+heard_on before (first ∷ rows) row = heard_on (heard_after before first.note) rows row
+
+pub heard_more : (rows : List Row) (row : Row)
+    → heard_last (notes_in (rows ++ row ∷ [])) ≡ heard_after (heard_last (notes_in rows)) row.note
+heard_more rows row = heard_on None rows row
+
+-- so it stood
+pub stood_so : {S : Type 0} (items : S → List Item) (wanted : Heading) (list : List Item) (run : Run)
+    (made : RunView (FromEvent S)) (resumed : View (FromEvent S)) (stood : Snapshot)
+    → IsMadeOrRefused items wanted list run (Ok made)
+    → resumed ≡ record made.controller
+    { state = timed_out (plan_of (items_left items) made.controller) made.controller.state }
+    → made.controller ≡ view_of made.controller.source stood
+    → CanStand (length (items_left items made.controller.source)) stood
+    → HasStood (items_left items) (plan_of_run wanted list run) run.rows resumed stood
+stood_so {S} items wanted list run made resumed stood (within, source, of, f) resumed_is stands can =
+    let source_is : resumed.source ≡ made.controller.source = ap (λ (v : View (FromEvent S)). v.source) resumed_is in
+    let with : View (FromEvent S) → State → View (FromEvent S) = λ v s. record v { state = s } in
+    record {
+      is = ap (λ (e : FromEvent S). view_of e stood) source_is ∙ sym stands
+          ∙ sym (ap (λ (v : View (FromEvent S)). with v made.controller.state) resumed_is)
+          ∙ ap (with resumed) f.state_is;
+      can_stand = subst (λ (e : FromEvent S). CanStand (length (items_left items e)) stood) (sym source_is) can;
+    }
 
 -- why the last run of a journal that was read doesn't go on
 pub of_run : (list : List Item) (wanted : Heading) (lines : FileBytes) (journal : Journal) (found : Heading) (run : Run)

@@ -3,16 +3,21 @@ use Rattle.std.specs.Borrow.{Bor}
 use Rattle.std.specs.Prelude.{ℕ, ◌≡◌, ◌≢◌, ◌⊎◌, ◌+◌, ◌≤◌, ◌<◌, Bool, true, false, IsFalse, IsTrue, List, [], ◌∷◌, ◌++◌, Option, None, Some, Result, Ok, Err, drop, length}
 use Rattle.vdcp_auto.specs.Law.{IsLawful}
 use Rattle.vdcp_auto.specs.Plan.{Plan, View, plan_of}
+use Rattle.vdcp_auto.specs.Snapshots.{CanStand, view_of}
 use Rattle.vdcp_auto.specs.State.{State}
 use Rattle.vdcp_auto.specs.Turn.{awaited, outcome_of, start}
+use Rattle.vdcp_auto.specs.declared.exchange.Heard.{Heard}
+use Rattle.vdcp_auto.specs.declared.snapshot.Snapshot.{Snapshot}
 use Rattle.vdcp_auto.specs.declared.outcome.Outcome.{Outcome}
 use Rattle.vdcp_auto.specs.declared.outcome.Outcome.TheVariants.{Done, Stopped}
 use Rattle.vdcp_auto.specs.declared.phase.Mode.{Mode}
 use Rattle.vdcp_journal.specs.Airings.{AreAirings, may_have_played, settled_in, unsettled_event}
 use Rattle.vdcp_journal.specs.RunsSoFar.{IsMadeBy, RunView}
+use Rattle.vdcp_journal.specs.Mending.{last_note}
 use Rattle.vdcp_journal.specs.Journals.{IsJournal, IsJournalFault, Journal}
 use Rattle.vdcp_journal.specs.Resume.{AllStand, AreTold, IsResumeFault, after_rows, log_of, plan_after, timed_out}
 use Rattle.vdcp_journal.specs.Runs.{Run, runs_of}
+use Rattle.vdcp_journal.specs.Thinned.{heard_last, notes_in}
 use Rattle.vdcp_journal.specs.declared.faults.JournalReadFault.{JournalReadFault}
 use Rattle.vdcp_journal.specs.declared.faults.JournalReadFault.TheVariants as unread
 use Rattle.vdcp_journal.specs.declared.faults.JournalRowFault.{JournalRowFault}
@@ -164,22 +169,26 @@ pub record IsRunOn {S : Type 0} (items : S → List Item) (wanted : Heading) (li
   pub asked_is : asked ≡ open_after (plan_of_run wanted list run) run.rows
   pub unsettled_is : unsettled ≡ unsettled_event wanted.mode run.rows
 
--- what the last of these rows notes, if there is one
-abbrev pub last_note : List Row → Option Note
-last_note [] = None
-last_note (row ∷ []) = Some row.note
-last_note (row ∷ next ∷ rows) = last_note (next ∷ rows)
+-- so the controller of these rows stood before the exchange that is open was timed out
+pub record HasStood {S : Type 0} (items : S → List Item) (plan : Plan) (rows : List Row) (controller : View S)
+    (stood : Snapshot) : Type 0 where
+  pub is : view_of controller.source stood ≡ record controller { state = after_rows plan start rows }
+  pub can_stand : CanStand (length (items controller.source)) stood
 
--- the last run of a journal of what is wanted, which has these whole lines, goes on so; and this is the journal's last note
+-- the last run of a journal of what is wanted, which has these whole lines, goes on so, and stood so before; and this is the
+-- journal's last note, and what ended the last exchange, if since then at the most the state was asked
 pub record Continues {S : Type 0} (items : S → List Item) (wanted : Heading) (list : List Item) (lines : FileBytes)
-    (controller : View (FromEvent S)) (asked : Option Command) (unsettled : Option ℕ) (noted : Option Note) : Type 0 where
+    (controller : View (FromEvent S)) (asked : Option Command) (stood : Snapshot) (unsettled : Option ℕ)
+    (noted : Option Note) (heard : Option Heard) : Type 0 where
   pub journal : Journal
   pub reads : IsJournal lines journal
   pub wanted_is : journal.heading ≡ wanted
   pub run : Run
   pub last : IsLastRun journal.rows run
   pub on : IsRunOn items wanted list run controller asked unsettled
+  pub has_stood : HasStood (items_left items) (plan_of_run wanted list run) run.rows controller stood
   pub noted_is : noted ≡ last_note journal.rows
+  pub heard_is : heard ≡ heard_last (notes_in journal.rows)
 
 -- so many events aired in a run from its first on, at these times, and this one may have aired besides
 pub record RunShows (mode : Mode) (run : Run) (shown : RunAirings) : Type 0 where
@@ -209,11 +218,6 @@ abbrev pub IsMadeOrRefused : {S : Type 0} → (S → List Item) → Heading → 
 IsMadeOrRefused {S} items heading list run (Ok made) = (run.from ≤ length list) × (source : S)
     × (items source ≡ list) × IsMadeBy (items_left items) (plan_begun heading list run) (record { source = source; from = run.from }) run.rows made
 IsMadeOrRefused items heading list run (Err why) = IsRunRefused list heading run why
-
--- a journal's last row says how the controller ended
-abbrev pub is_end : Option Note → Bool
-is_end (Some (notes.End outcome)) = true
-is_end _ = false
 
 -- why the file of this name isn't read
 abbrev pub IsUnread : Bor (List ℕ) → Failure → Type 0

@@ -11,7 +11,7 @@ use Rattle.vdcp_journal.specs.Journals.{IsJournal, Journal}
 use Rattle.vdcp_journal.specs.Reading.{whole_lines}
 use Rattle.vdcp_journal.specs.Resume.{AllStand, AreTold, log_of}
 use Rattle.vdcp_journal.specs.Runs.{Run, runs_of}
-use Rattle.vdcp_journal.specs.Times.{clocked_text, clocked_text_if}
+use Rattle.vdcp_journal.specs.Times.{clocked_text, end_text, ended_text}
 use Rattle.vdcp_journal.specs.declared.airings.Airing.{Airing}
 use Rattle.vdcp_journal.specs.declared.row.Heading.{Heading}
 use Rattle.vdcp_list.specs.Asrun.{asrun_text, events_text, has_part}
@@ -36,7 +36,7 @@ abbrev pub reported_text : AsrunSettings → List Item → ℕ → ℕ → List 
 reported_text settings items from reported airings =
     if settings.times
     then timed_rows (times_of (λ airing. clocked_text airing.played) (λ airing. clocked_text airing.known)
-    (λ airing. clocked_text_if airing.ended)) settings.rate (has_part items) from (drop from items) airings
+    (λ airing. ended_text airing.ended) (λ airing. end_text airing.ended)) settings.rate (has_part items) from (drop from items) airings
     else events_text settings.rate (has_part items) from (take reported (drop from items))
 
 -- what stands above them

@@ -1,25 +1,23 @@
 //! How a new run begins in a journal that has others.
-ghost use Rattle.std.specs.Prelude.{◌≡◌, ◌⊎◌, ◌≤◌, ◌<◌, ◌+◌, ◌↔◌, None, Some, IfErr, IfOk, IfSome, IsSome, IsTrue, length, option_map};
+ghost use Rattle.std.specs.Prelude.{◌≡◌, ◌⊎◌, ◌≤◌, ◌<◌, ◌+◌, ◌↔◌, None, Some, IfErr, IfOk, IfSome, IsSome, IsTrue, length};
 ghost use Rattle.vdcp_auto.specs.Plan.{plan_of};
 ghost use Rattle.vdcp_auto.specs.Turn.{new_controller, outcome_of};
-ghost use Rattle.vdcp_journal.specs.Reading.{whole_lines};
 ghost use Rattle.vdcp_journal.specs.Runs.{Run};
 ghost use Rattle.vdcp_journal.specs.declared.row.Heading.{Heading};
 ghost use Rattle.vdcp_list.specs.Rests.{items_left};
 ghost use Rattle.vdcp_list.specs.Rows.{FileBytes};
-ghost use Rattle.vdcp_journal_file.specs.Disks.{BeginsWith};
+ghost use Rattle.vdcp_journal_file.specs.Mending.{IsHeaded, lines_of};
 ghost use Rattle.vdcp_journal_file.specs.Recording.{BeganWith, HasBegun};
 ghost use Rattle.vdcp_journal_file.specs.Resuming.{BeginsAfter, IsNoBeginning, IsOpenedAfter, IsOpenedAgain, IsOver, IsRunOn, IsUnopenedAgain, JournalShows};
-ghost use Rattle.vdcp_journal_file.specs.Torn.{closed};
 ghost use Rattle.vdcp_text.specs.declared.failure.Failure.TheVariants as failures;
 
 use crate::disk::ReadableDisk;
 use crate::file::open;
-use crate::mending::{close_row, mend_heading};
+use crate::mending::{end_with, mend_heading};
 use crate::pending::Pending;
 use crate::reading::LastRun;
 use crate::recorder::Recorder;
-use crate::resume::{Resumption, cut, go_on, replay_file};
+use crate::resume::{Resumption, go_on, replay_file};
 use std::fs::File;
 use std::rt::{Clock, Files};
 use vdcp_auto::{Controller, Mode, Outcome, Source};
@@ -68,30 +66,27 @@ fn begin_in<'a, 'r, 's, R: Files + Clock + AllocGlobal, S: Source, F: ReadableDi
     requires unit { wanted.now.unit ≤ 15 }
     requires some { 1 ≤ wanted.now.limit }
     requires few { wanted.now.limit ≤ 1000 }
-    ensures opened { IfOk result (λ r. (lines : FileBytes) × IsOpenedAfter (S.items source.now) wanted.now lines word
-        r.controller.source.from (plan_of (items_left (λ s. S.items s.now)) r.controller) r.controller.state
-        × IfSome r.recorder (HasBegun F.safe F.written lines)
-        × BeginsWith (option_map whole_lines (option_map closed (F.written file))) lines) }
+    ensures opened { IfOk result (λ r. (begun : FileBytes) × IsHeaded wanted.now (F.written file) begun
+        × IsOpenedAfter (S.items source.now) wanted.now (lines_of begun) word r.controller.source.from
+        (plan_of (items_left (λ s. S.items s.now)) r.controller) r.controller.state
+        × IfSome r.recorder (HasBegun F.safe F.written (lines_of begun))
+        × JournalShows wanted.now.mode (lines_of begun) r.runs.items) }
     ensures list { IfOk result (λ r. S.items r.controller.source.source.now ≡ S.items source.now) }
     ensures goes_on { IfOk result (λ r. IsSome r.recorder ↔ (outcome_of r.controller.state.stage ≡ None)) }
     ensures unit { IfOk result (λ r. IfSome r.recorder (λ recorder. recorder.unit ≡ wanted.now.unit)) }
     ensures name { IfOk result (λ r. IfSome r.recorder (λ recorder. recorder.name ≡ name.entry)) }
     ensures from { IfOk result (λ r. IfSome r.recorder (BeganWith (Some r.controller.source.from))) }
-    ensures shows { IfOk result (λ r. (lines : FileBytes) × JournalShows wanted.now.mode lines r.runs.items
-        × BeginsWith (option_map whole_lines (option_map closed (F.written file))) lines) }
     ensures unopened { IfErr result (IsUnopenedAgain (S.items source.now) name.entry wanted.now word) }
 {
     mend_heading(rt, name, wanted, &mut file)?;
-    // (nothing is written to what is refused)
-    replay_file(rt.alloc(), name, wanted, source, &file)?;
-    close_row(name, &mut file)?;
     let run = replay_file(rt.alloc(), name, wanted, source, &file)?;
     if is_told_again(word, &run.controller) {
-        cut(rt.alloc(), name, &mut file)?;
+        end_with(rt.alloc(), name, &mut file, &[])?;
         return go_on(rt, name, wanted.unit, file, run);
     }
+    // (nothing is written that no run begins after)
     let event = beginning(source, word, &run)?;
-    cut(rt.alloc(), name, &mut file)?;
+    end_with(rt.alloc(), name, &mut file, &[])?;
     let mut recorder = Recorder::after(rt, name, wanted.unit, file, Pending::Nothing);
     recorder.keep_from(Some(event))?;
     Ok(Resumption {

@@ -1,9 +1,9 @@
 //! What a journal's file has to do: bytes are appended, made safe and read again, and what is torn is cut off.
 ghost use Rattle.std.specs.Io.KnownBytes.{Appends, WriteAppends};
 ghost use Rattle.std.specs.Io.{WritesAtMost};
-ghost use Rattle.std.specs.Prelude.{◌≡◌, None, OnErr, OnOk, Some, if◌then◌else◌, nat_lt, option_map, take};
+ghost use Rattle.std.specs.Prelude.{◌≡◌, None, OnErr, OnOk, Some, if◌then◌else◌, nat_lt};
 ghost use Rattle.vdcp_list.specs.Asrun.{AppendsBeginning};
-ghost use Rattle.vdcp_journal_file.specs.Disks.{HasJust, Spills};
+ghost use Rattle.vdcp_journal_file.specs.Disks.{Spills};
 
 use std::fs::{self, File, OpenFile};
 use std::io::{self, ErrorKind, Read, Seek, SeekFrom, Write};
@@ -131,12 +131,4 @@ pub fn append_safely<D: Disk>(disk: &mut D, bytes: &[u8]) -> io::Result<()>
         }
     }
     Err(io::Error::from(ErrorKind::TimedOut))
-}
-
-/// Cuts a disk off after its first bytes, as many as this, if it has more, and makes them safe.
-pub(crate) fn cut_safely<D: ReadableDisk>(disk: &mut D, size: u64) -> io::Result<()>
-    ensures { OnOk result (HasJust D.safe D.written (option_map (take size) (D.written disk.old)) disk.new) }
-{
-    disk.cut_after(size)?;
-    disk.sync()
 }

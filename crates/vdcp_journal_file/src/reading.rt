@@ -8,16 +8,17 @@ ghost use Rattle.vdcp_auto.specs.declared.phase.Mode.{Mode};
 ghost use Rattle.vdcp_journal.specs.Airings.{FoundSoFar, unsettled_event};
 ghost use Rattle.vdcp_journal.specs.Reading.{whole_lines};
 ghost use Rattle.vdcp_journal.specs.Runs.{Run};
+ghost use Rattle.vdcp_list.specs.Rests.{items_left};
 ghost use Rattle.vdcp_journal.specs.declared.row.Heading.{Heading};
-ghost use Rattle.vdcp_journal_file.specs.Resuming.{Continues, Differs, IsMadeOrRefused, IsOther, IsRefused, IsRunOn, IsRunRefused, JournalShows, RunsShow, failure_of, is_end, read_refusal, row_fault, standing_fault};
+ghost use Rattle.vdcp_journal_file.specs.Resuming.{Continues, Differs, HasStood, IsMadeOrRefused, IsOther, IsRefused, IsRunOn, IsRunRefused, JournalShows, RunsShow, failure_of, plan_of_run, read_refusal, row_fault, standing_fault};
 
 use std::alloc::{AllocError, Global};
 use std::io;
-use vdcp_auto::{Controller, Source};
+use vdcp_auto::{Controller, Heard, Snapshot, Source};
 use vdcp_journal::laws::{runs_follow_one_another, what_is_told_is_lawful};
 use vdcp_journal::{
     Airing, Airings, AiringsSoFar, Heading, JournalReadFault, JournalRowFault, JournalRows, Note,
-    ResumeFault, Resumed, Row, RunSoFar, WholeLines, begins_at,
+    ResumeFault, Resumed, Row, RunSoFar, WholeLines, begins_at, heard_after,
 };
 use vdcp_list::Rest;
 use vdcp_text::{Failure, JournalFault};
@@ -75,12 +76,16 @@ pub(crate) struct LastRun<'s, S: Source> {
     pub controller: Controller<Rest<&'s S>>,
     /// The command whose exchange was open, and is timed out now.
     pub open: Option<Command>,
+    /// The controller before that.
+    pub stood: Snapshot,
     /// The event that may have aired though the run doesn't report it, by its number in the run.
     pub unsettled: Option<usize>,
     /// What the journal's runs show, this one last.
     pub runs: Vec<RunAirings>,
     /// What the journal's last row notes, if it has one besides its heading.
     pub last_note: Option<Note>,
+    /// What ended the last exchange, if since then at the most the state was asked.
+    pub heard: Option<Heard>,
 }
 
 /// Gives the rows of the last run of a journal to a new controller of the list's events from the run's first on, and times
@@ -96,7 +101,7 @@ pub(crate) fn replay<'a, 's, S: Source, I: io::Read + Drop>(
     requires some { 1 ≤ wanted.now.limit }
     requires few { wanted.now.limit ≤ 1000 }
     ensures replayed { IfOk result (λ r. Continues (λ s. S.items s.now) wanted.now (S.items source.now)
-        (option_map whole_lines (I.remaining reader)) r.controller r.«open» r.unsettled r.last_note) }
+        (option_map whole_lines (I.remaining reader)) r.controller r.«open» r.stood r.unsettled r.last_note r.heard) }
     ensures shows { IfOk result (λ r. JournalShows wanted.now.mode (option_map whole_lines (I.remaining reader)) r.runs.items) }
     ensures refused { IfErr result (λ failure. (refusal : Refusal) × (failure ≡ failure_of name.entry refusal)
         × IsRefused (S.items source.now) wanted.now (option_map whole_lines (I.remaining reader)) refusal) }
@@ -131,7 +136,7 @@ fn last_run<'s, S: Source, I: io::Read + Drop>(
     requires some { 1 ≤ wanted.now.limit }
     requires few { wanted.now.limit ≤ 1000 }
     ensures replayed { IfOk result (λ r. Continues (λ s. S.items s.now) wanted.now (S.items source.now) (I.remaining lines)
-        r.controller r.«open» r.unsettled r.last_note) }
+        r.controller r.«open» r.stood r.unsettled r.last_note r.heard) }
     ensures shows { IfOk result (λ r. JournalShows wanted.now.mode (I.remaining lines) r.runs.items) }
     ensures refused { IfErr result (IsRefused (S.items source.now) wanted.now (I.remaining lines)) }
 {
@@ -145,17 +150,19 @@ fn last_run<'s, S: Source, I: io::Read + Drop>(
     let mut airings = AiringsSoFar::new(alloc, source, wanted.mode);
     let mut runs = Vec::new(alloc);
     let mut last = None;
+    let mut heard = None;
     for read in 0..usize::MAX - 1 {
         let row = match rows.next_row() {
             Ok(Some(row)) => row,
             Ok(None) => {
                 let unsettled = airings.unsettled();
                 runs = with_airings(runs, from, airings)?;
-                return the_last(&rows.heading, wanted, made, unsettled, runs, last);
+                return the_last(&rows.heading, wanted, made, unsettled, runs, last, heard);
             }
             Err(fault) => return Err(read_refusal(fault)),
         };
         last = Some(row.note);
+        heard = heard_after(heard, &row.note);
         match begins_at(&row.note) {
             Some(event) => {
                 runs = with_airings(runs, from, airings)?;
@@ -203,13 +210,16 @@ fn the_last<'s, S: Source>(
     unsettled: Option<usize>,
     runs: Vec<RunAirings>,
     last: Option<Note>,
+    heard: Option<Heard>,
 ) -> Result<LastRun<'s, S>, Refusal>
     ensures same { OnOk result (found.now ≡ wanted.now) }
     ensures goes_on { (list : List Item) (run : Run) → IsMadeOrRefused (λ s. S.items s.now) wanted.now list run made.entry
         → unsettled ≡ unsettled_event wanted.now.mode run.rows
         → IfOk result (λ r. IsRunOn (λ s. S.items s.now) wanted.now list run r.controller r.«open» r.unsettled) }
+    ensures stood { (list : List Item) (run : Run) → IsMadeOrRefused (λ s. S.items s.now) wanted.now list run made.entry
+        → IfOk result (λ r. HasStood (items_left (λ s. S.items s.now)) (plan_of_run wanted.now list run) run.rows r.controller r.stood) }
     ensures shows { IfOk result (λ r. r.runs.items ≡ runs.items) }
-    ensures noted { IfOk result (λ r. r.last_note ≡ last) }
+    ensures noted { IfOk result (λ r. (r.last_note ≡ last) × (r.heard ≡ heard)) }
     ensures refused { (list : List Item) (run : Run) → IsMadeOrRefused (λ s. S.items s.now) wanted.now list run made.entry
         → IfErr result (λ why. IsOther found.now wanted.now why ⊎ IsRunRefused list wanted.now run why) }
 {
@@ -219,13 +229,19 @@ fn the_last<'s, S: Source>(
     what_is_told_is_lawful();
     match made {
         Ok(run) => {
-            let Resumed { controller, open } = run.resume();
+            let Resumed {
+                controller,
+                open,
+                stood,
+            } = run.resume();
             Ok(LastRun {
                 controller,
                 open,
+                stood,
                 unsettled,
                 runs,
                 last_note: last,
+                heard,
             })
         }
         Err(why) => Err(why),
@@ -339,11 +355,4 @@ fn difference(found: &Heading, wanted: &Heading) -> Option<JournalFault>
         return Some(JournalFault::Limit);
     }
     None
-}
-
-/// Whether a journal's last row says how the controller ended.
-pub(crate) fn is_end(last: Option<Note>) -> bool
-    ensures { result ≡ is_end last }
-{
-    matches!(last, Some(Note::End(_)))
 }

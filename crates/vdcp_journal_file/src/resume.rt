@@ -1,30 +1,30 @@
 //! How the last run of a journal's file goes on.
-ghost use Rattle.std.specs.Prelude.{◌≡◌, ◌⊎◌, ◌≤◌, ◌↔◌, IfErr, IfOk, IfSome, IsFalse, IsSome, IsTrue, None, OnOk, Some, length, option_map};
+ghost use Rattle.std.specs.Prelude.{◌≡◌, ◌≤◌, ◌↔◌, IfErr, IfOk, IfSome, IsFalse, IsSome, IsTrue, None, OnOk, Some, length};
 ghost use Rattle.vdcp_auto.specs.Plan.{plan_of};
 ghost use Rattle.vdcp_auto.specs.Turn.{outcome_of};
-ghost use Rattle.vdcp_journal.specs.Reading.{whole_lines};
+ghost use Rattle.vdcp_journal.specs.Mending.{is_end};
 ghost use Rattle.vdcp_journal.specs.Runs.{Run};
 ghost use Rattle.vdcp_journal.specs.declared.moment.Moment.{Moment};
 ghost use Rattle.vdcp_list.specs.Rests.{items_left};
 ghost use Rattle.vdcp_list.specs.Rows.{FileBytes};
-ghost use Rattle.vdcp_journal_file.specs.Disks.{HasJust, KeepsLines};
+ghost use Rattle.vdcp_journal_file.specs.Disks.{HasJust};
+ghost use Rattle.vdcp_journal_file.specs.Mending.{IsHeaded, IsMended, lines_of};
 ghost use Rattle.vdcp_journal_file.specs.Recorded.{MayHold};
 ghost use Rattle.vdcp_journal_file.specs.Recording.{Adds, IsTimedOut, IsUnwritten, outcome_rows};
-ghost use Rattle.vdcp_journal_file.specs.Resuming.{Continues, IsReplayed, JournalShows, IsUnread, IsUnresumed, is_end, open_after, plan_of_run};
-ghost use Rattle.vdcp_journal_file.specs.Torn.{closed};
+ghost use Rattle.vdcp_journal_file.specs.Resuming.{Continues, IsReplayed, JournalShows, IsUnread, IsUnresumed, open_after, plan_of_run};
 
-use crate::disk::{Disk, ReadableDisk, cut_safely};
+use crate::disk::{Disk, ReadableDisk};
 use crate::file::open;
-use crate::mending::{close_row, mend_end, mend_heading, not_read};
+use crate::mending::{mend_end, mend_heading, not_read};
 use crate::pending::Pending;
-use crate::reading::{LastRun, RunAirings, is_end, replay};
+use crate::reading::{LastRun, RunAirings, replay};
 use crate::recorder::Recorder;
+use crate::torn::Closing;
 use std::alloc::Global;
 use std::fs::File;
-use std::io::Read;
 use std::rt::{Clock, Files};
 use vdcp_auto::{Controller, Outcome, Source};
-use vdcp_journal::{Heading, Moment, Note, Row, size_of_lines};
+use vdcp_journal::{Heading, Moment, Note, Row, is_end};
 use vdcp_list::Rest;
 use vdcp_text::Failure;
 use vdcp_words::Command;
@@ -82,32 +82,28 @@ fn resume_in<'a, 'r, 's, R: Files + Clock + AllocGlobal, S: Source, F: ReadableD
     requires unit { wanted.now.unit ≤ 15 }
     requires some { 1 ≤ wanted.now.limit }
     requires few { wanted.now.limit ≤ 1000 }
-    ensures resumed { IfOk result (λ r. (lines : FileBytes) × (run : Run)
+    ensures resumed { IfOk result (λ r. (begun lines : FileBytes) × (run : Run)
+        × IsHeaded wanted.now (F.written file) begun
+        × IsMended (S.items source.now) wanted.now (lines_of begun) lines
         × IsReplayed (S.items source.now) wanted.now lines run (plan_of (items_left (λ s. S.items s.now)) r.controller)
         r.controller.state
         × (r.controller.source.from ≡ run.from)
         × IfSome r.recorder (λ recorder.
         IsTimedOut (open_after (plan_of_run wanted.now (S.items source.now) run) run.rows) recorder.pending)
         × IfSome r.recorder (λ recorder. HasJust F.safe F.written lines recorder.file)
-        × KeepsLines (option_map closed (F.written file)) lines) }
+        × JournalShows wanted.now.mode lines r.runs.items) }
     ensures list { IfOk result (λ r. S.items r.controller.source.source.now ≡ S.items source.now) }
     ensures goes_on { IfOk result (λ r. IsSome r.recorder ↔ (outcome_of r.controller.state.stage ≡ None)) }
     ensures unit { IfOk result (λ r. IfSome r.recorder (λ recorder. recorder.unit ≡ wanted.now.unit)) }
     ensures name { IfOk result (λ r. IfSome r.recorder (λ recorder. recorder.name ≡ name.entry)) }
-    ensures shows { IfOk result (λ r. (lines : FileBytes) × JournalShows wanted.now.mode lines r.runs.items
-        × KeepsLines (option_map closed (F.written file)) lines) }
     ensures unresumed { IfErr result (IsUnresumed (S.items source.now) name.entry wanted.now) }
 {
     mend_heading(rt, name, wanted, &mut file)?;
-    // (nothing is written to what is refused)
-    replay_file(rt.alloc(), name, wanted, source, &file)?;
-    close_row(name, &mut file)?;
     let run = mend_end(rt, name, wanted, source, &mut file)?;
-    cut(rt.alloc(), name, &mut file)?;
     go_on(rt, name, wanted.unit, file, run)
 }
 
-/// The last run of the journal in this file.
+/// The last run of the journal that the whole lines of this file are.
 pub(crate) fn replay_file<'a, 's, S: Source, F: ReadableDisk>(
     alloc: Global,
     name: &'a str,
@@ -118,11 +114,11 @@ pub(crate) fn replay_file<'a, 's, S: Source, F: ReadableDisk>(
     requires some { 1 ≤ wanted.now.limit }
     requires few { wanted.now.limit ≤ 1000 }
     ensures replayed { IfOk result (λ r. Continues (λ s. S.items s.now) wanted.now (S.items source.now)
-        (option_map whole_lines (F.written file.now)) r.controller r.«open» r.unsettled r.last_note) }
-    ensures shows { IfOk result (λ r. JournalShows wanted.now.mode (option_map whole_lines (F.written file.now)) r.runs.items) }
+        (lines_of (F.written file.now)) r.controller r.«open» r.stood r.unsettled r.last_note r.heard) }
+    ensures shows { IfOk result (λ r. JournalShows wanted.now.mode (lines_of (F.written file.now)) r.runs.items) }
     ensures unresumed { IfErr result (IsUnresumed (S.items source.now) name.entry wanted.now) }
 {
-    let reader = reader_of(name, file)?;
+    let reader = Closing::new(reader_of(name, file)?);
     replay(alloc, name, reader, wanted, source)
 }
 
@@ -136,50 +132,6 @@ pub(crate) fn reader_of<'a, F: ReadableDisk>(
 {
     match file.reader() {
         Ok(reader) => Ok(reader),
-        Err(error) => Err(not_read(name, &error)),
-    }
-}
-
-/// Cuts a file off after its whole rows, if it has more than these, and makes them safe.
-pub(crate) fn cut<'a, F: ReadableDisk>(
-    alloc: Global,
-    name: &'a str,
-    file: &mut F,
-) -> Result<(), Failure<'a>>
-    ensures whole { OnOk result (HasJust F.safe F.written (option_map whole_lines (F.written file.old)) file.new) }
-    ensures uncut { IfErr result (λ failure. IsUnread name.entry failure ⊎ IsUnwritten name.entry failure) }
-{
-    let size = whole_size(alloc, name, file)?;
-    match cut_safely(file, size as u64) {
-        Ok(()) => Ok(()),
-        Err(_) => Err(Failure::Write(name)),
-    }
-}
-
-/// How many bytes the whole rows of a file are.
-pub(crate) fn whole_size<'a, F: ReadableDisk>(
-    alloc: Global,
-    name: &'a str,
-    file: &F,
-) -> Result<usize, Failure<'a>>
-    ensures size { IfOk result (λ size. IfSome (F.written file.now) (λ bytes. size ≡ length (whole_lines bytes))) }
-    ensures unread { IfErr result (IsUnread name.entry) }
-{
-    let reader = reader_of(name, file)?;
-    size_read(alloc, name, reader)
-}
-
-/// How many bytes the whole rows are that a reader gives.
-pub(crate) fn size_read<'a, I: Read + Drop>(
-    alloc: Global,
-    name: &'a str,
-    reader: I,
-) -> Result<usize, Failure<'a>>
-    ensures size { IfOk result (λ size. IfSome (I.remaining reader) (λ bytes. size ≡ length (whole_lines bytes))) }
-    ensures unread { IfErr result (IsUnread name.entry) }
-{
-    match size_of_lines(alloc, reader) {
-        Ok(size) => Ok(size),
         Err(error) => Err(not_read(name, &error)),
     }
 }

@@ -1,5 +1,5 @@
 //! A journal's last row that lacks only its line feed, and may have put a clip to air.
-ghost use Rattle.std.specs.Prelude.{◌≡◌, [], IfOk, IfSome, length, option_map};
+ghost use Rattle.std.specs.Prelude.{◌≡◌, [], IfOk, IfSome, option_map};
 ghost use Rattle.vdcp_journal_file.specs.Torn.{closed, closing_left, fits, fits_place, held_with, is_hex, may_air, says_done, says_playing, torn_after};
 
 use arrayvec::ArrayVec;
@@ -141,21 +141,18 @@ fn says_playing(byte: u8) -> bool
     (b'4' <= byte && byte <= b'7') || (b'c' <= byte && byte <= b'f')
 }
 
-/// How many bytes a reader gives.
-pub(crate) fn count_bytes<I: Read>(reader: &mut I) -> io::Result<u64>
-    ensures { IfOk result (λ size. IfSome (I.remaining reader.old) (λ bytes. size ≡ length bytes)) }
+/// Whether the last row that a reader gives lacks only its line feed, and may have put a clip to air.
+pub(crate) fn ends_torn<I: Read>(reader: &mut I) -> io::Result<bool>
+    ensures { IfOk result (λ torn. IfSome (I.remaining reader.old) (λ text. torn ≡ may_air (torn_after [] text))) }
 {
+    let mut torn = ArrayVec::new();
     let mut piece = [0; 4096];
-    let mut size = 0u64;
     for _ in 0..u64::MAX {
         let count = reader.read(piece.as_mut_slice())?;
         if count == 0 {
-            return Ok(size);
+            return Ok(may_air(torn.as_slice()));
         }
-        size = match size.checked_add(count as u64) {
-            Some(more) => more,
-            None => return Err(io::Error::from(io::ErrorKind::FileTooLarge)),
-        };
+        hold(&mut torn, &piece[..count]);
     }
     Err(io::Error::from(io::ErrorKind::FileTooLarge))
 }

@@ -1,21 +1,15 @@
 use Rattle.std.proofs.Common.{List, ap, refl, subst, sym}
 use Rattle.std.proofs.lemmas.Result.{IfOk-weaker, err_from_is_err_and}
-use Rattle.std.specs.Prelude.{Some, option_map}
+use Rattle.std.specs.Prelude.{Some}
 use Rattle.vdcp_auto.specs.Turn.{outcome_of}
-use Rattle.vdcp_journal.specs.Reading.{whole_lines}
 use Rattle.vdcp_journal_file.proofs.Began.{began_with, has_begun, unrecorded}
-use Rattle.vdcp_journal_file.proofs.Mended.{keeps_on, lines_begin}
+use Rattle.vdcp_journal_file.proofs.Mended.{none_more}
 use Rattle.vdcp_journal_file.proofs.OpenedAgain.{both, not_begun, replayed_of}
 use Rattle.vdcp_journal_file.proofs.again.begin_in.Goals as goal
+use Rattle.vdcp_journal_file.specs.Mending.{lines_of}
 use Rattle.vdcp_journal_file.specs.Recording.{Recording}
 use Rattle.vdcp_journal_file.specs.Resuming.{JournalShows, begins, is_over, unresumed}
-use Rattle.vdcp_journal_file.specs.Torn.{closed}
 use Rattle.vdcp_journal_file.specs.declared.reading.RunAirings.{RunAirings}
-
-pub returns-in_err-replay_file-clause-unopened : goal.returns-in_err-replay_file-clause-unopened
-returns-in_err-replay_file-clause-unopened g c =
-    let p = err_from_is_err_and c.from_residual-in_err-replay_file.result c.from_residual-in_err-replay_file.ensures.1 in
-    rw (p.1, p.2) (unresumed c.in_err-replay_file.ensures.unresumed)
 
 pub returns-in_err-run-clause-unopened : goal.returns-in_err-run-clause-unopened
 returns-in_err-run-clause-unopened g c =
@@ -26,34 +20,37 @@ pub returns-in_err-event-clause-unopened : goal.returns-in_err-event-clause-unop
 returns-in_err-event-clause-unopened g c =
     let p = err_from_is_err_and c.from_residual-in_err-event.result c.from_residual-in_err-event.ensures.1 in
     let replayed = c.in_ok-run.ensures.replayed in
-    rw (p.1, p.2) (not_begun _ _ _ _ _ _ _ _ _ (replayed_of _ _ _ _ _ _ _ _ replayed) (c.in_err-event.ensures.none _ _ replayed.on))
+    rw (p.1, p.2) (not_begun _ _ _ _ _ _ _ _ _ (replayed_of _ _ _ _ _ _ _ _ _ _ replayed) (c.in_err-event.ensures.none _ _ replayed.on))
 
 pub returns-then-is_told_again-clause-opened : goal.returns-then-is_told_again-clause-opened
 returns-then-is_told_again-clause-opened g c =
     let replayed = c.in_ok-run.ensures.replayed in
     let ended = c.is_told_again.ensures.is_over c.if-is_told_again.true in
     let over = is_over (c.is_told_again.ensures.unsaid c.if-is_told_again.true) replayed.run
-    (replayed_of _ _ _ _ _ _ _ _ replayed) replayed.on.from_is ended in
+    (replayed_of _ _ _ _ _ _ _ _ _ _ replayed) replayed.on.from_is ended in
     IfOk-weaker c.go_on.result _ _ (λ r p. (
-      option_map whole_lines (g.F.Disk.written c.close_row.new.file),
+      g.F.Disk.written c.mend_heading.new.file,
+      c.in_ok-mend_heading.ensures.headed,
       rw p.0 over,
-      unrecorded r.recorder _ _ _ (ap (λ controller. outcome_of controller.state.stage) p.0) ended p.1,
-      lines_begin (option_map closed (g.F.Disk.written c.args.file)) (g.F.Disk.written c.close_row.new.file)
-          (keeps_on _ _ _ c.in_ok-mend_heading.ensures.kept c.in_ok-close_row.ensures.closed),
-    )) (both c.go_on.result _ _ c.go_on.ensures.controller c.go_on.ensures.goes_on)
+      unrecorded r.recorder _ _ _ (ap (λ controller. outcome_of controller.state.stage) p.0) ended p.1.0,
+      subst (λ (l : List RunAirings). JournalShows c.args.wanted.now.mode
+          (lines_of (g.F.Disk.written c.mend_heading.new.file)) l) (sym p.1.1) c.in_ok-run.ensures.shows,
+    )) (both c.go_on.result _ _ c.go_on.ensures.controller
+    (both c.go_on.result _ _ c.go_on.ensures.goes_on c.go_on.ensures.runs))
 
 pub returns-clause-opened : goal.returns-clause-opened
 returns-clause-opened g c =
+    let begun = g.F.Disk.written c.mend_heading.new.file in
     let replayed = c.in_ok-run.ensures.replayed in
     let event = c.in_ok-event.ensures.begins _ _ replayed.on in (
-      option_map whole_lines (g.F.Disk.written c.close_row.new.file),
+      begun,
+      c.in_ok-mend_heading.ensures.headed,
       rw c.new_controller.ensures
-          (begins replayed.run _ _ (replayed_of _ _ _ _ _ _ _ _ replayed) event.1 event.0 refl refl),
+          (begins replayed.run _ _ (replayed_of _ _ _ _ _ _ _ _ _ _ replayed) event.1 event.0 refl refl),
       has_begun g.F.Disk.safe g.F.Disk.written _ c.after-recorder.result c.keep_from.new.self (Some c.in_ok-event.event)
-          (rw c.after-recorder.ensures c.in_ok-cut-2.ensures.whole) c.in_ok-keep_from.ensures.safe
-          c.in_ok-keep_from.ensures.synced c.in_ok-keep_from.ensures.rest,
-      lines_begin (option_map closed (g.F.Disk.written c.args.file)) (g.F.Disk.written c.close_row.new.file)
-          (keeps_on _ _ _ c.in_ok-mend_heading.ensures.kept c.in_ok-close_row.ensures.closed),
+          (rw c.after-recorder.ensures (rw (none_more (lines_of begun)) at c.in_ok-end_with-2.ensures.ends))
+          c.in_ok-keep_from.ensures.safe c.in_ok-keep_from.ensures.synced c.in_ok-keep_from.ensures.rest,
+      c.in_ok-run.ensures.shows,
     )
 
 pub returns-clause-from : goal.returns-clause-from
@@ -67,21 +64,3 @@ returns-then-is_told_again-clause-list g c =
 
 pub returns-clause-list : goal.returns-clause-list
 returns-clause-list g c = rw c.new_controller.ensures refl
-
-pub returns-then-is_told_again-clause-shows : goal.returns-then-is_told_again-clause-shows
-returns-then-is_told_again-clause-shows g c =
-    IfOk-weaker c.go_on.result _ _ (λ r same. (
-      option_map whole_lines (g.F.Disk.written c.close_row.new.file),
-      subst (λ (l : List RunAirings). JournalShows c.args.wanted.now.mode
-          (option_map whole_lines (g.F.Disk.written c.close_row.new.file)) l) (sym same) c.in_ok-run.ensures.shows,
-      lines_begin (option_map closed (g.F.Disk.written c.args.file)) (g.F.Disk.written c.close_row.new.file)
-          (keeps_on _ _ _ c.in_ok-mend_heading.ensures.kept c.in_ok-close_row.ensures.closed),
-    )) c.go_on.ensures.runs
-
-pub returns-clause-shows : goal.returns-clause-shows
-returns-clause-shows g c = (
-  option_map whole_lines (g.F.Disk.written c.close_row.new.file),
-  c.in_ok-run.ensures.shows,
-  lines_begin (option_map closed (g.F.Disk.written c.args.file)) (g.F.Disk.written c.close_row.new.file)
-      (keeps_on _ _ _ c.in_ok-mend_heading.ensures.kept c.in_ok-close_row.ensures.closed),
-)

@@ -1,44 +1,34 @@
+use Rattle.std.proofs.Common.{◌≡◌, ap, subst, ◌∙◌}
 use Rattle.std.specs.Fmt.{option_append}
-use Rattle.std.proofs.Common.{inl}
-use Rattle.std.proofs.lemmas.Result.{IfOk-weaker, err_from_is_err_and}
-use Rattle.std.specs.Prelude.{Some, option_map, take}
-use Rattle.vdcp_journal_file.proofs.Mended.{appended, kept_same, kept_so, replaced, untouched}
-use Rattle.vdcp_journal_file.proofs.OpenedAgain.{both}
+use Rattle.std.specs.Io.KnownBytes.{Appends}
+use Rattle.std.specs.Prelude.{Some}
+use Rattle.vdcp_journal.specs.Mending.{rows_at}
+use Rattle.vdcp_journal.specs.Reading.{whole_lines}
+use Rattle.vdcp_journal.specs.Rows.{rows_text}
+use Rattle.vdcp_journal_file.proofs.Mended.{adds_so, mended_so, rows_so}
 use Rattle.vdcp_journal_file.proofs.mending.mend_end.Goals as goal
-use Rattle.vdcp_journal_file.specs.Resuming.{bad}
+use Rattle.vdcp_journal_file.specs.Mending.{lines_of}
 
-pub returns-then-is_empty-clause-goes_on : goal.returns-then-is_empty-clause-goes_on
-returns-then-is_empty-clause-goes_on g c =
-    let old = g.F.Disk.written c.args.file.now in
-    IfOk-weaker c.replay_file.result _ _ (λ r p. (old, inl (untouched old), kept_same old, p.0, p.1))
-    (both c.replay_file.result _ _ c.replay_file.ensures.replayed c.replay_file.ensures.shows)
-
-pub returns-clause-goes_on : goal.returns-clause-goes_on
-returns-clause-goes_on g c =
-    let old = g.F.Disk.written c.args.file.now in
-    let front = option_map (take c.in_ok-run.size) old in
-    let rows = c.in-Ok.rows.items in (
-      option_append front (Some rows),
-      replaced old _ c.in_ok-run.size rows c.in_ok-run.ensures.size (appended front rows),
-      kept_so front _ rows (rw c.as_slice-2.ensures.value at c.in_ok-replace_from.ensures.replaced),
-      rw (
-        c.chain.ensures.bytes,
-        c.take-front.ensures.limit,
-        c.take-front.ensures.inner,
-        c.in_ok-reader_of.ensures.all,
-        c.as_slice.ensures.value,
-      ) at c.in_ok-run-2.ensures.replayed,
-      rw (
-        c.chain.ensures.bytes,
-        c.take-front.ensures.limit,
-        c.take-front.ensures.inner,
-        c.in_ok-reader_of.ensures.all,
-        c.as_slice.ensures.value,
-      ) at c.in_ok-run-2.ensures.shows,
+pub returns-clause-mended : goal.returns-clause-mended
+returns-clause-mended g c =
+    let old = lines_of (g.F.Disk.written c.args.file.now) in
+    let rows = c.in-Ok.rows.items in
+    let on = c.in_ok-run.ensures.replayed in
+    let (time, unclocked, is) = c.in-Ok.ensures in
+    let whole : whole_lines rows ≡ rows = rows_so c.args.wanted.now.unit (rows_at time _) rows is in (
+      option_append old (Some rows),
+      record {
+        journal = on.journal;
+        reads = on.reads;
+        run = on.run;
+        last = on.last;
+        time = time;
+        unclocked = unclocked;
+        adds = subst (Appends old (option_append old (Some rows)))
+            (is ∙ ap (λ notes. rows_text c.args.wanted.now.unit (rows_at time notes))
+            (mended_so (λ s. g.S.Source.items s.now) _ _ _ _ _ _ _ _ _ on)) (adds_so old rows);
+      },
+      rw c.as_slice-2.ensures.value at c.in_ok-end_with.ensures.ends,
+      rw c.as_slice.ensures.value at (c.in_ok-run-2.ensures.on on (rw c.as_slice.ensures.value whole)),
+      rw c.as_slice.ensures.value at (c.in_ok-run-2.ensures.shows c.in_ok-run.ensures.shows (rw c.as_slice.ensures.value whole)),
     )
-
-pub returns-in_err-run-2-clause-unmended : goal.returns-in_err-run-2-clause-unmended
-returns-in_err-run-2-clause-unmended g c =
-    let p = err_from_is_err_and c.from_residual-in_err-run-2.result c.from_residual-in_err-run-2.ensures.1 in
-    let refused = c.in_err-run-2.ensures.refused in
-    rw (p.1, p.2) (bad _ refused.0 refused.2 refused.1)

@@ -2,11 +2,13 @@ use Rattle.std.proofs.Common.{ℕ, ap, append-nil, ◌≡◌, ◌+◌, ◌<◌, 
 use Rattle.std.proofs.lemmas.Result.{IfErr-weaker, IfOk-weaker}
 use Rattle.vdcp_journal.specs.Journals.{IsJournal, Journal}
 use Rattle.vdcp_journal.specs.Runs.{Run, ended_in, ended_runs, last_run, run_after, runs_of}
+use Rattle.vdcp_auto.specs.declared.exchange.Heard.{Heard}
+use Rattle.vdcp_journal.specs.Thinned.{heard_after}
 use Rattle.vdcp_journal.specs.declared.faults.JournalReadFault.TheVariants as unread
 use Rattle.vdcp_journal.specs.declared.row.Row.{Row}
 use Rattle.std.specs.Prelude.{Option, Some}
 use Rattle.vdcp_journal_file.proofs.OpenedAgain.{both}
-use Rattle.vdcp_journal_file.proofs.RowSteps.{begins, both_ok, last_of, of_run, other, some_rows}
+use Rattle.vdcp_journal_file.proofs.RowSteps.{begins, both_ok, heard_more, last_of, of_run, other, some_rows}
 use Rattle.vdcp_journal_file.proofs.reading.last_run.Goals as goal
 use Rattle.vdcp_journal_file.proofs.reading.last_run.Goals.{in-Some+in_ok-runs-in-Some, in-None+in_ok-add-in-None}
 use Rattle.vdcp_journal_file.specs.Resuming.{RunsShow, no_journal}
@@ -21,7 +23,7 @@ loop-read-init g c = (
   refl,
   c.in-Ok.ensures.begun,
   record { is = c.begun-made.ensures (last_run []) refl refl refl; found = c.new-airings.ensures },
-  refl,
+  (refl, refl),
   rw c.new-runs.ensures.items tt,
   refl,
 )
@@ -39,10 +41,12 @@ returns-in-Ok-None-clause-replayed g c =
       run = last_run rows;
       last = (_, c.runs_follow_one_another.ensures.all rows);
       on = p.1.0;
-      noted_is = p.1.1 ∙ c.loop-read.invariant.4;
+      has_stood = p.1.1.0;
+      noted_is = p.1.1.1.0 ∙ c.loop-read.invariant.4.0;
+      heard_is = p.1.1.1.1 ∙ c.loop-read.invariant.4.1;
     }) (both_ok c.the_last.result _ _ c.the_last.ensures.same (both c.the_last.result _ _
     (c.the_last.ensures.goes_on _ (last_run rows) c.loop-read.invariant.3.is (c.unsettled-unsettled.ensures _ _ c.loop-read.invariant.3.found))
-    c.the_last.ensures.noted))
+    (both c.the_last.result _ _ (c.the_last.ensures.stood _ (last_run rows) c.loop-read.invariant.3.is) c.the_last.ensures.noted)))
 
 pub returns-in-Ok-None-clause-shows : goal.returns-in-Ok-None-clause-shows
 returns-in-Ok-None-clause-shows g c =
@@ -95,7 +99,11 @@ loop-read-preserved g c =
             (w.followed-made.ensures c.args.wanted.now _ run (omega (arith, count)) c.loop-read.invariant.3.is)
             (w.in_ok-add-in-None.ensures c.args.wanted.now.mode run.rows c.loop-read.invariant.3.found (omega (arith, count, few))))
       ],
-      sym (last_of rows row),
+      (
+        sym (last_of rows row),
+        c.heard_after-heard.ensures ∙ ap (λ (h : Option Heard). heard_after h row.note) c.loop-read.invariant.4.1
+            ∙ sym (heard_more rows row),
+      ),
       elim c.match-begins_at.branch [
         | in-Some+in_ok-runs-in-Some w ↦ rw (
           w.runs-is,

@@ -1,0 +1,151 @@
+//! The rows that a killed run gets before it goes on.
+ghost use Rattle.std.specs.Prelude.{◌≡◌, ◌++◌, IfOk, OnOk};
+ghost use Rattle.vdcp_auto.specs.Plan.{plan_of};
+ghost use Rattle.vdcp_journal.specs.Mending.{after_notes, announced_state, free_state, is_end, is_said, loss_at, mended_at, unkept_at};
+ghost use Rattle.vdcp_journal.specs.Thinned.{heard_after};
+
+use crate::replay::give;
+use crate::row::Note;
+use std::alloc::{AllocError, Global};
+use vdcp_auto::{Controller, Heard, Outcome, Phase, Source, Standing};
+use vdcp_words::state::{CUE_DONE, PLAYING};
+use vdcp_words::{Command, Reply};
+
+/// The notes that a killed run gets before it goes on. `controller` is the one that its rows make, `last` the journal's last
+/// note, and `heard` what was heard last. A command may have gone out without its row: it gets one, behind a row of the state
+/// that lets it go out. If the run was lost, a row says so. Fails if memory is refused.
+pub fn mended<S: Source + Drop>(
+    alloc: Global,
+    mut controller: Controller<S>,
+    last: Option<Note>,
+    heard: Option<Heard>,
+) -> Result<Vec<Note>, AllocError>
+    ensures { IfOk result (λ notes. notes.items
+        ≡ mended_at (plan_of S.items controller) controller.state last heard) }
+{
+    let mut notes = unkept(alloc, &controller, heard)?;
+    let said = is_said(notes.as_slice(), last);
+    give_all(&mut controller, notes.as_slice());
+    add_loss(controller, said, &mut notes)?;
+    Ok(notes)
+}
+
+// What may have been sent and heard since the last row: the next command, if it asks for the state, or is a PLAY; and,
+// if the last state announces a PLAY, that, with a state before it that lets it go out.
+fn unkept<S: Source>(
+    alloc: Global,
+    controller: &Controller<S>,
+    heard: Option<Heard>,
+) -> Result<Vec<Note>, AllocError>
+    ensures { IfOk result (λ notes. notes.items ≡ unkept_at (plan_of S.items controller.now) controller.now.state heard) }
+{
+    let mut notes = Vec::new(alloc);
+    match (
+        controller.awaited(),
+        controller.to_send(),
+        announced(controller, heard),
+    ) {
+        (Some(_), _, Some(state)) => {
+            notes.push(Note::Heard(state))?;
+            notes.push(Note::Sent(Command::Play))?;
+        }
+        (Some(_), _, None) => {}
+        (None, Some(asks @ Command::Status(_)), Some(state)) => {
+            notes.push(Note::Sent(asks))?;
+            notes.push(Note::Heard(state))?;
+            notes.push(Note::Sent(Command::Play))?;
+        }
+        (None, Some(next @ (Command::Status(_) | Command::Play)), _) => {
+            notes.push(Note::Sent(next))?;
+        }
+        (None, _, _) => {}
+    }
+    Ok(notes)
+}
+
+// The state that a PLAY goes out after, if the controller waits for the clip before to end, and what was heard last announces
+// the PLAY: that, but that nothing plays.
+fn announced<S: Source>(controller: &Controller<S>, heard: Option<Heard>) -> Option<Heard>
+    ensures { result ≡ announced_state heard controller.now.state.stage }
+{
+    match controller.snapshot().standing {
+        Standing::Ready(Phase::Wait(_)) | Standing::Awaiting(Phase::Wait(_)) => free_state(heard),
+        _ => None,
+    }
+}
+
+fn free_state(heard: Option<Heard>) -> Option<Heard>
+    ensures { result ≡ free_state heard }
+{
+    match heard {
+        Some(Heard::Reply(Reply::State(groups, Some(state)))) if state & CUE_DONE != 0 => {
+            Some(Heard::Reply(Reply::State(groups, Some(state & !PLAYING))))
+        }
+        _ => None,
+    }
+}
+
+// Makes the calls of a controller that notes tell of.
+fn give_all<S: Source>(controller: &mut Controller<S>, notes: &[Note])
+    ensures { controller.new ≡ record controller.old {
+      state = after_notes (plan_of S.items controller.old) controller.old.state notes.now;
+    } }
+{
+    match notes {
+        [] => {}
+        [note, rest @ ..] => {
+            give(controller, note);
+            give_all(controller, rest);
+        }
+    }
+}
+
+// Whether the last row says how the controller ended, and nothing comes behind it.
+fn is_said(notes: &[Note], last: Option<Note>) -> bool
+    ensures { result ≡ is_said notes.now last }
+{
+    match notes {
+        [] => is_end(last),
+        [_, ..] => false,
+    }
+}
+
+// Adds that the controller was lost, if it was once what is open times out, and that isn't said.
+fn add_loss<S: Source + Drop>(
+    mut controller: Controller<S>,
+    said: bool,
+    notes: &mut Vec<Note>,
+) -> Result<(), AllocError>
+    ensures { OnOk result (notes.new.items ≡ notes.old.items
+        ++ loss_at (plan_of S.items controller) controller.state said) }
+{
+    let asked = controller.awaited().is_some();
+    controller.timeout();
+    if said || controller.outcome() != Some(Outcome::Lost) {
+        return Ok(());
+    }
+    if asked {
+        notes.push(Note::Silence)?;
+    }
+    notes.push(Note::End(Outcome::Lost))?;
+    Ok(())
+}
+
+/// Whether a journal's last row says how the controller ended.
+pub fn is_end(last: Option<Note>) -> bool
+    ensures { result ≡ is_end last }
+{
+    matches!(last, Some(Note::End(_)))
+}
+
+/// What ended the last exchange, after a note more, if since then at the most the state was asked.
+pub fn heard_after(before: Option<Heard>, note: &Note) -> Option<Heard>
+    ensures { result ≡ heard_after before note.now }
+{
+    match note {
+        Note::Sent(Command::Status(_)) => before,
+        Note::Heard(heard) => Some(*heard),
+        Note::Sent(_) | Note::Silence | Note::Take | Note::Stop | Note::End(_) | Note::From(_) =>
+            None,
+    }
+}
