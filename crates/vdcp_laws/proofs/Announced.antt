@@ -27,21 +27,20 @@ use Rattle.vdcp_auto.specs.declared.exchange.Heard.{Heard}
 use Rattle.vdcp_auto.specs.declared.exchange.Heard.TheVariants as heard
 use Rattle.vdcp_auto.specs.declared.phase.Mode.{Mode}
 use Rattle.vdcp_auto.specs.declared.phase.Mode.TheVariants.{Plain, Confirming}
-use Rattle.vdcp_journal.specs.Thinned.{IsThinned, asks_state, before_play, hears_done, hears_free, takes, whole, without}
+use Rattle.vdcp_journal.specs.Thinned.{IsThinned, asks_state, before_play, heard_last, hears_done, hears_free, takes, whole, without}
 use Rattle.vdcp_journal.specs.declared.row.Note.{Note}
 use Rattle.vdcp_journal.specs.declared.row.Note.TheVariants as note
 use Rattle.vdcp_laws.proofs.Commands.{awaits_none_in, exchange_is, left_by, not_ended}
 use Rattle.vdcp_laws.proofs.Held.{ahead, ahead_all, ahead_one, with_downs}
 use Rattle.vdcp_laws.proofs.Journaled.{asked, given_awaited, one_silence, plan_stays, plan_stays_in}
 use Rattle.vdcp_laws.proofs.Running.{given_last, last_more, no_notes}
-use Rattle.vdcp_laws.specs.Announced.{Announces, came_again, heard_last, played_notes}
+use Rattle.vdcp_laws.specs.Announced.{Announces, came_again, played_notes}
+use Rattle.vdcp_laws.specs.Below.{UnitStays}
 use Rattle.vdcp_laws.specs.Kills.{IsRun, begun, happened, heard_notes, end_notes, notes_of, played, silence_notes, stray_notes}
 use Rattle.vdcp_world.specs.LateLine.GoingOn.{IsNoTick, gone_on}
 use Rattle.vdcp_world.specs.LateLine.LateChannel.{LateChannel, after_late_event, after_late_events, command_bursts, oldest}
 use Rattle.vdcp_world.specs.LateLine.LateEvent.{LateEvent}
 use Rattle.vdcp_world.specs.LateLine.LateEvent as event
-use Rattle.vdcp_port.specs.Answers.{after_burst}
-use Rattle.vdcp_port.specs.Clock.{ClockedPort, after_ended, after_frame, after_ready}
 use Rattle.vdcp_words.specs.declared.command.Command.{Command}
 use Rattle.vdcp_words.specs.declared.command.Command.TheVariants as command
 use Rattle.vdcp_words.specs.declared.reply.Reply.{Reply}
@@ -51,12 +50,6 @@ use Rattle.vdcp_world.specs.Channel.{log_hearing, log_straying, state_hearing, s
 -- What stays.
 
 -- the port's unit
-abbrev pub UnitStays : Type 0
-UnitStays = ((p : ClockedPort) (burst : List ℕ) → (after_burst p burst).state.unit ≡ p.state.unit)
-    × ((p : ClockedPort) → (after_frame p).state.unit ≡ p.state.unit)
-    × ((p : ClockedPort) → (after_ready p).state.unit ≡ p.state.unit)
-    × ((p : ClockedPort) → (after_ended p).state.unit ≡ p.state.unit)
-
 unit_stays : UnitStays → (c : LateChannel) (e : LateEvent)
     → (after_late_event c e).port.state.unit ≡ c.port.state.unit
 unit_stays stays c event.Tick = refl

@@ -18,10 +18,11 @@ use Rattle.vdcp_world.specs.LateLine.LateChannel.{LateChannel, IsQuestion, after
 use Rattle.vdcp_world.specs.LateLine.LateEvent as event
 use Rattle.vdcp_drive.specs.Turns.{arrivals}
 use Rattle.vdcp_laws.specs.Automation.{commands_in}
+use Rattle.vdcp_laws.specs.Below.{Laws}
 use Rattle.vdcp_laws.specs.Kills.{happened}
 use Rattle.vdcp_laws.specs.TwoEnds.{AreJoined, CanJoin, Ends, MayAsk, asking, asking_all, asks, bytes_in, commands_sent, sent_down, went_on}
 use Rattle.vdcp_laws.proofs.Bytes.{spelt}
-use Rattle.vdcp_laws.proofs.Joining.{IsBeside, Laws}
+use Rattle.vdcp_laws.proofs.Joining.{IsBeside}
 use Rattle.vdcp_laws.proofs.Queues.{Takes, bursts_to, bytes_to, messages_to, sends_on}
 use Rattle.vdcp_laws.proofs.Running.{no_notes}
 

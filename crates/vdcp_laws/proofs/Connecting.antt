@@ -19,6 +19,7 @@ use Rattle.vdcp_journal.specs.declared.row.Note.TheVariants as note
 use Rattle.vdcp_drive.specs.Serving.{Service}
 use Rattle.vdcp_laws.specs.Announced.{Announces, came_again}
 use Rattle.vdcp_laws.specs.Automation.{commands_in}
+use Rattle.vdcp_laws.specs.Below.{Laws}
 use Rattle.vdcp_laws.specs.Kills as kills
 use Rattle.vdcp_laws.specs.Kills.{IsRun, happened, silence_notes}
 use Rattle.vdcp_drive.specs.Reading.{holds}
@@ -39,7 +40,7 @@ use Rattle.vdcp_laws.proofs.Held.{ahead}
 use Rattle.vdcp_laws.proofs.Journaled.{run_reached}
 use Rattle.vdcp_laws.proofs.Killed.{again_noted, gives_ready}
 use Rattle.vdcp_laws.proofs.Running.{loses_down_so, loses_up_so, no_notes, silent_so}
-use Rattle.vdcp_laws.proofs.Joining.{AreBeside, IsBeside, Laws, comes_down, comes_up, gives_next, passes, pauses, same_down, shuts, times_out, wishes}
+use Rattle.vdcp_laws.proofs.Joining.{AreBeside, IsBeside, comes_down, comes_up, gives_next, passes, pauses, same_down, shuts, times_out, wishes}
 
 -- Connections.
 
@@ -63,48 +64,49 @@ are_asked law plan unit (c ∷ cs) small port only =
           (inr (c, q, law.spelt.alone m fit)) rest.only;
     }
 
-begins : (law : Laws) (plan : Plan) (port : ClockedPort) (asked : List Command) → CanJoin plan port asked
-    → AreBeside plan port (new_ends port asked)
+-- the channel beside two new ends has what was asked on its way down
+abbrev pub first_channel : Plan → ClockedPort → List Command → LateChannel
+first_channel plan port asked =
+    new_late_channel plan port (map spelling (messages_to port.state.unit (commands_sent plan (new_ends port asked)))) []
+
+pub begins : (law : Laws) (plan : Plan) (port : ClockedPort) (asked : List Command) → CanJoin plan port asked
+    → IsBeside plan port (new_ends port asked) (first_channel plan port asked)
 begins law plan port asked can =
     let unit : ℕ = port.state.unit in
-    let new : Ends = new_ends port asked in
-    let sent : List Command = commands_sent plan new in
+    let sent : List Command = commands_sent plan (new_ends port asked) in
     let q = are_asked law plan unit sent can.can_start.unit_fits can.can_start.port_fits
     (subst (All (IsQuestion plan.port)) (sym (append-nil asked)) can.only_asks) in
     record {
-      channel = new_late_channel plan port (map spelling (messages_to unit sent)) [];
-      beside = record {
-        run = kills.begun plan port (map spelling (messages_to unit sent)) [] (record {
-          some = can.can_start.some;
-          few = can.can_start.few;
-          unit_fits = can.can_start.unit_fits;
-          port_fits = can.can_start.port_fits;
-          of_bytes = can.can_start.of_bytes;
-          nothing_cued = can.can_start.nothing_cued;
-          asked = q.only;
-          answered = can.can_start.answered;
-        });
-        plan_is = refl;
-        unit_is = refl;
-        clips_are = refl;
-        state_is = refl;
-        log_is = refl;
-        aired_is = refl;
-        held = holds [];
-        server_is = refl;
-        downwards = record {
-          done = [];
-          left = messages_to unit sent;
-          held = [];
-          fits = q.fits;
-          sent_is = bytes_to unit sent;
-          came_is = refl;
-          at_is = refl;
-          unfinished = nothing_unfinished law.spelt;
-          queue_is = refl;
-        };
-        upwards = nothing_taken law.spelt;
+      run = kills.begun plan port (map spelling (messages_to unit sent)) [] (record {
+        some = can.can_start.some;
+        few = can.can_start.few;
+        unit_fits = can.can_start.unit_fits;
+        port_fits = can.can_start.port_fits;
+        of_bytes = can.can_start.of_bytes;
+        nothing_cued = can.can_start.nothing_cued;
+        asked = q.only;
+        answered = can.can_start.answered;
+      });
+      plan_is = refl;
+      unit_is = refl;
+      clips_are = refl;
+      state_is = refl;
+      log_is = refl;
+      aired_is = refl;
+      held = holds [];
+      server_is = refl;
+      downwards = record {
+        done = [];
+        left = messages_to unit sent;
+        held = [];
+        fits = q.fits;
+        sent_is = bytes_to unit sent;
+        came_is = refl;
+        at_is = refl;
+        unfinished = nothing_unfinished law.spelt;
+        queue_is = refl;
       };
+      upwards = nothing_taken law.spelt;
     }
 
 -- the channel whose queues are lost, and whose time is up
@@ -149,7 +151,7 @@ connects law plan port e c d q b run same is unit clips =
 
 -- What an automation goes on as that is killed.
 
-takes : (plan : Plan) (port : ClockedPort) (e : Ends) (c : LateChannel)
+pub takes : (plan : Plan) (port : ClockedPort) (e : Ends) (c : LateChannel)
     → outcome_of e.automation.state.stage ≡ None → IsBeside plan port e c
     → IsBeside plan port (with_take e) (after_late_event c event.Take)
 takes plan port e c on b =
@@ -206,7 +208,7 @@ goes_beside law plan port asked e _ c can ready b (as_announced h a) =
     }
 
 -- what is given next, as all calls of a controller lead to it
-ready : (law : Laws) (plan : Plan) (port : ClockedPort) (asked : List Command) (e : Ends) → CanJoin plan port asked
+pub ready : (law : Laws) (plan : Plan) (port : ClockedPort) (asked : List Command) (e : Ends) → CanJoin plan port asked
     → AreJoined plan port asked e → is_some (given plan e.automation.state) ≡ is_ready e.automation.state.stage
 ready law plan port asked e can j =
     (law.lawful plan e.automation.state (log_now e) (are_reached plan port asked e can j)).gives
@@ -215,7 +217,8 @@ ready law plan port asked e can j =
 
 pub beside : (law : Laws) (plan : Plan) (port : ClockedPort) (asked : List Command) (e : Ends) → CanJoin plan port asked
     → AreJoined plan port asked e → AreBeside plan port e
-beside law plan port asked _ can begun = begins law plan port asked can
+beside law plan port asked _ can begun =
+    record { channel = first_channel plan port asked; beside = begins law plan port asked can }
 beside law plan port asked _ can (went_on {e} j gave) =
     let r = beside law plan port asked e can j in
     record { channel = _; beside = gives_next law plan port asked e r.channel can (ready law plan port asked e can j) r.beside }
@@ -224,10 +227,10 @@ beside law plan port asked _ can (went_on {e} j (asks q d is none)) =
     record { channel = _; beside = asks_next law plan port asked e r.channel q d can is none r.beside }
 beside law plan port asked _ can (went_on {e} j (came_up piece rest is)) =
     let r = beside law plan port asked e can j in
-    comes_up law plan port e piece rest r.channel r.beside is
+    record { channel = _; beside = (comes_up law plan port e piece rest r.channel r.beside is).beside }
 beside law plan port asked _ can (went_on {e} j (came_down piece rest is)) =
     let r = beside law plan port asked e can j in
-    comes_down law plan port asked e piece rest r.channel can r.beside is
+    record { channel = _; beside = (comes_down law plan port asked e piece rest r.channel can r.beside is).beside }
 beside law plan port asked _ can (went_on {e} j waited) =
     let r = beside law plan port asked e can j in record { channel = _; beside = times_out plan port e r.channel r.beside }
 beside law plan port asked _ can (went_on {e} j passed) =

@@ -1,5 +1,5 @@
 -- Two ends with their bytes, computed: a run that the laws speak of; and for some premises what happens without them.
-use Rattle.std.proofs.Common.{◌≡◌, ◌+◌, ℕ, zero, suc, true, false, List, [], ◌∷◌, ◌++◌, max, refl, ap, arith, take, map}
+use Rattle.std.proofs.Common.{◌≡◌, ℕ, true, false, List, [], ◌∷◌, ◌++◌, length, max, refl, ap, take, map}
 use Rattle.std.specs.Prelude.{None, Some}
 use Rattle.vdcp_value.specs.Timecodes.{bcd_of, frames_of}
 use Rattle.vdcp_value.specs.declared.clip_id.ClipId.{ClipId}
@@ -31,16 +31,17 @@ use Rattle.vdcp_laws.specs.Automation.{Prompt, commands_in, gives, new_prompt, l
 use Rattle.vdcp_drive.specs.Reading.{holds}
 use Rattle.vdcp_drive.specs.Served.{items_served, only, served}
 use Rattle.vdcp_drive.specs.Serving.{begins, items_in, hook_steps}
-use Rattle.vdcp_drive.specs.Turns.{Turn, frame, listen}
+use Rattle.vdcp_drive.specs.Turns.{Turn, arrivals, frame, listen}
 use Rattle.vdcp_drive.specs.declared.hearing.Hearing.TheVariants.{AtOnce}
 use Rattle.vdcp_drive.specs.Auto.{Event, arrives, calls}
 use Rattle.vdcp_drive.specs.declared.hooks.Call.TheVariants as call
+use Rattle.vdcp_world.specs.InTime.{not_yets}
+use Rattle.vdcp_laws.specs.InTime as timely
+use Rattle.vdcp_laws.specs.InTime.{AreNewInTime}
 use Rattle.vdcp_laws.specs.OneConnection.{ends_at}
 use Rattle.vdcp_laws.specs.TwoEnds as ends
-use Rattle.vdcp_laws.specs.TwoEnds.{AreJoined, Ends, bytes_in, new_ends, port_now}
+use Rattle.vdcp_laws.specs.TwoEnds.{AreJoined, Ends, aired_now, bytes_in, log_now, new_ends, port_now, sent_down, sent_up, with_command, with_down}
 use Rattle.vdcp_laws.specs.Untorn.{at_once_for}
-use Rattle.vdcp_laws.specs.Undisturbed as undisturbed
-use Rattle.vdcp_laws.specs.Undisturbed.{AreUndisturbed, exchanged}
 
 -- a clip whose ID and the checksum of its cue end as PLAY to unit 0
 abbrev clip : ClipId
@@ -164,6 +165,43 @@ a_run length =
     ends.went_on (ends.went_on asked (ends.came_up done_bytes [] refl)) ends.gave in
     let played : ComesTo length (up_to 8) cut_downs = ends.went_on shown (ends.came_down play_bytes [] refl) in
     ends.went_on (ends.went_on played (ends.came_up (0x04 ∷ []) [] refl)) ends.gave
+
+-- A run in time: its commands go out at once, and the state is asked again before a frame passes.
+
+-- something is being cued
+abbrev cueing_bytes : List ℕ
+cueing_bytes = 0x02 ∷ 0x04 ∷ 0x30 ∷ 0x85 ∷ 0x01 ∷ 0x02 ∷ 0x48 ∷ []
+
+abbrev InTime : Timecode → Type 0
+InTime clip_length = (e : Ends) × AreNewInTime plan (port clip_length) e
+
+abbrev exchanges : (clip_length : Timecode) → (x : InTime clip_length) → (down up : List ℕ)
+    → sent_down plan 0 (with_command plan x.0) ≡ bytes_in (arrivals x.0.downs) ++ (down ++ [])
+    → sent_up (with_down (listen (bytes down)) (with_command plan x.0)) ≡ x.0.ups ++ (up ++ []) → InTime clip_length
+exchanges clip_length x down up sent answered = (
+  _,
+  timely.went_on
+      (timely.went_on (timely.went_on x.1 ends.gave tt) (ends.came_down down [] sent) tt)
+      (ends.came_up up [] answered) tt,
+)
+
+abbrev polled_in_time : (clip_length : Timecode) → InTime clip_length
+polled_in_time clip_length =
+    exchanges clip_length
+    (exchanges clip_length
+    (exchanges clip_length
+    (exchanges clip_length
+    (exchanges clip_length
+    (exchanges clip_length (new_ends (port clip_length) [], timely.begun) open_bytes granted_bytes refl refl)
+    select_bytes (0x04 ∷ []) refl refl)
+    exists_bytes present_bytes refl refl)
+    (cue_front ++ cue_rest) (0x04 ∷ []) refl refl)
+    status_bytes cueing_bytes refl refl)
+    status_bytes cueing_bytes refl refl
+
+two_of_six_say_not_yet : (clip_length : Timecode) → (length (log_now (polled_in_time clip_length).0) ≡ 6)
+    × (not_yets (log_now (polled_in_time clip_length).0) ≡ 2)
+two_of_six_say_not_yet clip_length = (refl, refl)
 
 -- the operator takes and stops before a command goes out: then STOP goes out first
 abbrev stop_bytes : List ℕ
@@ -412,13 +450,3 @@ its_journal : (length : Timecode) → (a_kill length).0.notes
     ≡ note.Sent (command.Open 1 1) ∷ note.Silence ∷ note.Sent (command.Open 1 1) ∷ note.Heard
     (heard.Reply (reply.Opened true)) ∷ []
 its_journal length = refl
-
--- Exchanges that nothing disturbs: from wherever there are as many as one likes.
-as_many_exchanges : (n : ℕ) (e : Ends) → (later : Ends) × AreUndisturbed plan 0 n e later
-as_many_exchanges zero e = (e, undisturbed.none)
-as_many_exchanges (suc n) e =
-    let cue : ℕ = (port_now e).counts.cue in
-    let playing : ℕ = (port_now e).counts.playing in
-    let frames : ℕ = cue + playing in
-    let r = as_many_exchanges n (exchanged plan 0 frames e) in
-    (r.0, undisturbed.first frames (omega arith) (omega arith) r.1)

@@ -28,29 +28,16 @@ use Rattle.vdcp_drive.specs.ServerEars.{in_stream}
 use Rattle.vdcp_drive.specs.Served.{aired_at, sent_at}
 use Rattle.vdcp_drive.specs.Serving.{Service, items_in, hook_steps, serves}
 use Rattle.vdcp_drive.specs.Turns.{Turn, arrivals, listen, frame}
-use Rattle.vdcp_world.specs.LateLine.LateChannel.{LateChannel, IsLateReached, after_late_event, after_late_events, command_bursts}
+use Rattle.vdcp_world.specs.LateLine.LateChannel.{LateChannel, after_late_event, after_late_events, command_bursts}
 use Rattle.vdcp_world.specs.LateLine.LateEvent.{LateEvent}
 use Rattle.vdcp_world.specs.LateLine.LateEvent as event
 use Rattle.vdcp_laws.specs.TwoEnds.{CanJoin, Ends, aired_now, bytes_in, commands_sent, log_now, sent_down, sent_up, server_new, server_now, notes_ended, notes_heard, wishing, with_automation, with_command, with_down, with_up}
-use Rattle.vdcp_laws.specs.Below.{Answered, Happened, Completed, Spelt, Written}
+use Rattle.vdcp_laws.specs.Below.{Answered, Laws, Written}
 use Rattle.vdcp_laws.proofs.Bytes.{spelt}
 use Rattle.vdcp_laws.proofs.Commands.{commands_gives, commands_listens}
-use Rattle.vdcp_laws.proofs.Noting.{Lawful}
 use Rattle.vdcp_laws.proofs.Queues.{Takes, bursts_to, bytes_from, bytes_to, delivers, downs_of, hears_each, logged_behind, messages_from, messages_to, rests, sends_on, takes_on, ups_of}
-use Rattle.vdcp_laws.proofs.Announced.{UnitStays}
 use Rattle.vdcp_laws.proofs.Running.{hears_so, no_notes, runs_down, silent_so, ticks_so}
 use Rattle.vdcp_laws.proofs.Serving.{bytes_else, bytes_more, clips_frame, clips_stay}
-
--- the laws below, and vdcp_world::laws::a_killed_automation_goes_on
-pub record Laws : Type 0 where
-  pub spelt : Spelt
-  pub completed : Completed
-  pub happens : Happened
-  pub answered : Answered
-  pub written : Written
-  pub goes_on : (c : LateChannel) (events : List LateEvent) → IsLateReached c → IsLateReached (after_late_events c events)
-  pub stays : UnitStays
-  pub lawful : Lawful
 
 -- the two ends, and the channel beside them; what the server holds
 pub record IsBeside (plan : Plan) (start_port : ClockedPort) (e : Ends) (c : LateChannel) : Type 0 where
@@ -69,6 +56,14 @@ pub record IsBeside (plan : Plan) (start_port : ClockedPort) (e : Ends) (c : Lat
 pub record AreBeside (plan : Plan) (port : ClockedPort) (e : Ends) : Type 0 where
   pub channel : LateChannel
   pub beside : IsBeside plan port e channel
+
+-- of what is on the way some messages have come, each by an event, to ends beside which the channel is then
+pub record Comes (plan : Plan) (port : ClockedPort) (e : Ends) (c : LateChannel) (queue : List (List ℕ))
+    (events_of : List Content → List LateEvent) : Type 0 where
+  pub new : List Content
+  pub rest : List (List ℕ)
+  pub queue_is : queue ≡ map spelling new ++ rest
+  pub beside : IsBeside plan port e (after_late_events c (events_of new))
 
 -- The automation.
 
@@ -153,8 +148,8 @@ times_out plan port e c b = record {
 -- bytes come up: each message that they complete is delivered
 pub comes_up : (law : Laws) (plan : Plan) (port : ClockedPort) (e : Ends) (piece rest : List ℕ) (c : LateChannel)
     → IsBeside plan port e c → sent_up e ≡ e.ups ++ (piece ++ rest)
-    → AreBeside plan port (with_up piece (with_automation (listens plan port.state.unit (bytes piece) e.automation)
-    (notes_heard plan port.state.unit (completed e.automation.held piece) e.automation) e))
+    → Comes plan port (with_up piece (with_automation (listens plan port.state.unit (bytes piece) e.automation)
+    (notes_heard plan port.state.unit (completed e.automation.held piece) e.automation) e)) c c.up ups_of
 comes_up law plan port e piece rest c b is =
     let unit : ℕ = port.state.unit in
     let p : Prompt = e.automation in
@@ -163,7 +158,9 @@ comes_up law plan port e piece rest c b is =
     let h = hears_each law.spelt plan unit e.log_before on.new on.rest p c on.fits b.plan_is b.unit_is b.state_is b.log_is
     on.queue_is in
     record {
-      channel = d;
+      new = on.new;
+      rest = on.rest;
+      queue_is = on.queue_is;
       beside = record {
         run = subst (λ (l : List Content). IsRun d (e.notes ++ notes_heard plan unit l p)) (sym on.new_is)
             (hears_so law.spelt plan unit on.new on.rest p c e.notes on.fits b.plan_is b.unit_is b.state_is on.queue_is
@@ -219,7 +216,7 @@ answers_fit written answered unit p ms small =
 pub comes_down : (law : Laws) (plan : Plan) (port : ClockedPort) (asked : List Command) (e : Ends) (piece rest : List ℕ)
     (c : LateChannel) → CanJoin plan port asked → IsBeside plan port e c
     → sent_down plan port.state.unit e ≡ bytes_in (arrivals e.downs) ++ (piece ++ rest)
-    → AreBeside plan port (with_down (listen (bytes piece)) e)
+    → Comes plan port (with_down (listen (bytes piece)) e) c c.down downs_of
 comes_down law plan port asked e piece rest c can b is =
     let unit : ℕ = port.state.unit in
     let what : Turn = listen (bytes piece) in
@@ -234,7 +231,9 @@ comes_down law plan port asked e piece rest c can b is =
     let items : List Item = items_in (hook_steps (server_new e) e.downs) in
     let s = law.happens (server_new e) e.downs what in
     record {
-      channel = d;
+      new = new;
+      rest = on.rest;
+      queue_is = on.queue_is;
       beside = record {
         run = runs_down new c e.notes b.run;
         plan_is = r.plan_is ∙ b.plan_is;

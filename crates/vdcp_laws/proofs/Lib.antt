@@ -8,7 +8,7 @@ mod Carrying
 mod Commands
 mod Ended
 mod Examples
-mod Exchanging
+mod InTime
 mod Fronts
 mod Headline
 mod Connecting

@@ -8,7 +8,6 @@ use Rattle.vdcp_port.specs.Clock.{ClockedPort}
 use Rattle.vdcp_auto.specs.Course.{Reached, Tick, Receive, Take, Stop, after_call, called, logged}
 use Rattle.vdcp_auto.specs.Course as course
 use Rattle.vdcp_auto.specs.Heard.{heard_as}
-use Rattle.vdcp_auto.specs.Law.{IsLawful}
 use Rattle.vdcp_auto.specs.Plan.{Plan}
 use Rattle.vdcp_auto.specs.State.{State, Stage, Ready, Awaiting, Ended}
 use Rattle.vdcp_auto.specs.Turn.{came_to, ended_by, exchange_of, is_end, is_ready, taken, tick_in, ticked}
@@ -21,10 +20,6 @@ use Rattle.vdcp_laws.specs.TwoEnds.{AreJoined, begun, went_on, gave, asks, came_
 use Rattle.vdcp_laws.specs.TwoEnds.{CanJoin, Ends, GoesOn, as_announced, as_noted, log_now}
 use Rattle.vdcp_laws.proofs.Commands.{hears_comes}
 use Rattle.vdcp_laws.proofs.Queues.{logged_behind}
-
--- vdcp_auto::laws::reached_is_lawful
-abbrev pub Lawful : Type 0
-Lawful = (plan : Plan) (state : State) (log : List Exchange) → Reached plan state log → IsLawful plan state log
 
 pub not_ready : (stage : Stage) (s : State) → is_ready stage ≡ false → tick_in stage s ≡ s
 not_ready (Ready p) s is = cc

@@ -1,10 +1,8 @@
 -- What is on its way, as messages: a queue of the late channel has those that haven't wholly come.
-use Rattle.std.proofs.Common.{ℕ, ◌≡◌, Bool, true, length, All, List, [], ◌∷◌, ◌++◌, map, refl, sym, ap, ap₂, subst, ◌∙◌, append_assoc, append-nil}
+use Rattle.std.proofs.Common.{ℕ, ◌≡◌, All, List, [], ◌∷◌, ◌++◌, map, refl, sym, ap, ap₂, subst, ◌∙◌, append_assoc, append-nil}
 use Rattle.std.proofs.lemmas.List.{append_cancel_left, map-append}
 use Rattle.std.proofs.lemmas.List.Elements.{All-append, All-head, All-nil, All-tail}
 use Rattle.std.proofs.lemmas.List.Folds.{flat_map-map}
-use Rattle.std.proofs.Math.Seq.{drop-length, take-length}
-use Rattle.std.specs.List.{insert}
 use Rattle.std.specs.Option.{option_to_list}
 use Rattle.std.specs.Prelude.{Option, Some, None}
 use Rattle.vdcp_value.specs.declared.part.Item.{Item}
@@ -27,9 +25,6 @@ use Rattle.vdcp_world.specs.Channel.{state_hearing, log_hearing}
 use Rattle.vdcp_drive.specs.Reading.{Held, holds, completed, held_after, held_after_silence}
 use Rattle.vdcp_drive.specs.Traces.{bytes_of}
 use Rattle.vdcp_laws.specs.Automation.{Prompt, hears, hears_all}
-use Rattle.vdcp_world.specs.LateLine.Damage.{is_junk_up, with_junk}
-use Rattle.vdcp_auto.specs.declared.phase.Mode.{Mode}
-use Rattle.vdcp_auto.specs.declared.phase.Mode.TheVariants.{Plain, Confirming}
 use Rattle.vdcp_world.specs.LateLine.LateChannel.{LateChannel, after_late_event, after_late_events, bursts_of, command_bursts, oldest, without_oldest}
 use Rattle.vdcp_world.specs.LateLine.LateEvent.{LateEvent}
 use Rattle.vdcp_world.specs.LateLine.LateEvent as event
@@ -305,27 +300,3 @@ pub loses_up : (down up : List (List ℕ)) (c : LateChannel)
     → after_late_events (with_queues c down up) (ups_lost up) ≡ with_queues c down []
 loses_up down [] c = refl
 loses_up down (burst ∷ up) c = loses_up down up c
-
--- the first of what is on its way down
-pub loses_first : (lost rest up : List (List ℕ)) (c : LateChannel)
-    → after_late_events (with_queues c (lost ++ rest) up) (downs_lost lost) ≡ with_queues c rest up
-loses_first [] rest up c = refl
-loses_first (burst ∷ lost) rest up c = loses_first lost rest up c
-
--- One more burst, which isn't an answer, comes last on its way up.
-
-insert_last : (queue : List (List ℕ)) (burst : List ℕ) → insert queue (length queue) burst ≡ queue ++ burst ∷ []
-insert_last queue burst =
-    ap₂ (λ (l m : List (List ℕ)). l ++ burst ∷ m) (take-length queue) (drop-length queue)
-
-no_answer : (mode : Mode) (unit : ℕ) → is_junk_up mode unit (0x05 ∷ 0x04 ∷ []) ≡ true
-no_answer Plain unit = refl
-no_answer Confirming unit = refl
-
-pub refuses : (c : LateChannel)
-    → after_late_event c (event.JunkUp (length c.up) (0x05 ∷ 0x04 ∷ []))
-    ≡ with_queues c c.down (c.up ++ (0x05 ∷ 0x04 ∷ []) ∷ [])
-refuses c =
-    ap (λ (b : Bool). with_queues c c.down (with_junk b (0x05 ∷ 0x04 ∷ []) (length c.up) c.up))
-    (no_answer c.plan.mode c.port.state.unit)
-    ∙ ap (with_queues c c.down) (insert_last c.up (0x05 ∷ 0x04 ∷ []))

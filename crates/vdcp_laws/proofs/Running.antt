@@ -17,7 +17,7 @@ use Rattle.vdcp_world.specs.Channel.{state_hearing}
 use Rattle.vdcp_drive.specs.Steps.{end_of, given_notes}
 use Rattle.vdcp_world.specs.LateLine.LateChannel.{LateChannel, after_late_event, after_late_events, command_bursts, oldest, without_oldest}
 use Rattle.vdcp_world.specs.LateLine.LateEvent as event
-use Rattle.vdcp_laws.specs.Announced.{heard_after, heard_from, heard_last}
+use Rattle.vdcp_journal.specs.Thinned.{heard_after, heard_from, heard_last}
 use Rattle.vdcp_laws.specs.Automation.{Prompt, end_notes, hears}
 use Rattle.vdcp_laws.specs.Below.{Spelt}
 use Rattle.vdcp_laws.specs.Kills as kills

@@ -11,14 +11,19 @@ use Rattle.vdcp_words.specs.Replies.{reply_message, IsWritableReply}
 use Rattle.vdcp_words.specs.declared.command.Command.{Command}
 use Rattle.vdcp_words.specs.declared.reply.Reply.{Reply}
 use Rattle.vdcp_port.specs.Answers.{answers_to, aired_on_way, after_messages, bytes_for, bytes_for_all, items_for, end_answers, sent_for, aired_for, after_burst}
-use Rattle.vdcp_port.specs.Clock.{ClockedPort, after_frame, after_message}
+use Rattle.vdcp_port.specs.Clock.{ClockedPort, after_ended, after_frame, after_message, after_ready}
+use Rattle.vdcp_auto.specs.Course.{Reached}
+use Rattle.vdcp_auto.specs.Law.{IsLawful}
 use Rattle.vdcp_auto.specs.Plan.{Plan}
 use Rattle.vdcp_auto.specs.State.{State}
 use Rattle.vdcp_auto.specs.Turn.{given}
+use Rattle.vdcp_auto.specs.declared.exchange.Exchange.{Exchange}
 use Rattle.vdcp_drive.specs.Served.{HasMore}
 use Rattle.vdcp_drive.specs.Serving.{Service}
 use Rattle.vdcp_drive.specs.Turns.{Turn}
 use Rattle.vdcp_drive.specs.Reading.{Held, holds, completed, held_after}
+use Rattle.vdcp_world.specs.LateLine.LateChannel.{LateChannel, IsLateReached, after_late_events}
+use Rattle.vdcp_world.specs.LateLine.LateEvent.{LateEvent}
 
 -- vdcp_frame::laws: no_spelling_begins_another, one_spelling, what_is_spelt_is_bytes, a_spelling_is_its_message,
 -- what_is_followed_is_read
@@ -72,3 +77,25 @@ pub record Written : Type 0 where
 -- vdcp_drive::laws::one_event_more
 abbrev pub Happened : Type 0
 Happened = (s : Service) (turns : List Turn) (what : Turn) → HasMore s turns what
+
+-- vdcp_port::laws::the_unit_stays
+abbrev pub UnitStays : Type 0
+UnitStays = ((p : ClockedPort) (burst : List ℕ) → (after_burst p burst).state.unit ≡ p.state.unit)
+    × ((p : ClockedPort) → (after_frame p).state.unit ≡ p.state.unit)
+    × ((p : ClockedPort) → (after_ready p).state.unit ≡ p.state.unit)
+    × ((p : ClockedPort) → (after_ended p).state.unit ≡ p.state.unit)
+
+-- vdcp_auto::laws::reached_is_lawful
+abbrev pub Lawful : Type 0
+Lawful = (plan : Plan) (state : State) (log : List Exchange) → Reached plan state log → IsLawful plan state log
+
+-- all of these, and vdcp_world::laws::a_killed_automation_goes_on
+pub record Laws : Type 0 where
+  pub spelt : Spelt
+  pub completed : Completed
+  pub happens : Happened
+  pub answered : Answered
+  pub written : Written
+  pub stays : UnitStays
+  pub lawful : Lawful
+  pub goes_on : (c : LateChannel) (events : List LateEvent) → IsLateReached c → IsLateReached (after_late_events c events)

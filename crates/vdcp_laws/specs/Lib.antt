@@ -8,7 +8,7 @@ pub mod EndsHeadline
 pub mod OneConnection
 pub mod SeveralRuns
 pub mod TwoEnds
-pub mod Undisturbed
+pub mod InTime
 pub mod Untorn
 pub mod AsrunLaw
 pub mod LossyEvents

@@ -1,14 +1,19 @@
 //! The laws of both ends over two streams of bytes that keep order, one connection after another.
 //!
 //! The functions do nothing: their contracts are the laws, and a caller whose proof needs one calls it.
-ghost use Rattle.std.specs.Prelude.{ℕ, Bool, ◌≡◌, ◌≤◌, ◌<◌, ◌+◌, ◌++◌, [], false, All, AllPairs, List, length, IsTrue, Option, None, Some, Result, map};
+ghost use Rattle.std.specs.Prelude.{ℕ, Bool, ◌≡◌, ◌≤◌, ◌<◌, ◌+◌, ◌++◌, [], false, All, AllPairs, IfSome, List, length, IsTrue, Option, None, Some, Result, map};
 ghost use Rattle.vdcp_value.specs.declared.part.Item.{Item};
 ghost use Rattle.vdcp_words.specs.declared.command.Command.{Command};
 ghost use Rattle.vdcp_words.specs.declared.command.Command.TheVariants.{Status};
 ghost use Rattle.vdcp_auto.specs.declared.phase.Phase.TheVariants as phase;
+ghost use Rattle.vdcp_world.specs.AnyPort.{CanRun};
+ghost use Rattle.vdcp_world.specs.Headline.{Means};
+ghost use Rattle.vdcp_world.specs.InTime.{PlaysOn};
 ghost use Rattle.vdcp_world.specs.LateLine.LateChannel.{IsQuestion};
 ghost use Rattle.vdcp_laws.specs.Automation.{commands_in};
+ghost use Rattle.vdcp_port.specs.Clips.{is_playable};
 ghost use Rattle.vdcp_port.specs.Clock.{ClockedPort};
+ghost use Rattle.vdcp_port.specs.Port.{empty};
 ghost use Rattle.vdcp_auto.specs.Course.{logged};
 ghost use Rattle.vdcp_auto.specs.Plan.{Plan};
 ghost use Rattle.vdcp_auto.specs.Settled.{may_have_aired};
@@ -36,14 +41,14 @@ ghost use Rattle.vdcp_drive.specs.Serving.{Serving, acts_of, begins, items_in, l
 ghost use Rattle.vdcp_drive.specs.Turns.{Turn};
 ghost use Rattle.vdcp_world.specs.LateLine.LateHeadline.{is_late_complete};
 ghost use Rattle.vdcp_laws.specs.Announced.{Announces, played_notes};
-ghost use Rattle.vdcp_laws.specs.Below.{Answered, Completed, Happened, Spelt, Written};
+ghost use Rattle.vdcp_laws.specs.Below.{Laws};
 ghost use Rattle.vdcp_laws.specs.Carried.{AreCarried, all_turns, driver_of};
 ghost use Rattle.vdcp_laws.specs.EndsHeadline.{EndsHeadline};
 ghost use Rattle.vdcp_laws.specs.OneConnection.{ends_at};
 ghost use Rattle.vdcp_laws.specs.SeveralRuns.{AiredEvent, AsksAtMost, HaveAired, IsEvent, aired_from};
-ghost use Rattle.vdcp_laws.specs.TwoEnds.{AreJoined, AreLed, CanJoin, Ends, IsLateChannel, IsSince, MayAsk, aired_now, asking_all, connected_anew, heard_again, log_now, new_ends, note_for, notes_given, port_now, server_now, with_command, with_kept};
+ghost use Rattle.vdcp_laws.specs.TwoEnds.{AreJoined, AreLed, CanJoin, Ends, IsLateChannel, IsSince, MayAsk, Step, aired_now, asking_all, connected_anew, heard_again, log_now, new_ends, note_for, notes_given, port_now, server_now, with_command, with_kept};
 ghost use Rattle.vdcp_laws.specs.Untorn.{AreUntorn, at_once_for, server_at_silences};
-ghost use Rattle.vdcp_laws.specs.Undisturbed.{AreUndisturbed, CanPlay, IsDone, most_exchanges};
+ghost use Rattle.vdcp_laws.specs.InTime.{AreChannel, AreNewInTime, CutsShort, IsInTime, IsNoStopNote, IsNoTakeNote};
 
 use vdcp_drive::{Hearing, ServerHooks};
 use vdcp_port::Catalogue;
@@ -59,9 +64,6 @@ pub fn two_ends_are_a_late_channel()
         AreJoined plan port asked e → IsLateChannel plan port e }
 {
     what_is_below();
-    vdcp_world::laws::a_killed_automation_goes_on();
-    vdcp_port::laws::the_unit_stays();
-    vdcp_auto::laws::reached_is_lawful();
 }
 
 /// So the headline holds of the two ends: what went to air at the server is a beginning of the playlist, each event once
@@ -206,18 +208,30 @@ pub fn several_runs_air_each_event_once()
     vdcp_auto::laws::a_log_grows();
 }
 
-/// Exchanges that nothing disturbs bring a list to its end, from two new ends: in plain mode five for each event, and
-/// four, or more; in confirm mode six, and six. They are among what may come of the two ends.
-pub fn undisturbed_ends_play_the_list()
-    ensures { (plan : Plan) (port : ClockedPort) (n : ℕ) (e : Ends) → CanPlay plan port →
-        most_exchanges plan.mode (length plan.list) ≤ n → AreUndisturbed plan port.state.unit n (new_ends port []) e →
-        AreJoined plan port [] e × IsDone plan e }
+/// Two ends in time, of which the automation is new, are a channel on whose line nothing is lost: bytes come in whatever
+/// pieces and however late, if what is awaited doesn't time out before all that was sent has come. So what holds of each
+/// channel holds of them: an end means what it does there, whatever state the port was in. And if nothing was cued at first:
+///
+/// - if each item of the list is in the catalogue, each part fits its clip, and the operator doesn't stop, each exchange leads
+///   on but one whose state says that something is being cued or that a clip plays: but for these there are five exchanges for
+///   each event, and four, at most, in confirm mode six, and five. Once they are as many the whole list went to air.
+/// - No clip is cut short by another one, if the operator doesn't take.
+pub fn ends_in_time_are_a_channel()
+    ensures channel { (plan : Plan) (port : ClockedPort) (e : Ends) → CanRun plan port → AreNewInTime plan port e →
+        AreChannel plan port e }
+    ensures ended { (plan : Plan) (port : ClockedPort) (e : Ends) → CanRun plan port → AreNewInTime plan port e →
+        IfSome (outcome_of e.automation.state.stage) (Means port.clips plan (aired_now e) (log_now e)) }
+    ensures plays { (plan : Plan) (port : ClockedPort) (e : Ends) → CanRun plan port → port.state.cued ≡ empty →
+        AreNewInTime plan port e → All (λ item. IsTrue (is_playable port.clips item)) plan.list →
+        All IsNoStopNote e.notes → PlaysOn plan e.automation.state (aired_now e) (log_now e) }
+    ensures uncut { (plan : Plan) (port : ClockedPort) (e e' : Ends) → CanRun plan port → port.state.cued ≡ empty →
+        AreNewInTime plan port e → (step : Step plan port.state.unit e e') → IsInTime step →
+        All IsNoTakeNote e.notes → ¬ CutsShort e e' }
 {
     what_is_below();
-    vdcp_port::laws::a_command_is_answered();
-    vdcp_port::laws::a_command_has_its_own_row();
-    vdcp_port::laws::what_a_port_holds();
-    vdcp_world::laws::good_rounds_bring_all_to_air();
+    vdcp_world::laws::what_loses_nothing_plays_the_list();
+    vdcp_world::laws::any_port_keeps_the_headline();
+    vdcp_world::laws::no_cut_without_a_take();
 }
 
 /// An automation that is killed goes on as it was when the last of what is safe in its journal was noted, if it gave no
@@ -264,14 +278,12 @@ pub fn a_journal_makes_the_automation()
     vdcp_journal::laws::a_thinned_journal_makes_the_same();
 }
 
-/// What the laws of the crates below say of bytes and messages.
+/// What the laws of the crates below say.
 fn what_is_below()
-    ensures spelt { Spelt }
-    ensures completed { Completed }
-    ensures happens { Happened }
-    ensures answered { Answered }
-    ensures written { Written }
+    ensures { Laws }
 {
+    vdcp_world::laws::a_killed_automation_goes_on();
+    vdcp_auto::laws::reached_is_lawful();
     vdcp_frame::laws::no_spelling_begins_another();
     vdcp_frame::laws::one_spelling();
     vdcp_frame::laws::what_is_spelt_is_bytes();

@@ -19,7 +19,7 @@ use Rattle.vdcp_auto.specs.declared.phase.Phase.{Phase}
 use Rattle.vdcp_auto.specs.declared.phase.Phase.TheVariants as phase
 use Rattle.vdcp_auto.specs.State.{Stage, Ready, Awaiting, Ended}
 use Rattle.vdcp_world.specs.AtEnd.{AreSlotsEmpty, IsAtRest, LeavesPort}
-use Rattle.vdcp_world.specs.Channel.{Channel, Make, IsReached, after_events, new_channel}
+use Rattle.vdcp_world.specs.Channel.{Channel, Make, IsReached, after_events, channel_to}
 use Rattle.vdcp_world.specs.declared.event.Event.{Event}
 use Rattle.vdcp_world.specs.Below.{Below}
 use Rattle.vdcp_world.proofs.Claims.{Closed}
@@ -203,7 +203,7 @@ reached_rests below c r = subst (λ (x : Channel). Rests x.plan.mode x.port.stat
     (rests r.events)
   where
     new : Channel
-    new = new_channel r.plan r.clips r.unit r.cue_frames
+    new = channel_to r.plan r.port
 
     rests : (es : List Event) → Rests (after_events new es).plan.mode (after_events new es).port.state
         (after_events new es).state.stage
@@ -211,8 +211,8 @@ reached_rests below c r = subst (λ (x : Channel). Rests x.plan.mode x.port.stat
         (sym (ap (λ (m : Make). m.plan.mode) (make_after_all new es)))
         (claim_events below (λ take p aired settled stage. Rests r.plan.mode p stage)
         (λ p aired. TellsRest r.plan.mode p) new es
-        (closed_rest r.plan.mode r.plan.list r.plan.port r.plan.limit r.clips)
-        (kept_new r.plan r.clips r.unit r.cue_frames r.unit_fits r.port_fits r.of_bytes)
+        (closed_rest r.plan.mode r.plan.list r.plan.port r.plan.limit r.port.clips)
+        (kept_new r.plan r.port r.unit_fits r.port_fits r.of_bytes r.numbered r.nothing_cued)
         (λ _ take p aired settled stage h. h)
         (record { stands = tt; told = tt })).stands
 

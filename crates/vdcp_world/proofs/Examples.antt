@@ -10,15 +10,17 @@ use Rattle.vdcp_words.specs.declared.command.Command.TheVariants as command
 use Rattle.vdcp_words.specs.declared.reply.Reply.{Reply}
 use Rattle.vdcp_words.specs.declared.reply.Reply.TheVariants as reply
 use Rattle.vdcp_port.specs.Clips.{whole}
+use Rattle.vdcp_port.specs.Clock.{new_port}
+use Rattle.vdcp_port.specs.Port.{done, new_state}
 use Rattle.vdcp_port.specs.declared.access.Access.TheVariants.{Selected}
 use Rattle.vdcp_auto.specs.Turn.{outcome_of}
 use Rattle.vdcp_auto.specs.declared.exchange.Exchange.{Exchange}
 use Rattle.vdcp_auto.specs.declared.exchange.Heard.TheVariants as heard
 use Rattle.vdcp_auto.specs.declared.outcome.Outcome.{Outcome}
-use Rattle.vdcp_auto.specs.declared.outcome.Outcome.TheVariants.{Done, Stopped, Lost, Missing, Refused}
+use Rattle.vdcp_auto.specs.declared.outcome.Outcome.TheVariants.{Done, Stopped, Lost, Missing, Refused, Strange}
 use Rattle.vdcp_auto.specs.declared.phase.Mode.{Mode}
 use Rattle.vdcp_auto.specs.declared.phase.Mode.TheVariants.{Plain, Confirming}
-use Rattle.vdcp_world.specs.Channel.{Channel, new_channel, after_event, after_events}
+use Rattle.vdcp_world.specs.Channel.{Channel, channel_to, new_channel, after_event, after_events}
 use Rattle.vdcp_world.specs.Rounds.{round, good_round, times}
 use Rattle.vdcp_world.specs.declared.event.Event.{Event}
 use Rattle.vdcp_world.specs.declared.event.Event.TheVariants.{Tick, Down, Up, DownCopy, UpCopy, LoseDown, LoseUp, AlterDown, AlterUp, Timeout, Ready, End, Frame, Take, Stop, StrayAck, StrayNak}
@@ -104,6 +106,12 @@ nothing_to_play = refl
 
 nothing_to_play_is_not_done_in_3_rounds : seen (after_events (new Plain []) (good 3)) ≡ ends [] 0 3 None
 nothing_to_play_is_not_done_in_3_rounds = refl
+
+-- an empty list at a port in whose cued slot something was left over
+an_empty_list_finds_something_cued : seen (after_events (channel_to (record { mode = Plain; list = []; port = 1; limit = 3 })
+    (record (new_port two_clips 0 1 1) { state = record (new_state 0 1) { cued = done (whole clip_2) } })) (rounds 3))
+    ≡ ends [] 0 3 (Some (Strange 0))
+an_empty_list_finds_something_cued = refl
 
 two_events : seen (after_events (new Plain both) (good 14)) ≡ ends both 2 14 (Some Done)
 two_events = refl

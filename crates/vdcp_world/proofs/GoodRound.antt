@@ -50,7 +50,7 @@ abbrev sent_in : Channel → Option Command → Channel
 sent_in c g =
     record c { state = ticked c.state; down = down_behind c.port.state.unit g c.down; up = up_behind g c.up }
 
-answers_all : (p : ClockedPort) (down up : List ℕ) (m : Content) → messages_of down ≡ m ∷ []
+pub answers_all : (p : ClockedPort) (down up : List ℕ) (m : Content) → messages_of down ≡ m ∷ []
     → answered p down up ≡ sent_for p down
 answers_all p [] up m e = absurd (impossible e)
   where

@@ -8,7 +8,8 @@ use Rattle.vdcp_value.specs.declared.part.Item.{Item}
 use Rattle.vdcp_value.specs.declared.part.Part.{Part}
 use Rattle.vdcp_value.specs.declared.timecode.Timecode.{Timecode}
 use Rattle.vdcp_port.specs.Clips.{length_of, is_known, is_playable, can_cue}
-use Rattle.vdcp_port.specs.Port.{PortState, Cued}
+use Rattle.vdcp_port.specs.Clock.{ClockedPort}
+use Rattle.vdcp_port.specs.Port.{PortState, Cued, empty}
 use Rattle.vdcp_auto.specs.Course as call
 use Rattle.vdcp_auto.specs.Course.{Reached, begun, called, Receive}
 use Rattle.vdcp_auto.specs.Endings.{IsRefused}
@@ -26,7 +27,7 @@ use Rattle.vdcp_auto.specs.declared.phase.Mode.TheVariants.{Plain, Confirming}
 use Rattle.vdcp_auto.specs.State.{Stage, Ready, Awaiting, Ended, State}
 use Rattle.vdcp_words.specs.declared.reply.Reply.{Reply}
 use Rattle.vdcp_words.specs.declared.reply.Reply.TheVariants as reply
-use Rattle.vdcp_world.specs.Channel.{Channel, new_channel, after_event, after_events, IsReached, state_hearing, log_hearing, state_waiting, log_waiting, state_straying, log_straying}
+use Rattle.vdcp_world.specs.Channel.{Channel, channel_to, after_event, after_events, IsReached, state_hearing, log_hearing, state_waiting, log_waiting, state_straying, log_straying}
 use Rattle.vdcp_auto.specs.Heard.{heard_in}
 use Rattle.vdcp_world.specs.Headline.{IsUnknownAt, IsOutside, IsRefusedIn, AreReported, Means, is_complete, reported_of, Headline}
 use Rattle.vdcp_world.specs.declared.event.Event.{Event}
@@ -35,23 +36,22 @@ use Rattle.vdcp_world.specs.Below.{Below}
 use Rattle.vdcp_world.proofs.Exchanges.{near, taken, sent_place, near_of, no_item}
 use Rattle.vdcp_world.proofs.Kept.{kept_event}
 use Rattle.vdcp_world.proofs.Claims.{IsKept, Stands}
-use Rattle.vdcp_world.proofs.PhaseTable.{Aired, Near, PlaceAt, PlaceEnded, FirmIn, knows, refuses}
+use Rattle.vdcp_world.proofs.PhaseTable.{Aired, Near, plays_before, PlaceAt, PlaceEnded, FirmIn, knows, refuses}
 use Rattle.vdcp_world.proofs.LateLine.Exactness.{none_taken}
 
 -- ---- channels that events have led to
 
-pub kept_new : (plan : Plan) (clips : List (ClipId × Timecode)) (unit cue_frames : ℕ) → unit ≤ 15 → plan.port < 256
-    → All IsItem plan.list
-    → IsKept (new_channel plan clips unit cue_frames)
-kept_new plan clips unit cue_frames u h items = record {
+pub kept_new : (plan : Plan) (port : ClockedPort) → port.state.unit ≤ 15 → plan.port < 256 → All IsItem plan.list
+    → port.state.number ≡ plan.port → port.state.cued ≡ empty → IsKept (channel_to plan port)
+kept_new plan port u h items numbered nothing = record {
   unit_fits = omega (arith, u);
   port_fits = h;
   of_bytes = items;
   way = inl refl;
   stands = record {
-    numbered = refl;
-    plays = tt;
-    place = (record { aired_is = none_taken plan.list; within = omega arith; cued_is = refl }, refl);
+    numbered = numbered;
+    plays = plays_before plan.list port.state.playing;
+    place = (record { aired_is = none_taken plan.list; within = omega arith; cued_is = nothing }, refl);
     firm = λ _. tt;
   };
   told = tt;
@@ -63,7 +63,7 @@ kept_events below c (e ∷ es) k = kept_events below (after_event c e) es (kept_
 
 pub reached_kept : Below → (c : Channel) → IsReached c → IsKept c
 reached_kept below c r = subst IsKept (sym r.led) (kept_events below _ r.events
-    (kept_new r.plan r.clips r.unit r.cue_frames r.unit_fits r.port_fits r.of_bytes))
+    (kept_new r.plan r.port r.unit_fits r.port_fits r.of_bytes r.numbered r.nothing_cued))
 
 -- ---- their controllers
 
@@ -104,7 +104,7 @@ controller_events c (e ∷ es) r = controller_events (after_event c e) es (contr
 pub controller_reached : (c : Channel) → IsReached c → Reached c.plan c.state c.log
 controller_reached c r =
     subst (λ (x : Channel). Reached x.plan x.state x.log) (sym r.led)
-    (controller_events (new_channel r.plan r.clips r.unit r.cue_frames) r.events (begun r.some r.few))
+    (controller_events (channel_to r.plan r.port) r.events (begun r.some r.few))
 
 -- ---- what went to air and what is reported
 

@@ -20,6 +20,8 @@ pub mod BoundedEndProof
 pub mod AtEndProof
 pub mod Opened
 pub mod InStepProof
+pub mod InTime
+pub mod Leftover
 pub mod NoCutProof
 pub mod ScriptLemmas
 pub mod LateLine

@@ -1,5 +1,5 @@
 -- No clip is cut short without a take.
-use Rattle.std.proofs.Common.{◌≡◌, ◌<◌, inl, inr, ℕ, Bool, true, false, List, [], ◌∷◌, ◌++◌, length, Option, Some, None, refl, sym, ap, subst, ◌∙◌, arith, length-append}
+use Rattle.std.proofs.Common.{◌≡◌, ◌<◌, ◌≤◌, ◌+◌, inl, inr, ℕ, Bool, true, false, List, [], ◌∷◌, ◌++◌, length, Option, Some, None, refl, sym, ap, subst, ◌∙◌, arith, length-append}
 use Rattle.std.specs.List.{list_any}
 use Rattle.std.specs.Option.{option_map}
 use Rattle.std.specs.Prelude.{IfSome, IsSome, slice_get}
@@ -24,7 +24,7 @@ use Rattle.vdcp_auto.specs.declared.phase.Mode.TheVariants.{Plain, Confirming}
 use Rattle.vdcp_auto.specs.declared.phase.Phase.{Phase}
 use Rattle.vdcp_auto.specs.declared.phase.Phase.TheVariants as phase
 use Rattle.vdcp_auto.specs.State.{Stage, Ready, Awaiting, Ended}
-use Rattle.vdcp_world.specs.Channel.{Channel, IsReached, after_event, after_events, new_channel, up_behind}
+use Rattle.vdcp_world.specs.Channel.{Channel, IsReached, after_event, after_events, channel_to, up_behind}
 use Rattle.vdcp_world.specs.NoCut.{is_take, Cuts, CutsUnasked, NoCut}
 use Rattle.vdcp_world.specs.declared.event.Event.{Event}
 use Rattle.vdcp_world.specs.declared.event.Event.TheVariants as event
@@ -33,16 +33,16 @@ use Rattle.vdcp_world.proofs.Claims.{Closed, Holds, ToldOf, told_none, IsKept, C
 use Rattle.vdcp_world.proofs.ConfirmedRounds.{slot_stays}
 use Rattle.vdcp_world.proofs.HeadlineProof.{reached_kept}
 use Rattle.vdcp_world.proofs.OnTheWay.{Way}
-use Rattle.vdcp_world.proofs.PhaseTable.{PlaysLast, is_asked, port_after, aired_after, answer_after}
+use Rattle.vdcp_world.proofs.PhaseTable.{is_asked, port_after, aired_after, answer_after}
 use Rattle.vdcp_world.proofs.Reached.{events_reached}
 use Rattle.vdcp_world.proofs.WayLemmas.{reads_nothing, reads_command}
 use Rattle.vdcp_world.proofs.Readings.{none_more}
 use Rattle.vdcp_world.proofs.Kept.{claim_events}
 
--- once more than n items were aired, a PLAY goes out to a cue only where nothing plays
+-- once n items or more were aired, a PLAY goes out to a cue only where nothing plays
 abbrev Over : ℕ → PortState → List Item → Phase → Type 0
-Over n p aired (phase.Play k) = n < length aired → is_empty_slot p.cued ≡ false → p.playing ≡ None
-Over n p aired (phase.Probe k) = n < length aired → is_empty_slot p.cued ≡ false → p.playing ≡ None
+Over n p aired (phase.Play k) = n ≤ length aired → is_empty_slot p.cued ≡ false → p.playing ≡ None
+Over n p aired (phase.Probe k) = n ≤ length aired → is_empty_slot p.cued ≡ false → p.playing ≡ None
 Over n p aired _ = Unit {0}
 
 abbrev OverAt : ℕ → PortState → List Item → Stage → Type 0
@@ -181,7 +181,7 @@ module _ (clips : List (ClipId × Timecode)) (p : PortState) where
 -- a PLAY alone puts a clip on air, a done cue's
 airs_by_play : (list : List Item) (clips : List (ClipId × Timecode)) (p : PortState) (aired : List Item) (n port : ℕ)
     (q : Phase)
-    → Over n p aired q → n < length aired → IsSome p.playing → aired_after clips p (command_in list port q) ≡ []
+    → Over n p aired q → n ≤ length aired → IsSome p.playing → aired_after clips p (command_in list port q) ≡ []
 airs_by_play list clips p aired n port (phase.Exists k) h more plays = airs_no_request clips p (slice_get list k)
 airs_by_play list clips p aired n port (phase.Cue k) h more plays = airs_no_cue clips p (slice_get list k)
 airs_by_play list clips p aired n port (phase.Play k) h more plays = by p.cued refl
@@ -198,7 +198,7 @@ airs_by_play list clips p aired n port (phase.Play k) h more plays = by p.cued r
     by (done item) e = absurd (nothing (h more (ap is_empty_slot e)))
 airs_by_play list clips p aired n port _ h more plays = grind arith
 
-airs_none : Below → (n : ℕ) (c : Channel) → IsKept c → OverAt n c.port.state c.aired c.state.stage → n < length c.aired
+airs_none : Below → (n : ℕ) (c : Channel) → IsKept c → OverAt n c.port.state c.aired c.state.stage → n ≤ length c.aired
     → IsSome c.port.state.playing
     → aired_for c.port c.down ≡ []
 airs_none below n c k h more plays = by k.way
@@ -221,7 +221,7 @@ same_length : (aired more : List Item) → more ≡ [] → length aired < length
 same_length aired more e l = omega (arith, length-append aired more, ap length e, l)
 
 cuts_none : Below → (n : ℕ) (c : Channel) (e : Event) → IsKept c → OverAt n c.port.state c.aired c.state.stage
-    → n < length c.aired → Cuts c e → ⊥
+    → n ≤ length c.aired → Cuts c e → ⊥
 cuts_none below n c e k h more cuts = by e cuts.airs
   where
     none : aired_for c.port c.down ≡ []
@@ -234,11 +234,6 @@ cuts_none below n c e k h more cuts = by e cuts.airs
 
 -- ---- from where on
 
-some_aired : (list : List Item) (playing : Option Item) (aired : List Item) → PlaysLast list playing aired
-    → IsSome playing → 0 < length aired
-some_aired list None aired h plays = cc
-some_aired list (Some item) aired h plays = h.0
-
 impossible : true ≡ false → ⊥
 impossible e = cc
 
@@ -250,21 +245,20 @@ goes_on below n c events r h none =
     c.port.clips)
     (reached_kept below c r) (λ some. absurd (impossible (sym some ∙ none))) h).stands.1
 
-never_taken : Below → (c : Channel) → IsReached c → c ≡ new_channel c.plan c.port.clips c.port.state.unit
-    c.port.cue_frames
+never_taken : Below → (c : Channel) → IsReached c → c ≡ channel_to c.plan c.port
     → (events : List Event) (e : Event) → CutsUnasked c events e → ⊥
 never_taken below c r is_new events e cut =
     let now = after_events c events in
     let k = reached_kept below now (events_reached c events r) in
     cuts_none below 0 now e k (goes_on below 0 c events r at_first cut.no_take)
-    (some_aired now.plan.list now.port.state.playing now.aired k.stands.plays cut.cuts.plays) cut.cuts
+    (omega arith) cut.cuts
   where
     at_first : Holds (Untaken 0) TellsIdle c
     at_first = subst (Holds (Untaken 0) TellsIdle) (sym is_new) (record { stands = (refl, tt); told = tt })
 
 -- a tick that gives a PLAY forgets the wish to take
 
-over_none : (p : PortState) (aired : List Item) (q : Phase) → Over (length aired) p aired q
+over_none : (p : PortState) (aired : List Item) (q : Phase) → Over (length aired + 1) p aired q
 over_none p aired q = grind arith
 
 gives_play : (list : List Item) (port : ℕ) (q : Phase) (take : Bool) → command_in list port q ≡ Some command.Play
@@ -287,12 +281,12 @@ gives_play list port (phase.Play k) take e = refl
 gives_play list port _ take e = cc
 
 sent_untaken : (c : Channel) → given c.plan c.state ≡ Some command.Play
-    → Untaken (length c.aired) (ticked c.state).take c.port.state c.aired (ticked c.state).settled
+    → Untaken (length c.aired + 1) (ticked c.state).take c.port.state c.aired (ticked c.state).settled
     (ticked c.state).stage
 sent_untaken c e = by c.state.stage e
   where
     by : (stage : Stage) → given_in c.plan c.state.stop stage ≡ Some command.Play
-        → Untaken (length c.aired) (tick_in stage c.state).take c.port.state c.aired
+        → Untaken (length c.aired + 1) (tick_in stage c.state).take c.port.state c.aired
         (tick_in stage c.state).settled (tick_in stage c.state).stage
     by (Ready q) e = (
       gives_play c.plan.list c.plan.port (phase_to_send c.state.stop q) c.state.take e,
@@ -307,11 +301,11 @@ not_since : Below → (c : Channel) → IsReached c → given c.plan c.state ≡
 not_since below c r gives events e more cut =
     let sent = after_event c event.Tick in
     let now = after_events sent events in
-    cuts_none below (length c.aired) now e (reached_kept below now (events_reached c (event.Tick ∷ events) r))
-    (goes_on below (length c.aired) sent events (events_reached c (event.Tick ∷ []) r) at_first cut.no_take) more
-    cut.cuts
+    cuts_none below (length c.aired + 1) now e (reached_kept below now (events_reached c (event.Tick ∷ events) r))
+    (goes_on below (length c.aired + 1) sent events (events_reached c (event.Tick ∷ []) r) at_first cut.no_take)
+    (omega (arith, more)) cut.cuts
   where
-    at_first : Holds (Untaken (length c.aired)) TellsIdle (after_event c event.Tick)
+    at_first : Holds (Untaken (length c.aired + 1)) TellsIdle (after_event c event.Tick)
     at_first = record {
       stands = sent_untaken c gives;
       told = subst

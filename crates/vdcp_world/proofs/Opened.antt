@@ -16,7 +16,7 @@ use Rattle.vdcp_auto.specs.declared.phase.Mode.TheVariants.{Plain, Confirming}
 use Rattle.vdcp_auto.specs.declared.phase.Phase.{Phase}
 use Rattle.vdcp_auto.specs.declared.phase.Phase.TheVariants as phase
 use Rattle.vdcp_auto.specs.State.{Stage, Ready, Awaiting, Ended}
-use Rattle.vdcp_world.specs.Channel.{Channel, IsReached, new_channel}
+use Rattle.vdcp_world.specs.Channel.{Channel, IsReached, channel_to}
 use Rattle.vdcp_world.specs.Below.{Below}
 use Rattle.vdcp_world.proofs.Claims.{Closed}
 use Rattle.vdcp_world.proofs.HeadlineProof.{kept_new}
@@ -118,10 +118,10 @@ pub reached_opened : Below → (c : Channel) → IsReached c → OpenedAt c.port
 reached_opened below c r =
     subst (λ (x : Channel). OpenedAt x.port.state x.state.stage) (sym r.led)
     (claim_events below (λ take p aired settled stage. OpenedAt p stage) (λ p aired. TellsOpened p) new r.events
-    (closed_opened r.plan.mode r.plan.list r.plan.port r.plan.limit r.clips)
-    (kept_new r.plan r.clips r.unit r.cue_frames r.unit_fits r.port_fits r.of_bytes)
+    (closed_opened r.plan.mode r.plan.list r.plan.port r.plan.limit r.port.clips)
+    (kept_new r.plan r.port r.unit_fits r.port_fits r.of_bytes r.numbered r.nothing_cued)
     (λ some take p aired settled stage h. h)
     (record { stands = tt; told = tt })).stands
   where
     new : Channel
-    new = new_channel r.plan r.clips r.unit r.cue_frames
+    new = channel_to r.plan r.port

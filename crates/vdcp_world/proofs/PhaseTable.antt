@@ -1,5 +1,5 @@
 -- Where the port is in each phase of the controller, and what a reply that ends the phase's exchange tells of it.
-use Rattle.std.proofs.Common.{◌≡◌, ℕ, ◌+◌, ◌-◌, ◌<◌, ◌≤◌, ◌⊎◌, Bool, true, false, ◌||◌, ◌&&◌, not, List, [], length, take, Option, Some, None}
+use Rattle.std.proofs.Common.{◌≡◌, ℕ, ◌+◌, ◌-◌, ◌<◌, ◌≤◌, ◌⊎◌, Bool, true, false, ◌||◌, ◌&&◌, not, List, [], length, take, Option, Some, None, arith}
 use Rattle.std.specs.Option.{option_to_list}
 use Rattle.std.specs.Prelude.{slice_get}
 use Rattle.vdcp_value.specs.declared.clip_id.ClipId.{ClipId}
@@ -58,10 +58,14 @@ pub record Near (list aired : List Item) (settled : ℕ) : Type 0 where
   pub low : settled ≤ length aired
   pub high : length aired ≤ settled + 1
 
--- what plays was aired last
+-- what plays was aired last, if anything was aired
 abbrev pub PlaysLast : List Item → Option Item → List Item → Type 0
 PlaysLast list None aired = Unit {0}
-PlaysLast list (Some item) aired = (0 < length aired) × (slice_get list (length aired - 1) ≡ Some item)
+PlaysLast list (Some item) aired = 0 < length aired → slice_get list (length aired - 1) ≡ Some item
+
+pub plays_before : (list : List Item) (playing : Option Item) → PlaysLast list playing []
+plays_before list None = tt
+plays_before list (Some item) = λ some. absurd (omega (arith, some))
 
 -- the item's clip is in the catalogue
 abbrev pub knows : List (ClipId × Timecode) → Option Item → Bool

@@ -9,10 +9,10 @@ use Rattle.vdcp_value.specs.declared.timecode.Timecode.{Timecode}
 use Rattle.vdcp_frame.specs.Burst.{messages_of}
 use Rattle.vdcp_frame.specs.Message.{Content}
 use Rattle.vdcp_port.specs.Answers.{after_messages}
-use Rattle.vdcp_port.specs.Clock.{ClockedPort, after_message, after_change, after_ready, after_ended, after_frame, counted_down, completes_cue, ends_clip, row_at}
+use Rattle.vdcp_port.specs.Clock.{ClockedPort, new_port, after_message, after_change, after_ready, after_ended, after_frame, counted_down, completes_cue, ends_clip, row_at}
 use Rattle.vdcp_port.specs.Row.{Change, keeps, opens, closes, selects, stops}
 use Rattle.vdcp_auto.specs.Plan.{Plan}
-use Rattle.vdcp_world.specs.Channel.{Channel, Make, make_of, new_channel, after_event, after_events, IsReached, HappenInPart}
+use Rattle.vdcp_world.specs.Channel.{Channel, Make, channel_to, make_of, new_channel, after_event, after_events, IsReached, HappenInPart}
 use Rattle.vdcp_world.specs.declared.event.Event.{Event}
 use Rattle.vdcp_world.specs.declared.event.Event.TheVariants as event
 
@@ -24,18 +24,16 @@ after_all c (e ∷ events) more = after_all (after_event c e) events more
 pub step_reached : (c : Channel) (e : Event) → IsReached c → IsReached (after_event c e)
 step_reached c e r = record {
   plan = r.plan;
-  clips = r.clips;
-  unit = r.unit;
-  cue_frames = r.cue_frames;
+  port = r.port;
   events = r.events ++ e ∷ [];
   some = r.some;
   few = r.few;
   unit_fits = r.unit_fits;
   port_fits = r.port_fits;
-  cue_takes = r.cue_takes;
   of_bytes = r.of_bytes;
-  led = ap (λ x. after_event x e) r.led ∙ sym (after_all (new_channel r.plan r.clips r.unit r.cue_frames) r.events
-      (e ∷ []));
+  numbered = r.numbered;
+  nothing_cued = r.nothing_cued;
+  led = ap (λ x. after_event x e) r.led ∙ sym (after_all (channel_to r.plan r.port) r.events (e ∷ []));
 }
 
 pub events_reached : (c : Channel) (events : List Event) → IsReached c → IsReached (after_events c events)
@@ -50,19 +48,18 @@ after_step (Err x) old now e ok err r = subst IsReached (sym err) r
 
 pub new_reached : (plan : Plan) (clips : List (ClipId × Timecode)) (unit cue_frames : ℕ) → 1 ≤ plan.limit
     → plan.limit ≤ 1000 → unit ≤ 15
-    → plan.port < 256 → 1 ≤ cue_frames → All IsItem plan.list → IsReached (new_channel plan clips unit cue_frames)
-new_reached plan clips unit cue_frames some few unit_fits port_fits cue_takes of_bytes = record {
+    → plan.port < 256 → All IsItem plan.list → IsReached (new_channel plan clips unit cue_frames)
+new_reached plan clips unit cue_frames some few unit_fits port_fits of_bytes = record {
   plan = plan;
-  clips = clips;
-  unit = unit;
-  cue_frames = cue_frames;
+  port = new_port clips unit plan.port cue_frames;
   events = [];
   some = some;
   few = few;
   unit_fits = unit_fits;
   port_fits = port_fits;
-  cue_takes = cue_takes;
   of_bytes = of_bytes;
+  numbered = refl;
+  nothing_cued = refl;
   led = refl;
 }
 

@@ -89,7 +89,7 @@ plays_new : (list aired : List Item) (k : ℕ) (item : Item) → aired ≡ take 
 plays_new list aired k item e below is =
     let size : length aired ≡ k = ap length e ∙ taken list k (omega (arith, below)) in
     let at : length (aired ++ item ∷ []) - 1 ≡ k = omega (arith, one_more aired item, size) in
-    (omega (arith, one_more aired item), ap (slice_get list) at ∙ is)
+    λ _. ap (slice_get list) at ∙ is
 
 module _ (list : List Item) (clips : List (ClipId × Timecode)) (p : PortState) (aired : List Item) where
   plays_next : (k : ℕ) (cued : Cued) → p.cued ≡ cued → Standing list cued aired k ⊎ Idle list cued aired (k + 1)
@@ -197,8 +197,9 @@ active_tells : (list : List Item) (aired : List Item) (k : ℕ) (playing : Optio
     → names_other (slice_get list k) (reply.Active (option_map (λ item. item.id) playing)) ≡ false
 active_tells list aired k None e within h = names_none (slice_get list k)
 active_tells list aired k (Some item) e within h =
-    let at : length aired - 1 ≡ k = omega (arith, ap length e, taken list (k + 1) within) in
-    names_same (slice_get list k) item (sym (ap (slice_get list) at) ∙ h.1)
+    let size : length aired ≡ k + 1 = ap length e ∙ taken list (k + 1) within in
+    let at : length aired - 1 ≡ k = omega (arith, size) in
+    names_same (slice_get list k) item (sym (ap (slice_get list) at) ∙ h (omega (arith, size)))
 
 module _ (list : List Item) (clips : List (ClipId × Timecode)) (p : PortState) (aired : List Item) where
   check_tells : (k : ℕ) (r : Reply) (selected : Bool) → is_selected p ≡ selected → Idle list p.cued aired (k + 1)

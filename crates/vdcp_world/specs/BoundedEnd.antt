@@ -6,7 +6,7 @@ use Rattle.vdcp_auto.specs.Log.{is_stop}
 use Rattle.vdcp_auto.specs.Turn.{is_ready, outcome_of}
 use Rattle.vdcp_auto.specs.declared.outcome.Outcome.TheVariants.{Done}
 use Rattle.vdcp_auto.specs.declared.phase.Mode.TheVariants.{Plain, Confirming}
-use Rattle.vdcp_world.specs.Channel.{Channel, new_channel, after_events}
+use Rattle.vdcp_world.specs.Channel.{Channel, channel_to, after_events}
 use Rattle.vdcp_world.specs.Rounds.{good_round, times}
 
 -- the whole playlist went to air, and all of it is reported
@@ -31,7 +31,7 @@ pub record CanGoOn (c : Channel) : Type 0 where
 -- confirm mode: nothing happened before
 pub record CanBegin (c : Channel) : Type 0 where
   pub confirming : c.plan.mode ≡ Confirming
-  pub is_new : c ≡ new_channel c.plan c.port.clips c.port.state.unit c.port.cue_frames
+  pub is_new : c ≡ channel_to c.plan c.port
   pub playable : IsAllPlayable c
 
 -- as many good rounds as it takes at most: five an event that isn't reported, and four; and from a new channel

@@ -12,6 +12,7 @@ use Rattle.vdcp_words.specs.declared.reply.Reply.{Reply}
 use Rattle.vdcp_words.specs.declared.reply.Reply.TheVariants.{Ack, Nak}
 use Rattle.vdcp_port.specs.Answers.{sent_for, aired_for, after_burst}
 use Rattle.vdcp_port.specs.Clock.{ClockedPort, new_port, after_ready, after_ended, after_frame}
+use Rattle.vdcp_port.specs.Port.{empty}
 use Rattle.vdcp_auto.specs.Course.{logged}
 use Rattle.vdcp_auto.specs.Plan.{Plan}
 use Rattle.vdcp_auto.specs.Turn.{start, ticked, given, came_to, ended_by, taken, stopped}
@@ -39,18 +40,14 @@ pub record Channel : Type 0 where
   pub aired : List Item
   pub log : List Exchange
 
--- both ends are new, of one unit and one port number, and nothing is on the way
+-- the controller is new, and nothing is on the way to this port
+abbrev pub channel_to : Plan → ClockedPort → Channel
+channel_to plan port =
+    record { plan = plan; state = start; port = port; down = []; up = []; aired = []; log = [] }
+
+-- both ends are new, of one unit and one port number
 abbrev pub new_channel : Plan → List (ClipId × Timecode) → ℕ → ℕ → Channel
-new_channel plan clips unit cue_frames =
-    record {
-      plan = plan;
-      state = start;
-      port = new_port clips unit plan.port cue_frames;
-      down = [];
-      up = [];
-      aired = [];
-      log = [];
-    }
+new_channel plan clips unit cue_frames = channel_to plan (new_port clips unit plan.port cue_frames)
 
 -- Tick: what is on the way down, and up, after a tick that gives a command or none.
 
@@ -204,18 +201,18 @@ make_of c =
       cue_frames = c.port.cue_frames;
     }
 
--- some events lead from a new channel to this one
+-- some events lead to this channel from one whose controller is new, and to whose port nothing is on the way
 pub record IsReached (now : Channel) : Type 0 where
   pub plan : Plan
-  pub clips : List (ClipId × Timecode)
-  pub unit : ℕ
-  pub cue_frames : ℕ
+  pub port : ClockedPort
   pub events : List Event
   -- it gives up after 1 to 1,000 unanswered exchanges
   pub some : 1 ≤ plan.limit
   pub few : plan.limit ≤ 1000
-  pub unit_fits : unit ≤ 15
+  pub unit_fits : port.state.unit ≤ 15
   pub port_fits : plan.port < 256
-  pub cue_takes : 1 ≤ cue_frames
   pub of_bytes : All IsItem plan.list
-  pub led : now ≡ after_events (new_channel plan clips unit cue_frames) events
+  -- the port may be open and selected, and a clip may play
+  pub numbered : port.state.number ≡ plan.port
+  pub nothing_cued : port.state.cued ≡ empty
+  pub led : now ≡ after_events (channel_to plan port) events

@@ -5,8 +5,10 @@ pub mod Rounds
 pub mod Script
 pub mod Headline
 pub mod BoundedEnd
+pub mod AnyPort
 pub mod AtEnd
 pub mod InStep
+pub mod InTime
 pub mod NoCut
 pub mod LateLine
 pub mod Below

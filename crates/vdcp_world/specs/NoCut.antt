@@ -3,7 +3,7 @@ use Rattle.std.specs.Prelude.{◌≡◌, ◌<◌, Bool, true, false, IsSome, Som
 use Rattle.std.specs.List.{list_any}
 use Rattle.vdcp_words.specs.declared.command.Command.TheVariants.{Play}
 use Rattle.vdcp_auto.specs.Turn.{given}
-use Rattle.vdcp_world.specs.Channel.{Channel, new_channel, after_event, after_events}
+use Rattle.vdcp_world.specs.Channel.{Channel, channel_to, after_event, after_events}
 use Rattle.vdcp_world.specs.declared.event.Event.{Event}
 use Rattle.vdcp_world.specs.declared.event.Event.TheVariants.{Tick, Take}
 
@@ -23,9 +23,8 @@ pub record CutsUnasked (c : Channel) (events : List Event) (e : Event) : Type 0 
 
 -- No clip is cut short without a take.
 pub record NoCut (c : Channel) : Type 0 where
-  -- from a new channel on
-  pub never_taken : c ≡ new_channel c.plan c.port.clips c.port.state.unit c.port.cue_frames
-      → (events : List Event) (e : Event) → ¬ CutsUnasked c events e
+  -- from a new controller on
+  pub never_taken : c ≡ channel_to c.plan c.port → (events : List Event) (e : Event) → ¬ CutsUnasked c events e
   -- and from the tick on that gives a PLAY, once that PLAY, or the same sent again, has put its clip on air
   pub not_since : given c.plan c.state ≡ Some Play
       → (events : List Event) (e : Event) → length c.aired < length (after_events c (Tick ∷ events)).aired

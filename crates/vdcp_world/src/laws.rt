@@ -1,18 +1,21 @@
 //! The laws of a line that holds one burst each way, and then those of a line that keeps order, however late. The
 //! functions do nothing: their contracts are the laws, and a caller whose proof needs one calls it.
-ghost use Rattle.std.specs.Prelude.{ℕ, ◌≡◌, ◌≤◌, ◌<◌, All, IfSome, List, [], bit_and};
+ghost use Rattle.std.specs.Prelude.{ℕ, ◌≡◌, ◌≤◌, ◌<◌, All, IfSome, IsTrue, List, [], bit_and};
 ghost use Rattle.vdcp_value.specs.Parts.{IsItem};
+ghost use Rattle.vdcp_port.specs.Clips.{is_playable};
 ghost use Rattle.vdcp_port.specs.Clock.{ClockedPort};
-ghost use Rattle.vdcp_port.specs.Port.{state_byte};
+ghost use Rattle.vdcp_port.specs.Port.{empty, state_byte};
 ghost use Rattle.vdcp_auto.specs.Plan.{Plan};
 ghost use Rattle.vdcp_auto.specs.Turn.{outcome_of};
 ghost use Rattle.vdcp_auto.specs.declared.phase.Mode.TheVariants.{Confirming};
+ghost use Rattle.vdcp_world.specs.AnyPort.{CanRun};
 ghost use Rattle.vdcp_world.specs.AtEnd.{LeavesPort};
 ghost use Rattle.vdcp_world.specs.Below.{Below};
 ghost use Rattle.vdcp_world.specs.BoundedEnd.{BoundedEnd};
-ghost use Rattle.vdcp_world.specs.Channel.{Channel, IsReached, after_event};
+ghost use Rattle.vdcp_world.specs.Channel.{Channel, IsReached, after_event, after_events, channel_to};
 ghost use Rattle.vdcp_world.specs.Headline.{Headline};
 ghost use Rattle.vdcp_world.specs.InStep.{InStepEnd};
+ghost use Rattle.vdcp_world.specs.InTime.{HasOneWay, IsNoStop, LosesNone, PlaysOn};
 ghost use Rattle.vdcp_world.specs.LateLine.GoingOn.{IsNoTick, gone_on};
 ghost use Rattle.vdcp_world.specs.LateLine.Joined.{late_of};
 ghost use Rattle.vdcp_world.specs.LateLine.LateChannel.{CanStart, LateChannel, IsLateReached, after_late_events, late_make_of, new_late_channel};
@@ -40,6 +43,15 @@ pub fn reached_keeps_the_headline()
     crates_below();
 }
 
+/// The same from a port in whatever state: open or closed, selected, while a clip plays, and in plain mode with something
+/// cued, if the list has an event. (An empty list ends Strange(0) there: what is cued shows.)
+pub fn any_port_keeps_the_headline()
+    ensures { (plan : Plan) (port : ClockedPort) (events : List Event) → CanRun plan port →
+        Headline (after_events (channel_to plan port) events) }
+{
+    crates_below();
+}
+
 /// In plain mode, from whatever channel that events have led to, as long as the controller hasn't ended and
 /// awaits nothing, and no stop is wished for or was sent; and in confirm mode from a new channel:
 /// if each item of the playlist is in the catalogue, and each part fits its clip, enough good rounds
@@ -61,6 +73,22 @@ pub fn good_rounds_bring_all_to_air()
 ///   empty status more nor one unanswered exchange more ends it.
 pub fn good_rounds_bring_the_rest_to_air()
     ensures { (c : Channel) → IsReached c → InStepEnd c }
+{
+    crates_below();
+}
+
+/// Where nothing was lost, copied, damaged or forged since a new controller began, at most one way has something, and none
+/// if no answer is awaited. If besides nothing was cued then, each item of the playlist is in the catalogue, each part fits
+/// its clip, and the operator didn't stop, each exchange leads on but one whose state says that something is being cued or
+/// that a clip plays: but for these there are five exchanges for each event, and four, at most, in confirm mode six, and
+/// five. Once they are as many the whole playlist went to air, and is reported, and the controller is Done.
+pub fn what_loses_nothing_plays_the_list()
+    ensures line { (plan : Plan) (port : ClockedPort) (events : List Event) → All LosesNone events →
+        HasOneWay (after_events (channel_to plan port) events) }
+    ensures plays { (plan : Plan) (port : ClockedPort) (events : List Event) → CanRun plan port →
+        port.state.cued ≡ empty → All LosesNone events → All IsNoStop events →
+        All (λ item. IsTrue (is_playable port.clips item)) plan.list →
+        (c : Channel) → c ≡ after_events (channel_to plan port) events → PlaysOn plan c.state c.aired c.log }
 {
     crates_below();
 }

@@ -8,7 +8,6 @@ use Rattle.vdcp_words.specs.Commands.{command_message}
 use Rattle.vdcp_words.specs.declared.command.Command.{Command}
 use Rattle.vdcp_words.specs.declared.command.Command.TheVariants as command
 use Rattle.vdcp_port.specs.Answers.{sent_for}
-use Rattle.vdcp_port.specs.Clock.{new_port}
 use Rattle.vdcp_auto.specs.Heard.{heard_in, heard_first, hears_receipt}
 use Rattle.vdcp_auto.specs.Turn.{given}
 use Rattle.vdcp_auto.specs.declared.exchange.Heard.{Heard}
@@ -233,14 +232,13 @@ joins_all c (e ∷ es) =
 
 pub reached_late : (c : Channel) → IsReached c → IsLateReached (late_of c)
 reached_late c r =
-    let (events, led) = joins_all (world.new_channel r.plan r.clips r.unit r.cue_frames) r.events in
+    let (events, led) = joins_all (world.channel_to r.plan r.port) r.events in
     record {
       plan = r.plan;
-      port = new_port r.clips r.unit r.plan.port r.cue_frames;
+      port = r.port;
       down = [];
       up = [];
       events = events;
-      can_start = quiet_start r.plan (new_port r.clips r.unit r.plan.port r.cue_frames) r.some r.few r.unit_fits
-          r.port_fits r.of_bytes (λ _. refl);
+      can_start = quiet_start r.plan r.port r.some r.few r.unit_fits r.port_fits r.of_bytes (λ _. r.nothing_cued);
       led = ap late_of r.led ∙ sym led;
     }

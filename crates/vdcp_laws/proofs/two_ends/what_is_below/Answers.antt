@@ -37,4 +37,12 @@ returns c =
         reply = c.reply_is_read_first.ensures.fits;
         given = c.commands_can_be_written.ensures.given;
       };
+      stays = (
+        c.the_unit_stays.ensures.burst,
+        c.the_unit_stays.ensures.frame,
+        c.the_unit_stays.ensures.ready,
+        c.the_unit_stays.ensures.ended,
+      );
+      lawful = c.reached_is_lawful.ensures;
+      goes_on = c.a_killed_automation_goes_on.ensures.event;
     }
