@@ -1,4 +1,4 @@
-//! The log, the wire that writes to it, and what tells it of a port.
+//! The log, and the wire that writes to it.
 ghost use Rattle.std.specs.Prelude.{◌≡◌};
 
 use crate::lines::Lines;
@@ -8,8 +8,7 @@ use std::io::Write;
 use std::{fmt, io};
 use vdcp_drive::Hearing;
 use vdcp_frame::{End, Ended, Got, Message, Reader};
-use vdcp_text::{EndText, ItemText, MeaningText, MessageText};
-use vdcp_value::{Item, Rate};
+use vdcp_text::{EndText, MeaningText, MessageText};
 use vdcp_wire::{Came, PIECE, Wire, WireFault};
 
 /// What is told for people while a channel is up, and the writer that gets it.
@@ -41,40 +40,41 @@ pub struct Log<L: io::Write> {
     // None if nothing goes there, or no more.
     lines: Cell<Option<Lines<L>>>,
     rows: Cell<Option<Lines<L>>>,
-    scope: Scope,
+    // Not faults alone.
+    tells_all: bool,
     // What passes on the line is read: each message is told or captured.
     reads: bool,
+    // Bytes have come at all.
+    heard: Cell<bool>,
     pub(crate) side: Side,
-}
-
-/// Which lines go to a log.
-#[derive(Clone, Copy)]
-enum Scope {
-    All,
-    /// Those of faults alone.
-    Faults,
 }
 
 impl<L: io::Write + Drop> Log<L> {
     /// A log that tells this, with this writer of a capture, of a line that is listened to at this side.
     pub fn new(telling: Telling<L>, capture: Option<L>, side: Side) -> Self {
-        let (scope, lines) = match telling {
-            Telling::Nothing => (Scope::Faults, None),
-            Telling::Faults(writer) => (Scope::Faults, Some(Lines::new(writer))),
-            Telling::All(writer) => (Scope::All, Some(Lines::new(writer))),
+        let (tells_all, lines) = match telling {
+            Telling::Nothing => (false, None),
+            Telling::Faults(writer) => (false, Some(Lines::new(writer))),
+            Telling::All(writer) => (true, Some(Lines::new(writer))),
         };
         Log {
-            reads: matches!(scope, Scope::All) || capture.is_some(),
+            reads: tells_all || capture.is_some(),
+            heard: Cell::new(false),
             lines: Cell::new(lines),
             rows: Cell::new(capture.map(|writer| Lines::new(writer))),
-            scope,
+            tells_all,
             side,
         }
     }
 
+    /// Whether bytes have come over the line at all.
+    pub fn has_heard(&self) -> bool {
+        self.heard.get()
+    }
+
     /// Adds a line, unless only faults are told.
     pub fn tell<T: fmt::Display>(&self, line: &T) {
-        if let Scope::All = self.scope {
+        if self.tells_all {
             self.tell_fault(line);
         }
     }
@@ -119,10 +119,10 @@ impl Direction {
 
 impl fmt::Display for Direction {
     fn fmt<W: fmt::Write>(&self, f: &mut fmt::Formatter<W>) -> fmt::Result {
-        match self {
-            Direction::In => write!(f, "<-"),
-            Direction::Out => write!(f, "->"),
-        }
+        f.write_str(match self {
+            Direction::In => "<-",
+            Direction::Out => "->",
+        })
     }
 }
 
@@ -163,10 +163,7 @@ impl<'a, W: Wire, L: io::Write + Drop> Logged<'a, W, L> {
 
     // Whether a silence ends nothing that is read.
     fn reads_on(&self) -> bool {
-        match self.hearing {
-            Hearing::AtSilences => false,
-            Hearing::AtOnce => self.came.is_some(),
-        }
+        self.hearing == Hearing::AtOnce && self.came.is_some()
     }
 }
 
@@ -193,6 +190,9 @@ impl<W: Wire, L: io::Write + Drop> Wire for Logged<'_, W, L> {
 
     fn listen(&mut self, buffer: &mut [u8; PIECE]) -> Result<Came, WireFault> {
         let came = self.wire.listen(buffer)?;
+        if let Came::Bytes(1..) = came {
+            self.log.heard.set(true);
+        }
         if !self.log.reads {
             return Ok(came);
         }
@@ -201,9 +201,10 @@ impl<W: Wire, L: io::Write + Drop> Wire for Logged<'_, W, L> {
                 let piece = &buffer[..n];
                 tell_piece(self.log, self.hearing, &mut self.came, &mut self.row, piece)
             }
-            Came::Silence if self.reads_on() => tell_silence(self.log, &mut self.awaits),
             Came::Silence => {
-                tell_end(self.log, &mut self.came, &mut self.row);
+                if !self.reads_on() {
+                    tell_end(self.log, &mut self.came, &mut self.row);
+                }
                 tell_silence(self.log, &mut self.awaits);
             }
             Came::Closed => tell_end(self.log, &mut self.came, &mut self.row),
@@ -218,36 +219,6 @@ impl<W: Wire, L: io::Write + Drop> Wire for Logged<'_, W, L> {
     ghost fails_once = { λ w. W.fails_once w.wire };
 
     ghost tells = { λ act old new. W.tells act old.wire new.wire };
-}
-
-/// Logs each item that goes to air, counted from 0, with the time codes of its part at a rate.
-#[derive(Drop)]
-pub struct AirLog<'a, L: io::Write> {
-    log: &'a Log<L>,
-    rate: Rate,
-    aired: u64,
-}
-
-impl<'a, L: io::Write + Drop> AirLog<'a, L> {
-    /// Of a port that has put nothing to air yet.
-    pub fn new(log: &'a Log<L>, rate: Rate) -> Self {
-        AirLog {
-            log,
-            rate,
-            aired: 0,
-        }
-    }
-
-    /// This goes to air.
-    pub fn tell(&mut self, item: Item) {
-        let number = self.aired;
-        let item = ItemText {
-            rate: self.rate,
-            item,
-        };
-        self.log.tell(&format_args!("aired {number} {item}"));
-        self.aired = self.aired.saturating_add(1);
-    }
 }
 
 // Tells a piece of a burst: the messages that it completes, and a fault that it shows, after which nothing is read.

@@ -28,11 +28,6 @@ impl Row {
         }
     }
 
-    /// No byte came yet.
-    pub fn is_empty(&self) -> bool {
-        self.held.is_empty() && !self.is_begun
-    }
-
     /// Adds bytes.
     pub fn add<L: io::Write + Drop>(&mut self, log: &Log<L>, bytes: &[u8]) {
         for byte in bytes {
@@ -45,12 +40,11 @@ impl Row {
 
     /// Ends the row, if it has any byte.
     pub fn end<L: io::Write + Drop>(&mut self, log: &Log<L>) {
-        if self.is_empty() {
-            return;
+        if self.is_begun || !self.held.is_empty() {
+            self.put(log);
+            log.capture(&"\n");
+            self.is_begun = false;
         }
-        self.put(log);
-        log.capture(&"\n");
-        self.is_begun = false;
     }
 
     /// Ends what is written of a long row, since another row follows. What is held comes later.

@@ -13,58 +13,68 @@ use std::time::Duration;
 /// Most bytes that go out at once: a pipe or a terminal that takes any takes as many.
 const PIECE: usize = 255;
 
+/// Tells of a descriptor whether a read or a write there would wait.
+#[derive(Drop)]
+pub struct Readiness {
+    poll: Poll,
+    events: Events<Global>,
+    interest: Interest,
+}
+
+impl Readiness {
+    /// That of a descriptor. Err if the system doesn't watch it, as that of a file.
+    pub fn of<R: Net + AllocGlobal>(
+        rt: &R,
+        descriptor: RawFd,
+        interest: Interest,
+    ) -> io::Result<Self> {
+        let poll = Poll::new(rt)?;
+        let events = Events::with_capacity(rt.alloc(), 1)?;
+        poll.registry()
+            .register(&mut SourceFd(&descriptor), Token(0), interest)?;
+        Ok(Readiness {
+            poll,
+            events,
+            interest,
+        })
+    }
+
+    /// `WouldBlock` if what it tells of would wait now at this descriptor.
+    pub fn test(&mut self, descriptor: RawFd) -> io::Result<()> {
+        // (asked anew, since an event comes at a change alone)
+        self.poll
+            .registry()
+            .reregister(&mut SourceFd(&descriptor), Token(0), self.interest)?;
+        self.poll.poll(&mut self.events, Some(Duration::ZERO))?;
+        if self.events.is_empty() {
+            return Err(io::Error::from(ErrorKind::WouldBlock));
+        }
+        Ok(())
+    }
+}
+
 /// A terminal, or what stands in its place, that never makes its writer wait: if a pipe or a terminal takes nothing,
 /// since nobody reads there, a write is refused with `WouldBlock`. (A file always takes what is written.)
 #[derive(Drop)]
 pub struct Screen<W> {
     writer: W,
     // None if no write waits.
-    room: Option<Room>,
-}
-
-/// What the system says of the room for a write.
-#[derive(Drop)]
-struct Room {
-    poll: Poll,
-    events: Events<Global>,
+    room: Option<Readiness>,
 }
 
 impl<W: Write + AsRawFd> Screen<W> {
     /// A screen on which this writer's bytes go out.
     pub fn new<R: Net + AllocGlobal>(rt: &R, writer: W) -> Self {
-        let room = Room::of(rt, writer.as_raw_fd()).ok();
+        let room = Readiness::of(rt, writer.as_raw_fd(), Interest::WRITABLE).ok();
         Screen { writer, room }
-    }
-}
-
-impl Room {
-    // Err if the system doesn't watch the descriptor, as that of a file.
-    fn of<R: Net + AllocGlobal>(rt: &R, writer: RawFd) -> io::Result<Room> {
-        let poll = Poll::new(rt)?;
-        let events = Events::with_capacity(rt.alloc(), 1)?;
-        poll.registry()
-            .register(&mut SourceFd(&writer), Token(0), Interest::WRITABLE)?;
-        Ok(Room { poll, events })
-    }
-
-    // Whether a write wouldn't wait now.
-    fn is_there(&mut self, writer: RawFd) -> io::Result<bool> {
-        // (asked anew, since an event comes at a change alone)
-        self.poll
-            .registry()
-            .reregister(&mut SourceFd(&writer), Token(0), Interest::WRITABLE)?;
-        self.poll.poll(&mut self.events, Some(Duration::ZERO))?;
-        Ok(!self.events.is_empty())
     }
 }
 
 impl<W: Write + AsRawFd> Write for Screen<W> {
     fn write(&mut self, bytes: &[u8]) -> io::Result<usize> {
-        let writer = self.writer.as_raw_fd();
+        let descriptor = self.writer.as_raw_fd();
         if let Some(room) = &mut self.room {
-            if !room.is_there(writer)? {
-                return Err(io::Error::from(ErrorKind::WouldBlock));
-            }
+            room.test(descriptor)?;
         }
         self.writer.write(&bytes[..bytes.len().min(PIECE)])
     }

@@ -4,4 +4,3 @@ pub mod Wishes
 pub mod Answered
 pub mod Turned
 pub mod Seen
-pub mod Opened

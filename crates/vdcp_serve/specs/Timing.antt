@@ -64,9 +64,9 @@ frames_of s now = if s.by_clock then Some (record { rate = s.rate; began = now; 
 
 -- a line begins
 pub record LineBegins {R : Type 0} (settings : ServeSettings) (before begun : Timing R) : Type 0 where
-  pub later : before.time ≤ begun.time
-  pub frames : begun.frames ≡ frames_of settings begun.time
-  pub patience : begun.patience ≡ with_next_line settings.idle begun.time before.patience
+  pub later : before.stopwatch.now ≤ begun.stopwatch.now
+  pub frames : begun.frames ≡ frames_of settings begun.stopwatch.now
+  pub patience : begun.patience ≡ with_next_line settings.idle begun.stopwatch.now before.patience
   pub turns : begun.turns ≡ 0
 
 -- no line was waiting while the last one was idle
@@ -83,17 +83,17 @@ frames_by _ frames = frames
 
 -- it was asked what is due: a turn more
 pub record WasAsked {R : Type 0} (answer : Due) (old new : Timing R) : Type 0 where
-  pub later : old.time ≤ new.time
-  pub is_due : answer ≡ due_at new.time old.frames old.patience
+  pub later : old.stopwatch.now ≤ new.stopwatch.now
+  pub is_due : answer ≡ due_at new.stopwatch.now old.frames old.patience
   pub frames : new.frames ≡ frames_by answer old.frames
   pub patience : new.patience ≡ old.patience
   pub turns : new.turns ≡ min (old.turns + 1) (2 ^ 64 - 1)
 
 -- and told what the turn was
 pub record WasTold {R : Type 0} (turned : Result Turned DriveFault) (old new : Timing R) : Type 0 where
-  pub later : old.time ≤ new.time
+  pub later : old.stopwatch.now ≤ new.stopwatch.now
   pub frames : new.frames ≡ old.frames
-  pub patience : new.patience ≡ after_turn turned old.time new.time old.patience
+  pub patience : new.patience ≡ after_turn turned old.stopwatch.now new.stopwatch.now old.patience
   pub turns : new.turns ≡ old.turns
 
 abbrev pub TimingDoes : {R : Type 0} → HookStep → Timing R → Timing R → Type 0

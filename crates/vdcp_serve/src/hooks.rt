@@ -1,5 +1,6 @@
 //! What takes part in a server's turns: time, the log and the page.
-ghost use Rattle.std.specs.Prelude.{◌≡◌};
+ghost use Rattle.std.specs.Prelude.{◌≡◌, ◌+◌, ◌-◌, ◌^◌, min};
+ghost use Rattle.vdcp_serve.specs.Panel.{IsNoted, Notes, aired_on};
 
 use crate::panel::PortPanel;
 use crate::timing::Timing;
@@ -7,8 +8,9 @@ use std::io;
 use std::net::SocketAddr;
 use std::rt::Clock;
 use vdcp_drive::{DriveFault, Due, ServerHooks, Turned};
-use vdcp_log::{AirLog, Log};
+use vdcp_log::Log;
 use vdcp_port::{Catalogue, Port};
+use vdcp_text::ItemText;
 use vdcp_value::{Item, Rate};
 
 /// Says what is due by its timing, tells a log what goes to air, and shows a panel, if there is one, how the port is.
@@ -16,7 +18,10 @@ use vdcp_value::{Item, Rate};
 pub struct Hooks<'a, R: Clock, L: io::Write> {
     /// When frames pass, and when the line is given up.
     pub timing: Timing<'a, R>,
-    log: AirLog<'a, L>,
+    log: &'a Log<L>,
+    rate: Rate,
+    // How many items went to air.
+    aired: u64,
     panel: Option<PortPanel<'a, R>>,
 }
 
@@ -25,7 +30,9 @@ impl<'a, R: Clock + AllocGlobal, L: io::Write + Drop> Hooks<'a, R, L> {
     pub fn new(rt: &'a R, log: &'a Log<L>, rate: Rate, panel: Option<PortPanel<'a, R>>) -> Self {
         Hooks {
             timing: Timing::new(rt),
-            log: AirLog::new(log, rate),
+            log,
+            rate,
+            aired: 0,
             panel,
         }
     }
@@ -41,16 +48,29 @@ impl<'a, R: Clock + AllocGlobal, L: io::Write + Drop> Hooks<'a, R, L> {
 
     /// The port is as it is now, and this went to air.
     pub fn show<C: Catalogue>(&mut self, port: &Port<C>, aired: Option<Item>)
-        ensures { self.new.timing ≡ self.old.timing }
+        ensures timing { self.new.timing ≡ self.old.timing }
+        ensures noted { Notes aired self.old.aired (aired_on self.old.panel) (aired_on self.new.panel) }
     {
         if let Some(item) = aired {
-            self.log.tell(item);
+            self.note(item);
         }
         if let Some(panel) = &mut self.panel {
-            if let Some(item) = aired {
-                panel.note(item);
-            }
             panel.show(port);
+        }
+    }
+
+    // This went to air, counted from 0.
+    fn note(&mut self, item: Item)
+        ensures timing { self.new.timing ≡ self.old.timing }
+        ensures noted { IsNoted item self.old.aired (aired_on self.old.panel) (aired_on self.new.panel) }
+        ensures counted { self.new.aired ≡ min (self.old.aired + 1) (2 ^ 64 - 1) }
+    {
+        let (number, rate) = (self.aired, self.rate);
+        self.aired = number.saturating_add(1);
+        let text = ItemText { rate, item };
+        self.log.tell(&format_args!("aired {number} {text}"));
+        if let Some(panel) = &mut self.panel {
+            panel.note(number, item);
         }
     }
 }

@@ -10,8 +10,7 @@ use serde_json::{Value, json};
 use std::alloc::{AllocError, Global};
 use std::net::SocketAddr;
 use std::rt::Clock;
-use std::time::SystemTime;
-use vdcp_panel::{Calls, Panel, View};
+use vdcp_panel::{Calls, Panel, View, milliseconds};
 use vdcp_port::{Access, Catalogue, Clip, Kept, Port};
 use vdcp_text::ItemText;
 use vdcp_value::{Item, Rate};
@@ -46,12 +45,10 @@ pub struct PortView<'a> {
 /// A panel that shows a port.
 #[derive(Drop)]
 pub struct PortPanel<'a, R: Clock> {
-    alloc: Global,
+    rt: &'a R,
     panel: Panel,
-    clock: &'a R,
     rate: Rate,
     aired: Vec<Airing>,
-    count: u64,
     from: Option<String>,
 }
 
@@ -59,12 +56,10 @@ impl<'a, R: Clock + AllocGlobal> PortPanel<'a, R> {
     /// A panel of a port that has put nothing to air yet.
     pub fn new(rt: &'a R, panel: Panel, rate: Rate) -> Result<Self, AllocError> {
         Ok(PortPanel {
-            alloc: rt.alloc(),
+            rt,
             panel,
-            clock: rt,
             rate,
             aired: Vec::with_capacity(rt.alloc(), MOST_AIRED)?,
-            count: 0,
             from: None,
         })
     }
@@ -72,28 +67,27 @@ impl<'a, R: Clock + AllocGlobal> PortPanel<'a, R> {
     /// From here the port is driven now, or nobody drives it.
     pub fn connected(&mut self, from: Option<SocketAddr>) {
         self.from = match from {
-            Some(address) => format!(in self.alloc; "{address}").ok(),
+            Some(address) => format!(in self.rt.alloc(); "{address}").ok(),
             None => None,
         };
     }
 
-    /// This went to air.
-    pub fn note(&mut self, item: Item)
-        ensures noted { IsNoted item self.old.count self.old.aired.items self.new.aired.items }
-        ensures keeps { self.new ≡ record self.old { aired = self.new.aired; count = self.new.count } }
+    /// This went to air as that number.
+    pub fn note(&mut self, number: u64, item: Item)
+        ensures noted { IsNoted item number self.old.aired.items self.new.aired.items }
+        ensures keeps { self.new ≡ record self.old { aired = self.new.aired } }
     {
-        let number = self.count;
         if self.aired.len() >= MOST_AIRED {
             self.aired.remove(0);
         }
-        self.count = self.count.saturating_add(1);
-        let at = self.time_of_day();
+        let at = milliseconds(self.rt);
         let _ = self.aired.push(Airing { number, item, at });
     }
 
     /// Answers requests for the page by the port as it is now.
     pub fn show<C: Catalogue>(&mut self, port: &Port<C>)
-        ensures { ShowsPort self.old.rate port.now self.old.aired.items self.old.from self.old.panel.names }
+        ensures shown { ShowsPort self.old.rate port.now self.old.aired.items self.old.from self.old.panel.names }
+        ensures keeps { self.new ≡ record self.old { panel = self.new.panel } }
     {
         let seen = PortView {
             page: PAGE,
@@ -104,18 +98,7 @@ impl<'a, R: Clock + AllocGlobal> PortPanel<'a, R> {
             from: &self.from,
         };
         let mut calls = Calls::new();
-        self.panel.serve_some(self.clock, &seen, &mut calls);
-    }
-
-    // Milliseconds since 1970, or 0 if the clock can't be read.
-    fn time_of_day(&self) -> u64 {
-        let Ok(now) = SystemTime::now(self.clock) else {
-            return 0;
-        };
-        match now.duration_since(SystemTime::UNIX_EPOCH) {
-            Ok(time) => u64::try_from(time.as_millis()).unwrap_or(u64::MAX),
-            Err(_) => 0,
-        }
+        self.panel.serve_some(self.rt, &seen, &mut calls);
     }
 }
 
@@ -147,17 +130,13 @@ impl PortView<'_> {
     fn value(&self, alloc: Global) -> Result<Value, AllocError>
         ensures { IfOk result (λ v. view v ≡ seen_data self.now) }
     {
-        let aired = rows_of(alloc, self.rate, self.aired)?;
-        let cued = slot(alloc, self.rate, &self.kept.cued)?;
-        let playing = slot(alloc, self.rate, &self.kept.playing)?;
-        let from = text_or_null(alloc, self.from)?;
         json!(in alloc; {
             "access": access_text(self.kept.access),
-            "aired": aired,
-            "cued": cued,
-            "from": from,
+            "aired": rows_of(alloc, self.rate, self.aired)?,
+            "cued": slot(alloc, self.rate, &self.kept.cued)?,
+            "from": text_or_null(alloc, self.from)?,
             "number": self.kept.number,
-            "playing": playing,
+            "playing": slot(alloc, self.rate, &self.kept.playing)?,
             "rate": self.rate.frames_per_second(),
             "state": self.state,
             "unit": self.kept.unit

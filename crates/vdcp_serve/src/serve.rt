@@ -6,7 +6,6 @@ use crate::entrance::{Entrance, line_over};
 use crate::hooks::Hooks;
 use crate::panel::PortPanel;
 use crate::stay::{serve_over, stay};
-use std::alloc::AllocError;
 use std::io::{self, ErrorKind};
 use std::net::{Net, SocketAddrV4};
 use std::rt::Clock;
@@ -17,7 +16,7 @@ use vdcp_panel::Panel;
 use vdcp_port::{Catalogue, Port};
 use vdcp_text::Failure;
 use vdcp_value::Rate;
-use vdcp_wire::{AcceptFault, Wire, accept_one, address_of, listen_at};
+use vdcp_wire::{AcceptFault, accept_one, address_of, listen_at};
 
 /// What a channel is served with.
 #[derive(Clone, Copy, Debug, PartialEq, Eq)]
@@ -89,19 +88,19 @@ pub fn do_serve<
     requires few_frames { settings.cue_frames ≤ 1000 }
 {
     let log = Log::new(telling, capture, Side::Server);
-    match serve(rt, address, catalogue, settings, log, panel, out) {
+    match serve(rt, address, catalogue, settings, &log, panel, out) {
         Ok(()) => 0,
         Err(failure) => failure.report(err),
     }
 }
 
-// Reads the catalogue, and serves it.
+// Reads the catalogue, serves it, and tells how that ended.
 fn serve<'a, R: Net + AllocGlobal + Clock, C: io::Read + Drop, L: io::Write + Drop, W: io::Write>(
     rt: &R,
     address: &str,
     catalogue: NamedFile<'a, C>,
     settings: ServeSettings,
-    log: Log<L>,
+    log: &Log<L>,
     panel: Option<Panel>,
     out: &mut W,
 ) -> Result<(), Failure<'a>>
@@ -114,7 +113,15 @@ fn serve<'a, R: Net + AllocGlobal + Clock, C: io::Read + Drop, L: io::Write + Dr
     };
     let clips = catalogue.read_catalogue(rt.alloc(), settings.rate)?;
     let port = new_port(clips, settings);
-    serve_port(rt, address, port, settings, &log, panel, out)
+    let end = if settings.stay {
+        serve_each(rt, address, port, settings, log, panel, out)?
+    } else {
+        serve_first(rt, address, port, settings, log, out)?
+    };
+    match write_end(end, out) {
+        Ok(()) => Ok(()),
+        Err(_) => Err(Failure::Writer),
+    }
 }
 
 // The new port of a catalogue.
@@ -125,38 +132,6 @@ fn new_port<C: Catalogue>(catalogue: C, settings: ServeSettings) -> Port<C>
     ensures { result ≡ new_port (C.clips catalogue) settings.unit settings.port settings.cue_frames }
 {
     Port::with_clock(catalogue, settings.unit, settings.port, settings.cue_frames)
-}
-
-/// The word of how a server's turns ended.
-pub(crate) fn word_of(end: TurnsEnd) -> &'static str {
-    match end {
-        TurnsEnd::Closed => "closed",
-        TurnsEnd::GivenUp => "idle",
-        TurnsEnd::Spent => "spent",
-    }
-}
-
-// Listens, and serves the port to one connection, or to one after another.
-fn serve_port<
-    'a,
-    R: Net + AllocGlobal + Clock,
-    C: Catalogue + Drop,
-    L: io::Write + Drop,
-    W: io::Write,
->(
-    rt: &'a R,
-    address: SocketAddrV4,
-    port: Port<C>,
-    settings: ServeSettings,
-    log: &'a Log<L>,
-    panel: Option<Panel>,
-    out: &mut W,
-) -> Result<(), Failure<'static>> {
-    if settings.stay {
-        serve_each(rt, address, port, settings, log, panel, out)
-    } else {
-        serve_first(rt, address, port, settings, log, out)
-    }
 }
 
 // Takes a connection, and serves it.
@@ -173,11 +148,10 @@ fn serve_first<
     settings: ServeSettings,
     log: &'a Log<L>,
     out: &mut W,
-) -> Result<(), Failure<'static>> {
+) -> Result<TurnsEnd, Failure<'static>> {
     let stream = match accept_one(rt, address, out) {
         Ok(stream) => stream,
-        Err(AcceptFault::Bind) => return Err(Failure::Bind),
-        Err(AcceptFault::Writer) => return Err(Failure::Writer),
+        Err(fault) => return Err(failure_of(fault)),
     };
     let Ok(line) = line_over(stream, settings, log) else {
         return Err(Failure::LineFailed);
@@ -185,7 +159,7 @@ fn serve_first<
     let mut hooks = Hooks::new(rt, log, settings.rate, None);
     let turns = u64::from(settings.turns);
     match serve_over(port, line, None, settings, turns, &mut hooks) {
-        (_, Ok(end)) => write_end(end, out).map_err(|_| Failure::Writer),
+        (_, Ok(end)) => Ok(end),
         (_, Err(DriveFault::Device)) => Err(Failure::LineFailed),
     }
 }
@@ -205,45 +179,31 @@ fn serve_each<
     log: &'a Log<L>,
     panel: Option<Panel>,
     out: &mut W,
-) -> Result<(), Failure<'static>> {
-    let mut entrance = entrance_at(rt, address, settings, log, out)?;
-    let panel = port_panel(rt, panel, settings.rate)?;
-    let mut hooks = Hooks::new(rt, log, settings.rate, panel);
-    if stay(port, &mut entrance, settings, &mut hooks).is_err() {
-        return Err(Failure::Bind);
-    }
-    write_end(TurnsEnd::Spent, out).map_err(|_| Failure::Writer)
-}
-
-// Listens at an address. What it gives takes the connections there.
-fn entrance_at<'a, R: Net + AllocGlobal + Clock, L: io::Write + Drop, W: io::Write>(
-    rt: &'a R,
-    address: SocketAddrV4,
-    settings: ServeSettings,
-    log: &'a Log<L>,
-    out: &mut W,
-) -> Result<Entrance<'a, R, L>, Failure<'static>> {
+) -> Result<TurnsEnd, Failure<'static>> {
     let listener = match listen_at(rt, address, out) {
         Ok(listener) => listener,
-        Err(AcceptFault::Bind) => return Err(Failure::Bind),
-        Err(AcceptFault::Writer) => return Err(Failure::Writer),
+        Err(fault) => return Err(failure_of(fault)),
     };
-    match Entrance::new(rt, listener, settings, log) {
-        Ok(entrance) => Ok(entrance),
-        Err(error) if error.kind() == ErrorKind::OutOfMemory => Err(Failure::Memory),
+    let mut entrance = match Entrance::new(rt, listener, settings, log) {
+        Ok(entrance) => entrance,
+        Err(error) if error.kind() == ErrorKind::OutOfMemory => return Err(Failure::Memory),
+        Err(_) => return Err(Failure::Bind),
+    };
+    let panel = match panel {
+        Some(panel) => Some(PortPanel::new(rt, panel, settings.rate)?),
+        None => None,
+    };
+    let mut hooks = Hooks::new(rt, log, settings.rate, panel);
+    match stay(port, &mut entrance, settings, &mut hooks) {
+        Ok(_) => Ok(TurnsEnd::Spent),
         Err(_) => Err(Failure::Bind),
     }
 }
 
-// The panel, if there is one, as it shows a port.
-fn port_panel<R: AllocGlobal + Clock>(
-    rt: &R,
-    panel: Option<Panel>,
-    rate: Rate,
-) -> Result<Option<PortPanel<'_, R>>, AllocError> {
-    match panel {
-        Some(panel) => Ok(Some(PortPanel::new(rt, panel, rate)?)),
-        None => Ok(None),
+fn failure_of(fault: AcceptFault) -> Failure<'static> {
+    match fault {
+        AcceptFault::Bind => Failure::Bind,
+        AcceptFault::Writer => Failure::Writer,
     }
 }
 
@@ -251,4 +211,13 @@ fn port_panel<R: AllocGlobal + Clock>(
 fn write_end<W: io::Write>(end: TurnsEnd, out: &mut W) -> io::Result<()> {
     writeln!(out, "{}", word_of(end))?;
     out.flush()
+}
+
+/// The word of how a server's turns ended.
+pub(crate) fn word_of(end: TurnsEnd) -> &'static str {
+    match end {
+        TurnsEnd::Closed => "closed",
+        TurnsEnd::GivenUp => "idle",
+        TurnsEnd::Spent => "spent",
+    }
 }

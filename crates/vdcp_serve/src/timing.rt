@@ -6,7 +6,7 @@ use crate::frame_clock::FrameClock;
 use crate::serve::ServeSettings;
 use std::rt::Clock;
 use vdcp_drive::{DriveFault, Due, Turned};
-use vdcp_wire::Came;
+use vdcp_wire::{Came, Stopwatch};
 
 /// The patience with a line: it is given up once nothing has come for too long, and a listen that began then has brought
 /// nothing either. (So what waits is read before.)
@@ -60,12 +60,10 @@ impl Patience {
     }
 }
 
-/// What a server's turns over a line go by. A clock that can't be read stands still.
+/// What a server's turns over a line go by.
 #[derive(Drop)]
 pub struct Timing<'a, R: Clock> {
-    clock: &'a R,
-    // When it was read last, in nanoseconds.
-    time: u64,
+    stopwatch: Stopwatch<&'a R>,
     // None if frames pass at silences.
     frames: Option<FrameClock>,
     patience: Patience,
@@ -77,8 +75,7 @@ impl<'a, R: Clock> Timing<'a, R> {
     /// Before the first line.
     pub fn new(clock: &'a R) -> Self {
         Timing {
-            clock,
-            time: 0,
+            stopwatch: Stopwatch::new(clock),
             frames: None,
             patience: Patience {
                 seconds: None,
@@ -93,7 +90,7 @@ impl<'a, R: Clock> Timing<'a, R> {
     pub fn begin_line(&mut self, settings: ServeSettings)
         ensures { LineBegins settings self.old self.new }
     {
-        let now = self.read_clock();
+        let now = self.stopwatch.read();
         self.frames = frames_of(settings, now);
         self.patience = self.patience.with_next_line(settings.idle, now);
         self.turns = 0;
@@ -115,27 +112,14 @@ impl<'a, R: Clock> Timing<'a, R> {
 
     // The time, which is read only if something goes by it.
     fn now(&mut self) -> u64
-        ensures time { result ≡ self.new.time }
-        ensures later { self.old.time ≤ self.new.time }
-        ensures keeps { self.new ≡ record self.old { time = self.new.time } }
+        ensures time { result ≡ self.new.stopwatch.now }
+        ensures later { self.old.stopwatch.now ≤ self.new.stopwatch.now }
+        ensures keeps { self.new ≡ record self.old { stopwatch = self.new.stopwatch } }
     {
         if self.frames.is_none() && self.patience.seconds.is_none() {
-            return self.time;
+            return self.stopwatch.now;
         }
-        self.read_clock()
-    }
-
-    // Reads the clock, which never goes back.
-    fn read_clock(&mut self) -> u64
-        ensures time { result ≡ self.new.time }
-        ensures later { self.old.time ≤ self.new.time }
-        ensures keeps { self.new ≡ record self.old { time = self.new.time } }
-    {
-        if let Ok(time) = self.clock.monotonic() {
-            let nanoseconds = u64::try_from(time.as_nanos()).unwrap_or(u64::MAX);
-            self.time = self.time.max(nanoseconds);
-        }
-        self.time
+        self.stopwatch.read()
     }
 
     /// What is due: the line is given up, or a frame passes if one is over, or it is listened to.
@@ -159,7 +143,7 @@ impl<'a, R: Clock> Timing<'a, R> {
     pub fn note(&mut self, turned: Result<Turned, DriveFault>)
         ensures { WasTold turned self.old self.new }
     {
-        let began = self.time;
+        let began = self.stopwatch.now;
         let ended = self.now();
         self.patience = self.patience.after_turn(turned, began, ended);
     }

@@ -11,7 +11,7 @@ pub turns-preserved-in-Nobody : goal.turns-preserved-in-Nobody
 turns-preserved-in-Nobody g c =
     rw c.frame.ensures.next
     (nobody_came (one_more c.turns.port c.turns.left c.turns-test.true c.turns.invariant)
-    (c.show.ensures ∙ c.miss_line.ensures))
+    (c.show.ensures.timing ∙ c.miss_line.ensures))
 
 pub turns-preserved : goal.turns-preserved
 turns-preserved g c =

@@ -10,7 +10,7 @@ pub returns-clause-noted : goal.returns-clause-noted
 returns-clause-noted g c =
     let old = c.args.self.now.aired.items in
     let still = c.if-len-ge-MOST_AIRED.self.aired.items in
-    let a : Airing = record { number = c.args.self.now.count; item = c.args.item; at = c.time_of_day-at.result } in
+    let a : Airing = record { number = c.args.number; item = c.args.item; at = c.milliseconds-at.result } in
     let shown : AreShownStill old still = elim c.if-len-ge-MOST_AIRED.branch [
       | then-len-ge-MOST_AIRED w ↦
           inr (
@@ -20,5 +20,5 @@ returns-clause-noted g c =
       | else-len-ge-MOST_AIRED w ↦
           inl (omega (arith, w.if-len-ge-MOST_AIRED.false, c.len.ensures), ap (λ s. s.aired.items) w.self-is)
     ] in
-    noted (is_ok c.push.result) c.args.item c.args.self.now.count a old still c.push.new.self.items shown refl refl
+    noted (is_ok c.push.result) c.args.item c.args.number a old still c.push.new.self.items shown refl refl
     c.push.ensures.items
