@@ -1,7 +1,7 @@
 -- The calls that an operator's hand makes: each that was asked for once, and no other.
 use Rattle.std.specs.Duration.{as_nanos}
 use Rattle.std.specs.Option.{option_to_list}
-use Rattle.std.specs.Prelude.{ℕ, ◌≡◌, ◌≤◌, Option, None, Some, List, ◌++◌}
+use Rattle.std.specs.Prelude.{ℕ, ◌≡◌, ◌≤◌, Option, None, Some, List, [], ◌++◌}
 use Rattle.std.specs.declared.time.Duration.{Duration}
 use Rattle.vdcp_auto.specs.Plan.{View}
 use Rattle.vdcp_drive.specs.declared.hooks.Call.{Call}
@@ -34,7 +34,7 @@ PageCalls items c None call (Some page') = ⊥
 PageCalls items c (Some page) call None = ⊥
 PageCalls items c (Some page) call (Some page') = (shown : List Asked)
     × ShowsRun items c page.names page.clips page.before.items page.panel.names page.calls.items shown
-    × (shown ≡ option_to_list call ++ page'.calls.items)
+    × (shown ≡ option_to_list call ++ page'.calls.items) × (call ≡ None → shown ≡ [])
 
 abbrev pub called_by : Option Said → Option Call
 called_by None = None

@@ -4,4 +4,3 @@ pub mod Seen
 pub mod Hands
 pub mod Polls
 pub mod Starts
-pub mod Channel

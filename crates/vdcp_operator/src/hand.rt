@@ -329,18 +329,12 @@ impl<'a, R: Clock, I: Read + Drop, E: Write> Hand<'a, R, I, E> {
         ensures play { command ≡ Some Command.Play → self.new.start ≡ None }
         ensures rest { self.new ≡ record self.old { start = self.new.start; polling = self.new.polling; commands = self.new.commands } }
     {
-        self.count(command);
+        self.commands = self.commands.saturating_add(u64::from(command.is_some()));
         match command {
             Some(Command::Play) => self.start = None,
             Some(Command::Status(_)) => self.polling.wait(),
             _ => {}
         }
-    }
-
-    fn count(&mut self, command: Option<Command>)
-        ensures { self.new ≡ record self.old { commands = self.new.commands } }
-    {
-        self.commands = self.commands.saturating_add(u64::from(command.is_some()));
     }
 }
 

@@ -4,7 +4,7 @@
 //! `Keys`, which never wait), answers requests for the page (`RunPage`), and waits until the next command may go out.
 //! `Progress` shows in a terminal how far a run is.
 //!
-//! Files, in reading order: `keys`, `typed`, `channel`, `seen`, `shown`, `page`, `start`, `stopwatch`, `polling`, `hand`,
+//! Files, in reading order: `keys`, `typed`, `channel`, `seen`, `shown`, `page`, `start`, `polling`, `hand`,
 //! `progress`.
 #![tactic(auto)]
 
@@ -17,7 +17,6 @@ mod progress;
 mod seen;
 mod shown;
 mod start;
-mod stopwatch;
 mod typed;
 
 pub use channel::is_channel_name;
@@ -27,5 +26,4 @@ pub use progress::Progress;
 pub use seen::{Ending, EventBefore, EventSeen, Record, RunNames, RunSeen};
 pub use shown::{ROWS_BEFORE, RunPage};
 pub use start::{StartFault, start_of};
-pub use stopwatch::{Stopwatch, nanoseconds};
 pub use typed::{Said, Typed};

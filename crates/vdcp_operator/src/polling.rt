@@ -2,13 +2,13 @@
 ghost use Rattle.std.specs.Prelude.{◌≡◌, ◌≤◌, ◌*◌, ◌↔◌, IsTrue, None, Some, ℕ};
 ghost use Rattle.vdcp_words.specs.declared.command.Command.{Command};
 
-use crate::stopwatch::{Stopwatch, nanoseconds};
 use std::rt::Clock;
+use vdcp_wire::Stopwatch;
 
 /// The pace at which the state is asked: one STATUS goes out no sooner than some time after the other.
 #[derive(Drop)]
 pub struct Polling<'a, R: Clock> {
-    stopwatch: Stopwatch<'a, R>,
+    stopwatch: Stopwatch<&'a R>,
     // From one STATUS to the next at least, and when the next one may go out, in nanoseconds.
     least: u64,
     due: u64,
@@ -24,7 +24,7 @@ impl<'a, R: Clock> Polling<'a, R> {
     {
         Polling {
             stopwatch: Stopwatch::new(clock),
-            least: nanoseconds(poll),
+            least: u64::from(poll) * 1_000_000,
             due: 0,
         }
     }

@@ -38,7 +38,10 @@ pub struct Progress<'a, R: Clock, V: io::Write> {
     asked: Option<Instant>,
     // How many events are reported, and since when; None if they were when the run began.
     reported: Option<(usize, Option<Instant>)>,
-    drawing: Drawing,
+    // When the first line was drawn.
+    begun: Option<Instant>,
+    // What stands on the terminal, if anything does, and when it was drawn.
+    drawn: Option<(Glance, Instant)>,
 }
 
 /// What is done.
@@ -70,19 +73,6 @@ struct Glance {
     unanswered: Option<u64>,
 }
 
-/// What stands on the terminal.
-#[derive(Clone, Copy)]
-enum Drawing {
-    /// No line.
-    Blank,
-    /// A line of this.
-    Line {
-        glance: Glance,
-        begun: Instant,
-        drawn: Instant,
-    },
-}
-
 impl<'a, R: Clock, V: io::Write + Drop> Progress<'a, R, V> {
     /// Nothing is drawn yet. A silence has this many milliseconds.
     pub fn new(clock: &'a R, terminal: V, silence: u32) -> Self {
@@ -93,7 +83,8 @@ impl<'a, R: Clock, V: io::Write + Drop> Progress<'a, R, V> {
             work: Work::Questions,
             asked: None,
             reported: None,
-            drawing: Drawing::Blank,
+            begun: None,
+            drawn: None,
         }
     }
 
@@ -129,7 +120,7 @@ impl<'a, R: Clock, V: io::Write + Drop> Progress<'a, R, V> {
         let Some(mut terminal) = self.terminal.take() else {
             return;
         };
-        if let Drawing::Line { .. } = self.drawing {
+        if self.drawn.is_some() {
             let _ = write_at_once(&mut terminal, ERASE.as_bytes());
             let _ = terminal.flush();
         }
@@ -137,24 +128,30 @@ impl<'a, R: Clock, V: io::Write + Drop> Progress<'a, R, V> {
 
     // Draws what is seen now, if it is to be drawn.
     fn show(&mut self) -> io::Result<()> {
+        let since = match self.reported {
+            Some((_, since)) => since,
+            None => None,
+        };
+        let stands = self.drawn;
         let Some(terminal) = &mut self.terminal else {
             return Ok(());
         };
         let now = Instant::now(self.clock)?;
         let glance = Glance {
             work: self.work,
-            reported: reported_for(self.reported, now),
-            unanswered: unanswered_for(self.asked, now, self.patience),
+            reported: seconds_since(since, now, Duration::ZERO),
+            unanswered: seconds_since(self.asked, now, self.patience),
         };
-        let Some(begun) = begun_before(self.drawing, &glance, now) else {
+        if let Some((last, drawn)) = stands
+            && last == glance
+            && now.duration_since(drawn).as_millis() < REDRAWN_AFTER
+        {
             return Ok(());
-        };
+        }
+        let begun = self.begun.unwrap_or(now);
         draw(&glance, now.duration_since(begun).as_secs(), terminal)?;
-        self.drawing = Drawing::Line {
-            glance,
-            begun,
-            drawn: now,
-        };
+        self.begun = Some(begun);
+        self.drawn = Some((glance, now));
         Ok(())
     }
 
@@ -163,27 +160,18 @@ impl<'a, R: Clock, V: io::Write + Drop> Progress<'a, R, V> {
         match self.reported {
             None => self.reported = Some((reported, None)),
             Some((last, _)) if last == reported => {}
-            Some(_) => {
-                let now = Instant::now(self.clock).ok();
-                self.reported = Some((reported, now));
-            }
+            Some(_) => self.reported = Some((reported, Instant::now(self.clock).ok())),
         }
     }
 }
 
-// For how many seconds the last event has been reported, if that is known.
-fn reported_for(reported: Option<(usize, Option<Instant>)>, now: Instant) -> Option<u64> {
-    let (_, since) = reported?;
-    Some(now.duration_since(since?).as_secs())
-}
-
-// For how many seconds nothing was answered, if that is longer than this.
-fn unanswered_for(asked: Option<Instant>, now: Instant, patience: Duration) -> Option<u64> {
-    let waited = now.duration_since(asked?);
-    if waited < patience {
+// How many seconds have passed since then, if that is known, and at least this long ago.
+fn seconds_since(then: Option<Instant>, now: Instant, least: Duration) -> Option<u64> {
+    let passed = now.duration_since(then?);
+    if passed < least {
         return None;
     }
-    Some(waited.as_secs())
+    Some(passed.as_secs())
 }
 
 // Writes the line at once, so that it doesn't flicker. What the terminal doesn't take then is never drawn.
@@ -197,38 +185,19 @@ fn draw<V: io::Write>(glance: &Glance, seconds: u64, terminal: &mut V) -> io::Re
     terminal.flush()
 }
 
-// When the run began whose line is to be drawn now; None if it isn't to be drawn.
-fn begun_before(drawing: Drawing, glance: &Glance, now: Instant) -> Option<Instant> {
-    match drawing {
-        Drawing::Blank => Some(now),
-        Drawing::Line {
-            glance: last,
-            begun,
-            drawn,
-        } => {
-            if last == *glance && now.duration_since(drawn).as_millis() < REDRAWN_AFTER {
-                return None;
-            }
-            Some(begun)
-        }
-    }
-}
-
 impl Work {
     // Of a controller that awaits the answer to this command.
     fn of<S: Source>(controller: &Controller<Rest<S>>, command: Command, reported: usize) -> Work {
         let rest = controller.source();
         let settled = controller.settled();
-        let event = if settled < rest.len() {
-            Some(rest.at(settled).id)
-        } else {
-            None
-        };
-        let on_air = if settled > 0 && shows_clip(controller.snapshot().standing) {
-            Some(rest.at(settled - 1).id)
-        } else {
-            None
-        };
+        let mut on_air = None;
+        if settled > 0 && shows_clip(controller.snapshot().standing) {
+            on_air = Some(rest.at(settled - 1).id);
+        }
+        let mut event = None;
+        if settled < rest.len() {
+            event = Some(rest.at(settled).id);
+        }
         Work::List {
             on_air,
             event,
@@ -246,10 +215,8 @@ fn shows_clip(standing: Standing) -> bool {
         return false;
     };
     match phase {
-        Phase::Open | Phase::Select | Phase::Seen => false,
-        Phase::Exists(_) | Phase::Cue(_) | Phase::Wait(_) => true,
-        Phase::Play(_) | Phase::Probe(_) => false,
-        Phase::Check(_) | Phase::Drain => true,
+        Phase::Exists(_) | Phase::Cue(_) | Phase::Wait(_) | Phase::Check(_) | Phase::Drain => true,
+        Phase::Open | Phase::Select | Phase::Seen | Phase::Play(_) | Phase::Probe(_) => false,
         Phase::Close | Phase::Halt | Phase::HaltClose => false,
     }
 }
@@ -303,10 +270,10 @@ fn write_event<W: fmt::Write>(word: &str, number: usize, id: ClipId, f: &mut W) 
 }
 
 fn write_unanswered<W: fmt::Write>(seconds: Option<u64>, f: &mut W) -> fmt::Result {
-    match seconds {
-        Some(seconds) => write!(f, " (no answer for {seconds} s)"),
-        None => Ok(()),
+    if let Some(seconds) = seconds {
+        write!(f, " (no answer for {seconds} s)")?;
     }
+    Ok(())
 }
 
 // Writes hours, minutes and seconds.

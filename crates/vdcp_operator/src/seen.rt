@@ -1,6 +1,6 @@
 //! What the page of a run shows.
 ghost use Rattle.std.specs.Prelude.{◌≡◌, IfOk, map};
-ghost use Rattle.serde_json.specs.Data.{array, boolean, string};
+ghost use Rattle.serde_json.specs.Data.{array, string};
 ghost use Rattle.serde_json.specs.View.{items_of, view};
 ghost use Rattle.vdcp_text.specs.Outcome.{outcome_text};
 ghost use Rattle.vdcp_operator.specs.Seen.{ending_data, ending_text, length_by, number_data, record_data, record_text, row_data, run_data, seen_data, stage_text};
@@ -142,8 +142,8 @@ impl RunSeen<'_> {
             "run": self.run(alloc)?,
             "stage": stage_text(self.snapshot.standing),
             "start": number_or_null(self.start),
-            "stop": flag(self.snapshot.stop),
-            "take": flag(self.snapshot.take)
+            "stop": self.snapshot.stop,
+            "take": self.snapshot.take
         })
     }
 
@@ -157,7 +157,7 @@ impl RunSeen<'_> {
             "from": self.from,
             "journal": self.names.journal.as_str(),
             "list": self.names.list.as_str(),
-            "over": flag(self.is_over),
+            "over": self.is_over,
             "rate": self.rate.frames_per_second(),
             "server": self.names.server.as_str(),
             "unanswered": self.snapshot.unanswered
@@ -171,12 +171,6 @@ fn outcome_of(alloc: Global, outcome: Option<Outcome>) -> Result<Value, AllocErr
     let text = OutcomeText(outcome);
     let text = format!(in alloc; "{text}")?;
     Value::try_from_str(alloc, text.as_str())
-}
-
-fn flag(is: bool) -> Value
-    ensures { view result ≡ boolean is }
-{
-    Value::Bool(is)
 }
 
 // What a controller does that stands so.

@@ -1,6 +1,6 @@
 //! How the page of a run follows it and takes calls.
 ghost use Rattle.std.specs.Option.{option_to_list};
-ghost use Rattle.std.specs.Prelude.{◌≡◌, ◌++◌, All};
+ghost use Rattle.std.specs.Prelude.{◌≡◌, ◌++◌, [], All, None};
 ghost use Rattle.vdcp_operator.specs.Seen.{AreRound, HasRecord, ShowsRun, before_of, event_of, with_number};
 
 use crate::page::PAGE;
@@ -9,7 +9,7 @@ use std::alloc::Global;
 use std::rt::Clock;
 use vdcp_auto::{Controller, Outcome, Phase, Snapshot, Source, Standing};
 use vdcp_list::{Rest, Table};
-use vdcp_panel::{Call, Calls, Panel};
+use vdcp_panel::{Call, Calls, Panel, milliseconds};
 use vdcp_value::{Item, Rate};
 
 /// How many events before the one that is next are shown.
@@ -79,7 +79,7 @@ impl RunPage {
         ensures { ShowsRun S.items controller.now self.old.names self.old.clips self.old.before.items self.old.panel.names
             self.old.calls.items self.new.calls.items }
     {
-        let now = millis(clock);
+        let now = milliseconds(clock);
         let event = self.follow(controller, now);
         let seen = RunSeen {
             page: PAGE,
@@ -103,6 +103,7 @@ impl RunPage {
     /// The call that was asked for first, which is held no more.
     pub fn next_call(&mut self) -> Option<Call>
         ensures calls { self.old.calls.items ≡ option_to_list result ++ self.new.calls.items }
+        ensures none { result ≡ None → self.old.calls.items ≡ [] }
         ensures rest { self.new ≡ record self.old { calls = self.new.calls } }
     {
         if self.calls.is_empty() {
@@ -307,12 +308,4 @@ fn number(count: usize) -> u64
     ensures { result ≡ count }
 {
     count as u64
-}
-
-// Milliseconds since 1970, or 0 if the clock can't be read.
-fn millis<R: Clock>(clock: &R) -> u64 {
-    match clock.since_1970() {
-        Ok(time) => u64::try_from(time.as_millis()).unwrap_or(u64::MAX),
-        Err(_) => 0,
-    }
 }
