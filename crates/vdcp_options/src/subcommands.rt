@@ -16,7 +16,7 @@ use vdcp_log::{Lines, Screen, Telling};
 use vdcp_lossy::do_lossy;
 use vdcp_offline::{do_check, do_judge, do_sim, do_vectors};
 use vdcp_panel::open_panel;
-use vdcp_probe::{do_ask, do_probe, rows};
+use vdcp_probe::{do_ask, do_probe};
 use vdcp_serve::do_serve;
 use vdcp_text::{Failure, JournalFault, do_make, do_show};
 
@@ -209,16 +209,7 @@ fn run_probe<'a, W: Write, E: Write>(
     let catalogue = open_file(system, matches, "CATALOGUE")?;
     let address = matches.get_str("ADDR").unwrap_or("");
     let settings = probe_settings_of(matches);
-    let rows = rows(system.alloc())?;
-    Ok(do_probe(
-        system,
-        address,
-        catalogue,
-        rows.as_slice(),
-        settings,
-        out,
-        err,
-    ))
+    Ok(do_probe(system, address, catalogue, settings, out, err))
 }
 
 fn run_lossy<'a, E: Write>(

@@ -61,13 +61,15 @@ comes_to items rules fold failures listens old new keep keep' answer end left li
 pub comes_over : {S E W J : Type 0} (items : S → List Item) (rules : Rules W J) (fold : Fold E) (failures : W → ℕ)
     (n turns : ℕ) → n ≡ turns → (old new : Driving S E W) (keep keep' : J) (answer : Result Ran BrokenOff)
     → RunLeaves items rules fold failures n old new keep keep' answer → failures old.wire ≡ 0
-    → (wire : W) (outcome : Option Outcome) → wire ≡ new.wire → outcome ≡ outcome_of new.controller.state.stage
-    → Comes rules fold old.ear (plan_of items old.controller) old.unit turns old.controller.state
-    (over old.wire keep) (over wire keep') answer outcome
-comes_over items rules fold failures n turns is old new keep keep' answer left works wire outcome same ends = rw same (record {
+    → (parts : E × W) (outcome : Option Outcome) → parts ≡ (new.ear, new.wire)
+    → outcome ≡ outcome_of new.controller.state.stage
+    → Comes rules fold (plan_of items old.controller) old.unit turns old.controller.state old.ear parts.0
+    (over old.wire keep) (over parts.1 keep') answer outcome
+comes_over items rules fold failures n turns is old new keep keep' answer left works parts outcome same ends = rw same (record {
   auto = auto_of new;
   runs = subst (λ (m : ℕ). HasRun rules fold (plan_of items old.controller) old.unit m (auto_of old) (auto_of new)
       (over old.wire keep) (over new.wire keep') answer) is (left.runs works);
+  ear_is = refl;
   outcome_is = ends;
 })
 

@@ -11,6 +11,7 @@ use Rattle.vdcp_auto.specs.Turn.{outcome_of}
 use Rattle.vdcp_auto.specs.declared.exchange.Exchange.{Exchange}
 use Rattle.vdcp_auto.specs.declared.outcome.Outcome.{Outcome}
 use Rattle.vdcp_auto.specs.declared.outcome.Outcome.TheVariants.{Denied, Strange}
+use Rattle.vdcp_drive.specs.Ears.{Fold}
 use Rattle.vdcp_drive.specs.Auto.{IsReachedFrom}
 use Rattle.vdcp_drive.specs.declared.hooks.BrokenOff.{BrokenOff}
 use Rattle.vdcp_drive.specs.declared.hooks.BrokenOff.TheVariants as fault
@@ -239,17 +240,19 @@ line_needed i (Err fault.Device) outcome = (λ is. cc, λ is. cc)
 line_needed i (Err fault.Unkept) outcome = (λ is. cc, λ is. cc)
 line_needed i (Err fault.Left) outcome = purpose_needed i.purpose (left_line i) (left_needed i)
 
-pub asked_needed : {W : Type 0} (asker : Option Asker) (does : Act → W → W → Type 0) (settings : RunSettings) (wire wire' : W)
-    (left : ℕ) (line : LineEnd) → HasAsked asker does settings wire wire' left (Some line) → IsNeeded line
-asked_needed None does settings wire wire' left line h = let no = h.2 in cc
-asked_needed (Some asker) does settings wire wire' left line h =
+pub asked_needed : {E W : Type 0} (asker : Option Asker) (does : Act → W → W → Type 0) (fold : Fold E) (settings : RunSettings)
+    (ear ear' : E) (wire wire' : W) (left : ℕ) (line : LineEnd)
+    → HasAsked asker does fold settings ear ear' wire wire' left (Some line) → IsNeeded line
+asked_needed None does fold settings ear ear' wire wire' left line h = let no = h.3 in cc
+asked_needed (Some asker) does fold settings ear ear' wire wire' left line h =
     subst (λ (l : Option LineEnd). AreNeeded l) (sym h.line_is) (line_needed h.last h.answer h.outcome)
 
 -- of a controller that has ended it ends none
-pub asked_unended : {W : Type 0} (ask : Bool) (start : Start) (does : Act → W → W → Type 0) (settings : RunSettings)
-    (wire wire' : W) (left : ℕ) (line : LineEnd) → HasAsked (asker_of ask start) does settings wire wire' left (Some line)
+pub asked_unended : {E W : Type 0} (ask : Bool) (start : Start) (does : Act → W → W → Type 0) (fold : Fold E)
+    (settings : RunSettings) (ear ear' : E) (wire wire' : W) (left : ℕ) (line : LineEnd)
+    → HasAsked (asker_of ask start) does fold settings ear ear' wire wire' left (Some line)
     → ¬ IsSome (outcome_of start.state.stage)
-asked_unended ask start does settings wire wire' left line h = λ over.
-    let none = subst (λ (asker : Option Asker). HasAsked asker does settings wire wire' left (Some line))
+asked_unended ask start does fold settings ear ear' wire wire' left line h = λ over.
+    let none = subst (λ (asker : Option Asker). HasAsked asker does fold settings ear ear' wire wire' left (Some line))
     (asks_nothing ask start start.state.stage refl over) h in
-    let no = none.2 in cc
+    let no = none.3 in cc

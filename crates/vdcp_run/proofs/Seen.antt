@@ -1,6 +1,8 @@
 -- A session over a wire, seen at the wire below.
-use Rattle.std.proofs.Common.{◌≡◌, ℕ, List, [], ◌∷◌, ap, inl, inr, refl}
-use Rattle.std.specs.Prelude.{Bool, true, false, IfOk, OnErr, None, Some, Option, Result, Ok, Err}
+use Rattle.std.proofs.Common.{◌≡◌, ◌∙◌, ℕ, List, [], ◌∷◌, ap}
+use Rattle.std.proofs.Math.Nat.{min-eq_left}
+use Rattle.std.specs.Option.{option_map}
+use Rattle.std.specs.Prelude.{◌≤◌, ◌^◌, ◌-◌, min, IfOk, OnErr, None, Some, Option, Result, Ok, Err}
 use Rattle.vdcp_auto.specs.Plan.{Plan}
 use Rattle.vdcp_auto.specs.State.{State}
 use Rattle.vdcp_auto.specs.declared.outcome.Outcome.{Outcome}
@@ -17,14 +19,13 @@ use Rattle.vdcp_drive.specs.declared.line.Ran.{Ran}
 use Rattle.vdcp_drive.specs.declared.hearing.Hearing.{Hearing}
 use Rattle.vdcp_drive.specs.declared.hearing.Hearing.TheVariants as hears
 use Rattle.vdcp_journal_file.specs.Recording.{Recording}
-use Rattle.vdcp_run.specs.Lapse.{Lapses, MayLapse}
-use Rattle.vdcp_run.specs.Session.{HasPlayed, HasSession, HasTried, Plays, TriesOver, no_wire, played, tried, unbegun}
-use Rattle.vdcp_run.specs.Asking.{Asker, Comes, ComesBy, HasAsked, Start, asker_of}
+use Rattle.vdcp_run.specs.Session.{HasSession, HasTried, Limits, Plays, TriesBy, TriesOver, longest_answer, no_wire, played, tried, unbegun}
+use Rattle.vdcp_run.specs.Asking.{Asker, Comes, HasAsked, Start, asker_of}
 use Rattle.vdcp_run.specs.declared.run_end.LineEnd.{LineEnd}
 use Rattle.vdcp_run.specs.declared.run_end.LineEnd.TheVariants as line_end
 use Rattle.vdcp_run.specs.declared.run_end.RunEnd.{RunEnd}
 use Rattle.vdcp_run.specs.declared.settings.RunSettings.{RunSettings}
-use Rattle.vdcp_wire.specs.Acts.{Act, sends, brings, drops, fails}
+use Rattle.vdcp_wire.specs.Acts.{Act}
 use Rattle.vdcp_wire.specs.Streams.{StreamDoes, Streamed}
 use Rattle.vdcp_wire.specs.declared.stream.Connection.TheVariants as connection
 
@@ -60,36 +61,28 @@ module _ {W W' : Type 0} (does : Act → W → W → Type 0) (does' : Act → W'
     run_seen fold plan unit count a a' old new answer h =
         record { run = h.run; happened = happens_seen (steps_in h.run) old new h.happened }
 
-    comes_seen : {E : Type 0} (fold : Fold E) (ear : E) (plan : Plan) (unit turns : ℕ) (state : State) (old new : World W J)
-        (answer : Result Ran BrokenOff) (outcome : Option Outcome)
-        → Comes here fold ear plan unit turns state old new answer outcome
-        → Comes there fold ear plan unit turns state (below old) (below new) answer outcome
-    comes_seen fold ear plan unit turns state old new answer outcome h = record {
+    comes_seen : {E : Type 0} (fold : Fold E) (plan : Plan) (unit turns : ℕ) (state : State) (ear ear' : E)
+        (old new : World W J) (answer : Result Ran BrokenOff) (outcome : Option Outcome)
+        → Comes here fold plan unit turns state ear ear' old new answer outcome
+        → Comes there fold plan unit turns state ear ear' (below old) (below new) answer outcome
+    comes_seen fold plan unit turns state ear ear' old new answer outcome h = record {
       auto = h.auto;
       runs = run_seen fold plan unit turns _ h.auto old new answer h.runs;
+      ear_is = h.ear_is;
       outcome_is = h.outcome_is;
     }
 
-    comes_by_seen : (hearing : Hearing) (plan : Plan) (unit turns : ℕ) (state : State) (old new : World W J)
-        (answer : Result Ran BrokenOff) (outcome : Option Outcome)
-        → ComesBy hearing here plan unit turns state old new answer outcome
-        → ComesBy hearing there plan unit turns state (below old) (below new) answer outcome
-    comes_by_seen hears.AtSilences plan unit turns state old new answer outcome h =
-        comes_seen ears.at_silences (ears.begun (holds [])) plan unit turns state old new answer outcome h
-    comes_by_seen hears.AtOnce plan unit turns state old new answer outcome h =
-        comes_seen ears.at_once (holds []) plan unit turns state old new answer outcome h
-
   -- what was asked
-  asked_seen : (asker : Option Asker) (settings : RunSettings) (wire wire' : W) (left : ℕ) (line : Option LineEnd)
-      → HasAsked asker does settings wire wire' left line → HasAsked asker does' settings (w wire) (w wire') left line
-  asked_seen None settings wire wire' left line h = (ap w h.0, h.1, h.2)
-  asked_seen (Some asker) settings wire wire' left line h = record {
+  asked_seen : {E : Type 0} (fold : Fold E) (asker : Option Asker) (settings : RunSettings) (ear ear' : E) (wire wire' : W)
+      (left : ℕ) (line : Option LineEnd) → HasAsked asker does fold settings ear ear' wire wire' left line
+      → HasAsked asker does' fold settings ear ear' (w wire) (w wire') left line
+  asked_seen fold None settings ear ear' wire wire' left line h = (h.0, ap w h.1, h.2, h.3)
+  asked_seen fold (Some asker) settings ear ear' wire wire' left line h = record {
     held = h.held;
     last = h.last;
     answer = h.answer;
     outcome = h.outcome;
-    comes = comes_by_seen _ _ _ settings.hearing asker.plan settings.unit settings.listens asker.state _ _ h.answer h.outcome
-        h.comes;
+    comes = comes_seen _ _ _ fold asker.plan settings.unit settings.listens asker.state ear ear' _ _ h.answer h.outcome h.comes;
     left_is = h.left_is;
     line_is = h.line_is;
   }
@@ -110,38 +103,34 @@ module _ {W W' : Type 0} (does : Act → W → W → Type 0) (does' : Act → W'
       closed = plays.closed;
     }
 
-    played_seen : (hearing : Hearing) (unit listens : ℕ) (start : Start) (world : World W (Option (Recording F)))
-        (end : RunEnd) → HasPlayed hearing does safe unit listens start world end
-        → HasPlayed hearing does' safe unit listens start (below world) end
-    played_seen hears.AtSilences unit listens start world end plays =
-        plays_seen ears.at_silences (ears.begun (holds [])) unit listens start world end plays
-    played_seen hears.AtOnce unit listens start world end plays =
-        plays_seen ears.at_once (holds []) unit listens start world end plays
+    tries_seen : {E : Type 0} (fold : Fold E) (settings : RunSettings) (start : Start) (ear : E)
+        (world : World W (Option (Recording F))) (end : RunEnd) → HasTried does safe fold settings start ear world end
+        → HasTried does' safe fold settings start ear (below world) end
+    tries_seen fold settings start ear world end (played ear' wire left asked plays) = played ear' (w wire) left
+        (asked_seen fold (asker_of settings.ask start) settings ear ear' world.wire wire left None asked)
+        (plays_seen fold ear' settings.unit left start (record world { wire = wire }) end plays)
+    tries_seen fold settings start ear world end (unbegun ear' wire left line asked is) = unbegun ear' (w wire) left line
+        (asked_seen fold (asker_of settings.ask start) settings ear ear' world.wire wire left (Some line) asked) is
 
-    pub tries_seen : (settings : RunSettings) (start : Start) (world : World W (Option (Recording F))) (end : RunEnd)
-        → HasTried does safe settings start world end → HasTried does' safe settings start (below world) end
-    tries_seen settings start world end (played wire left asked plays) = played (w wire) left
-        (asked_seen (asker_of settings.ask start) settings world.wire wire left None asked)
-        (played_seen settings.hearing settings.unit left start (record world { wire = wire }) end plays)
-    tries_seen settings start world end (unbegun wire left line asked is) = unbegun (w wire) left line
-        (asked_seen (asker_of settings.ask start) settings world.wire wire left (Some line) asked) is
-
--- ---- a silence by the clock
-
-pub lapses_so : {W : Type 0} (does : Act → W → W → Type 0) (lapsed : Bool) (noted : Type 0) (act : Act) (old new : W)
-    → Lapses does lapsed noted act old new → MayLapse does act old new
-lapses_so does lapsed noted (sends bytes) old new h = h.0
-lapses_so does true noted (brings what) old new h = inr h
-lapses_so does false noted (brings what) old new h = inl h
-lapses_so does lapsed noted drops old new h = h
-lapses_so does lapsed noted fails old new h = h
+    pub tries_by_seen : (hearing : Hearing) (settings : RunSettings) (start : Start)
+        (world : World W (Option (Recording F))) (end : RunEnd) → TriesBy hearing does safe settings start world end
+        → TriesBy hearing does' safe settings start (below world) end
+    tries_by_seen hears.AtSilences settings start world end tries =
+        tries_seen ears.at_silences settings start (ears.begun (holds [])) world end tries
+    tries_by_seen hears.AtOnce settings start world end tries =
+        tries_seen ears.at_once settings start (holds []) world end tries
 
 -- ---- a connection, which is a wire or none
 
+pub limits_so : {E : Type 0} (time limit : ℕ) (wire : Result Streamed E) → limit ≡ time → limit ≤ 2 ^ 64 - 1
+    → IfOk wire (λ w. option_map (λ l. l.most) w.answer ≡ Some (min limit (2 ^ 64 - 1))) → IfOk wire (λ w. Limits w time)
+limits_so time limit (Ok wire) is short limits = limits ∙ ap (λ (n : ℕ). Some n) (min-eq_left short ∙ is)
+limits_so time limit (Err e) is short limits = tt
+
 pub session_so : {F E : Type 0} (safe : F → Option (List ℕ)) (settings : RunSettings) (start : Start)
     (recorder : Option (Recording F)) (end : RunEnd) (wire : Result Streamed E)
-    → IfOk wire (λ w. w.connection ≡ connection.Open)
+    → IfOk wire (λ w. w.connection ≡ connection.Open) → IfOk wire (λ w. Limits w (longest_answer settings))
     → IfOk wire (λ w. TriesOver StreamDoes safe settings start w recorder end)
     → OnErr wire (end.line ≡ line_end.Failed) → HasSession safe settings start recorder end
-session_so safe settings start recorder end (Ok wire) is_open tries failed = tried wire is_open tries
-session_so safe settings start recorder end (Err e) is_open tries failed = no_wire failed
+session_so safe settings start recorder end (Ok wire) is_open limits tries failed = tried wire is_open limits tries
+session_so safe settings start recorder end (Err e) is_open limits tries failed = no_wire failed

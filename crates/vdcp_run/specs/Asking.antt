@@ -12,12 +12,8 @@ use Rattle.vdcp_auto.specs.declared.outcome.Outcome.TheVariants.{Denied, Strange
 use Rattle.vdcp_auto.specs.declared.phase.Phase.TheVariants as phase
 use Rattle.vdcp_drive.specs.Auto.{Auto}
 use Rattle.vdcp_drive.specs.Ears.{Fold}
-use Rattle.vdcp_drive.specs.Hearing as ears
 use Rattle.vdcp_drive.specs.Leaves.{HasRun}
-use Rattle.vdcp_drive.specs.Reading.{holds}
 use Rattle.vdcp_drive.specs.Steps.{Rules, World}
-use Rattle.vdcp_drive.specs.declared.hearing.Hearing.{Hearing}
-use Rattle.vdcp_drive.specs.declared.hearing.Hearing.TheVariants as hears
 use Rattle.vdcp_drive.specs.declared.hooks.BrokenOff.{BrokenOff}
 use Rattle.vdcp_drive.specs.declared.hooks.BrokenOff.TheVariants as fault
 use Rattle.vdcp_drive.specs.declared.hooks.Call.{Call}
@@ -176,34 +172,31 @@ line_of i (Ok r) outcome = if_vacancy i.purpose (ran_line r outcome)
 abbrev pub over : {W J : Type 0} → W → J → World W J
 over wire keep = record { wire = wire; keep = keep }
 
--- an automation ran with this ear by these rules, and came to this
-pub record Comes {E W J : Type 0} (rules : Rules W J) (fold : Fold E) (ear : E) (plan : Plan) (unit turns : ℕ) (state : State)
-    (world world' : World W J) (answer : Result Ran BrokenOff) (outcome : Option Outcome) : Type 0 where
+-- an automation ran with this ear by these rules, left it so, and came to this
+pub record Comes {E W J : Type 0} (rules : Rules W J) (fold : Fold E) (plan : Plan) (unit turns : ℕ) (state : State)
+    (ear ear' : E) (world world' : World W J) (answer : Result Ran BrokenOff) (outcome : Option Outcome) : Type 0 where
   pub auto : Auto E
   pub runs : HasRun rules fold plan unit turns (record { ear = ear; state = state }) auto world world' answer
+  pub ear_is : ear' ≡ auto.ear
   pub outcome_is : outcome ≡ outcome_of auto.state.stage
 
--- so with the ear that a run has
-abbrev pub ComesBy : {W J : Type 0} → Hearing → Rules W J → Plan → (unit turns : ℕ) → State → (world world' : World W J)
-    → Result Ran BrokenOff → Option Outcome → Type 0
-ComesBy hears.AtSilences rules plan unit turns state world world' answer outcome =
-    Comes rules ears.at_silences (ears.begun (holds [])) plan unit turns state world world' answer outcome
-ComesBy hears.AtOnce rules plan unit turns state world world' answer outcome =
-    Comes rules ears.at_once (holds []) plan unit turns state world world' answer outcome
-
-pub record Asked {W : Type 0} (asker : Asker) (does : Act → W → W → Type 0) (settings : RunSettings) (wire wire' : W)
-    (left : ℕ) (line : Option LineEnd) : Type 0 where
+pub record Asked {E W : Type 0} (asker : Asker) (does : Act → W → W → Type 0) (fold : Fold E) (settings : RunSettings)
+    (ear ear' : E) (wire wire' : W) (left : ℕ) (line : Option LineEnd) : Type 0 where
   pub held : Option Call
   pub last : Inquiring
   pub answer : Result Ran BrokenOff
   pub outcome : Option Outcome
-  pub comes : ComesBy settings.hearing (asking does asker.plan) asker.plan settings.unit settings.listens asker.state
+  pub comes : Comes (asking does asker.plan) fold asker.plan settings.unit settings.listens asker.state ear ear'
       (over wire (record { purpose = asker.purpose; held = held; state = None; left = settings.listens })) (over wire' last)
       answer outcome
   pub left_is : left ≡ last.left
   pub line_is : line ≡ line_of last answer outcome
 
--- over this wire what was to be asked was, which left this many turns, and the list is begun unless the line ends
-abbrev pub HasAsked : {W : Type 0} → Option Asker → (Act → W → W → Type 0) → RunSettings → W → W → ℕ → Option LineEnd → Type 0
-HasAsked None does settings wire wire' left line = (wire' ≡ wire) × (left ≡ settings.listens) × (line ≡ None)
-HasAsked (Some asker) does settings wire wire' left line = Asked asker does settings wire wire' left line
+-- with this ear and over this wire what was to be asked was, which left this many turns, and the list is begun unless the
+-- line ends
+abbrev pub HasAsked : {E W : Type 0} → Option Asker → (Act → W → W → Type 0) → Fold E → RunSettings → E → E → W → W → ℕ
+    → Option LineEnd → Type 0
+HasAsked None does fold settings ear ear' wire wire' left line =
+    (ear' ≡ ear) × (wire' ≡ wire) × (left ≡ settings.listens) × (line ≡ None)
+HasAsked (Some asker) does fold settings ear ear' wire wire' left line =
+    Asked asker does fold settings ear ear' wire wire' left line

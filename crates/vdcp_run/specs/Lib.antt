@@ -1,6 +1,5 @@
 -- The definitions, file by file.
 pub mod Ends
-pub mod Lapse
 pub mod Stalls
 pub mod Asking
 pub mod Session

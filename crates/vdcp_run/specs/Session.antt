@@ -1,5 +1,6 @@
 -- What a session did: it asked the port, if it was to, and ran a driver, with the journal that it has, if it has one.
-use Rattle.std.specs.Prelude.{ℕ, ◌≡◌, ◌+◌, List, [], Option, None, Some, IsSome, Result}
+use Rattle.std.specs.Option.{option_map}
+use Rattle.std.specs.Prelude.{ℕ, ◌≡◌, ◌+◌, ◌*◌, List, [], Option, None, Some, IsSome, Result}
 use Rattle.vdcp_auto.specs.Turn.{outcome_of}
 use Rattle.vdcp_auto.specs.declared.outcome.Outcome.{Outcome}
 use Rattle.vdcp_drive.specs.Auto.{Auto}
@@ -16,7 +17,6 @@ use Rattle.vdcp_drive.specs.declared.hearing.Hearing.TheVariants as hears
 use Rattle.vdcp_journal_file.specs.Recorded.{recorder_rules}
 use Rattle.vdcp_journal_file.specs.Recording.{Adds, Recording, outcome_rows}
 use Rattle.vdcp_run.specs.Ends.{line_end_of, outcome_in_list}
-use Rattle.vdcp_run.specs.Lapse.{MayLapse}
 use Rattle.vdcp_run.specs.Asking.{HasAsked, Start, asker_of, over}
 use Rattle.vdcp_run.specs.declared.lack.Lack.{Lack}
 use Rattle.vdcp_run.specs.declared.run_end.LineEnd.{LineEnd}
@@ -36,7 +36,7 @@ IsClosed {F} safe outcome None (Some recorder) =
     (time : Moment) × (then : Recording F) × Adds safe recorder then (outcome_rows time outcome)
 IsClosed safe outcome (Some lack) (Some recorder) = Unit {0}
 
--- with this ear a new driver ran, and came to this end: before each command went out and each call was given its journal,
+-- with this ear a driver ran, and came to this end: before each command went out and each call was given its journal,
 -- if it has one, had the rows safe that were due. Then the journal was ended
 pub record Plays {E W F : Type 0} (does : Act → W → W → Type 0) (safe : F → Option (List ℕ)) (fold : Fold E) (ear : E)
     (unit listens : ℕ) (start : Start) (world : World W (Option (Recording F))) (end : RunEnd) : Type 0 where
@@ -50,30 +50,45 @@ pub record Plays {E W F : Type 0} (does : Act → W → W → Type 0) (safe : F 
   pub reported_is : end.reported ≡ start.from + auto.state.settled
   pub closed : IsClosed safe (outcome_of auto.state.stage) end.unkept left.keep
 
-abbrev pub HasPlayed : {W F : Type 0} → Hearing → (Act → W → W → Type 0) → (F → Option (List ℕ)) → (unit listens : ℕ)
-    → Start → World W (Option (Recording F)) → RunEnd → Type 0
-HasPlayed hears.AtSilences does safe unit listens start world end =
-    Plays does safe ears.at_silences (ears.begun (holds [])) unit listens start world end
-HasPlayed hears.AtOnce does safe unit listens start world end =
-    Plays does safe ears.at_once (holds []) unit listens start world end
-
 -- ---- over a connection
 
--- what was to be asked first was, and then the list was played, unless that ends the line
-pub data HasTried {W F : Type 0} (does : Act → W → W → Type 0) (safe : F → Option (List ℕ)) (settings : RunSettings)
-    (start : Start) (world : World W (Option (Recording F))) (end : RunEnd) : Type 0 where
-  played : (wire : W) (left : ℕ) → HasAsked (asker_of settings.ask start) does settings world.wire wire left None
-      → HasPlayed settings.hearing does safe settings.unit left start (record world { wire = wire }) end
-      → HasTried does safe settings start world end
-  unbegun : (wire : W) (left : ℕ) (line : LineEnd)
-      → HasAsked (asker_of settings.ask start) does settings world.wire wire left (Some line) → end.line ≡ line
-      → HasTried does safe settings start world end
+-- with this ear what was to be asked first was, and then, with the ear that this left, the list was played, unless that ends
+-- the line
+pub data HasTried {E W F : Type 0} (does : Act → W → W → Type 0) (safe : F → Option (List ℕ)) (fold : Fold E)
+    (settings : RunSettings) (start : Start) (ear : E) (world : World W (Option (Recording F))) (end : RunEnd) : Type 0 where
+  played : (ear' : E) (wire : W) (left : ℕ)
+      → HasAsked (asker_of settings.ask start) does fold settings ear ear' world.wire wire left None
+      → Plays does safe fold ear' settings.unit left start (record world { wire = wire }) end
+      → HasTried does safe fold settings start ear world end
+  unbegun : (ear' : E) (wire : W) (left : ℕ) (line : LineEnd)
+      → HasAsked (asker_of settings.ask start) does fold settings ear ear' world.wire wire left (Some line) → end.line ≡ line
+      → HasTried does safe fold settings start ear world end
 
--- so over this wire, where a silence may come by the clock, which it doesn't tell
+-- so with a new ear
+abbrev pub TriesBy : {W F : Type 0} → Hearing → (Act → W → W → Type 0) → (F → Option (List ℕ)) → RunSettings → Start
+    → World W (Option (Recording F)) → RunEnd → Type 0
+TriesBy hears.AtSilences does safe settings start world end =
+    HasTried does safe ears.at_silences settings start (ears.begun (holds [])) world end
+TriesBy hears.AtOnce does safe settings start world end = HasTried does safe ears.at_once settings start (holds []) world end
+
+-- and over this wire
 abbrev pub TriesOver : {W F : Type 0} → (Act → W → W → Type 0) → (F → Option (List ℕ)) → RunSettings → Start → W
     → Option (Recording F) → RunEnd → Type 0
 TriesOver does safe settings start wire recorder end =
-    HasTried (MayLapse does) safe settings start (over wire recorder) end
+    TriesBy settings.hearing does safe settings start (over wire recorder) end
+
+-- for how many silences an answer may go on: generous where silences end it, since those that the server makes count, too
+abbrev pub silences_of : Hearing → ℕ
+silences_of hears.AtSilences = 16
+silences_of hears.AtOnce = 1
+
+-- and for how many nanoseconds
+abbrev pub longest_answer : RunSettings → ℕ
+longest_answer settings = settings.silence * silences_of settings.hearing * 1000000
+
+-- a wire limits answers to this
+abbrev pub Limits : Streamed → ℕ → Type 0
+Limits wire time = option_map (λ l. l.most) wire.answer ≡ Some time
 
 -- a session of a connection: nothing went out if its controller had ended before, or the connection was no wire
 pub data HasSession {F : Type 0} (safe : F → Option (List ℕ)) (settings : RunSettings) (start : Start)
@@ -81,6 +96,6 @@ pub data HasSession {F : Type 0} (safe : F → Option (List ℕ)) (settings : Ru
   had_ended : IsSome (outcome_of start.state.stage) → end.line ≡ line_end.Unneeded
       → HasSession safe settings start recorder end
   no_wire : end.line ≡ line_end.Failed → HasSession safe settings start recorder end
-  tried : (wire : Streamed) → wire.connection ≡ connection.Open
+  tried : (wire : Streamed) → wire.connection ≡ connection.Open → Limits wire (longest_answer settings)
       → TriesOver StreamDoes safe settings start wire recorder end
       → HasSession safe settings start recorder end

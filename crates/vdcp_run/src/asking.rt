@@ -4,7 +4,7 @@ ghost use Rattle.std.specs.Prelude.{◌≡◌, ◌≢◌, ◌≤◌, Err, None};
 ghost use Rattle.vdcp_auto.specs.Plan.{View, plan_of};
 ghost use Rattle.vdcp_auto.specs.Turn as turns;
 ghost use Rattle.vdcp_list.specs.Rests.{FromEvent, items_left};
-ghost use Rattle.vdcp_run.specs.Asking.{Comes, ComesBy, HasAsked, asker_of, asking, is_answered, is_called_off, is_opening, is_question, left_line, line_of, may_ask, over, ran_line, start_of};
+ghost use Rattle.vdcp_run.specs.Asking.{Comes, HasAsked, asker_of, asking, is_answered, is_called_off, is_opening, is_question, left_line, line_of, may_ask, over, ran_line, start_of};
 
 use crate::console::Console;
 use crate::run_end::LineEnd;
@@ -12,9 +12,7 @@ use crate::settings::RunSettings;
 use std::io;
 use std::rt::{Clock, Files};
 use vdcp_auto::{Controller, Heard, Outcome, Phase, Snapshot, Source, Standing};
-use vdcp_drive::{
-    AutoDriver, BrokenOff, Call, Driver, Ear, Hearing, Hooks, KeepFault, Next, PromptDriver, Ran,
-};
+use vdcp_drive::{BrokenOff, Call, Driver, Ear, Hooks, KeepFault, Next, Ran};
 use vdcp_list::Rest;
 use vdcp_wire::Wire;
 use vdcp_words::{Command, Reply};
@@ -30,9 +28,11 @@ pub enum Purpose {
 
 /// What was asked has left this.
 #[derive(Drop)]
-pub struct Asked<W, C> {
+pub struct Asked<E, W, C> {
     /// How the line ends, if the list isn't begun.
     pub line: Option<LineEnd>,
+    /// What it has heard of a message that isn't whole.
+    pub ear: E,
     pub wire: W,
     pub console: C,
     /// How many turns may still be made.
@@ -55,9 +55,10 @@ struct Inquiry<'c, 'r, 'l, S: Source, R: Clock, I: io::Read, O: io::Write, V: io
 
 /// What an automation came to that asked.
 #[derive(Drop)]
-struct Answer<W> {
+struct Answer<E, W> {
     ran: Result<Ran, BrokenOff>,
     outcome: Option<Outcome>,
+    ear: E,
     wire: W,
 }
 
@@ -69,24 +70,26 @@ impl<
     O: io::Write + Drop,
     V: io::Write + Drop,
 > Console<'r, 'l, R, I, O, V> {
-    /// Asks over this wire what has to be asked before the next command of a run. If that is OPEN, and the port is to be asked,
+    /// Asks with this ear and over this wire what has to be asked before the next command of a run. If that is OPEN, and the port is to be asked,
     /// this is whether the port is empty; if a PLAY may have been lost, and would be sent again at once, when the clip before
     /// ends. An automation of its own asks, of which only OPEN, SELECT and STATUS go out. What the operator calls is held.
-    pub fn ask_first<S: Source + Copy, W: Wire + Drop>(
+    pub fn ask_first<S: Source + Copy, E: Ear + Drop, W: Wire + Drop>(
         self,
         controller: &Controller<Rest<S>>,
+        ear: E,
         wire: W,
         settings: RunSettings<'_>,
-    ) -> Asked<W, Self>
+    ) -> Asked<E, W, Self>
         requires unit { settings.unit ≤ 15 }
         requires works { W.failures wire ≡ 0 }
-        ensures asks { HasAsked (asker_of settings.entry.ask (start_of S.items controller.now)) W.does settings.entry wire
-            result.wire result.left result.line }
+        ensures asks { HasAsked (asker_of settings.entry.ask (start_of S.items controller.now)) W.does E.fold settings.entry
+            ear result.ear wire result.wire result.left result.line }
         ensures works { result.line ≡ None → W.failures result.wire ≡ 0 }
     {
         let Some((purpose, asker)) = asker_of(controller, settings.ask) else {
             return Asked {
                 line: None,
+                ear,
                 wire,
                 console: self,
                 left: settings.listens,
@@ -99,9 +102,10 @@ impl<
             state: None,
             left: settings.listens,
         };
-        let answer = inquiry.ask(asker, wire, settings);
+        let answer = inquiry.ask(asker, ear, wire, settings);
         Asked {
             line: inquiry.line_of(answer.ran, answer.outcome),
+            ear: answer.ear,
             wire: answer.wire,
             console: inquiry.console,
             left: inquiry.left,
@@ -134,15 +138,7 @@ fn asker_of<S: Source + Copy>(
     if !ask || !opens_next(controller) {
         return None;
     }
-    let opens = Snapshot {
-        standing: Standing::Ready(Phase::Open),
-        take: false,
-        stop: false,
-        unanswered: 0,
-        settled: 0,
-        tries: 0,
-        ..snapshot
-    };
+    let opens = Snapshot::new(snapshot.mode, snapshot.port, snapshot.limit);
     let asker = Controller::of_snapshot(Rest::new(whole, whole.len()), &opens);
     Some((Purpose::Vacancy, asker))
 }
@@ -165,16 +161,17 @@ impl<
     V: io::Write + Drop,
 > Inquiry<'c, 'r, 'l, S, R, I, O, V> {
     // Has this automation ask.
-    fn ask<W: Wire + Drop>(
+    fn ask<E: Ear + Drop, W: Wire + Drop>(
         &mut self,
         asker: Controller<Rest<S>>,
+        ear: E,
         wire: W,
         settings: RunSettings<'_>,
-    ) -> Answer<W>
+    ) -> Answer<E, W>
         requires unit { settings.unit ≤ 15 }
         requires works { W.failures wire ≡ 0 }
-        ensures comes { ComesBy settings.entry.hearing (asking W.does (plan_of (items_left S.items) asker))
-            (plan_of (items_left S.items) asker) settings.entry.unit settings.entry.listens asker.state
+        ensures comes { Comes (asking W.does (plan_of (items_left S.items) asker)) E.fold
+            (plan_of (items_left S.items) asker) settings.entry.unit settings.entry.listens asker.state ear result.ear
             (over wire (record {
               purpose = self.old.purpose;
               held = self.old.console.hand.held;
@@ -188,11 +185,8 @@ impl<
             })) result.ran result.outcome }
         ensures works { result.ran ≢ Err BrokenOff.Device → W.failures result.wire ≡ 0 }
     {
-        let (unit, turns) = (settings.unit, settings.listens);
-        match settings.hearing {
-            Hearing::AtSilences => run_by(AutoDriver::new(asker, unit, wire), turns, self),
-            Hearing::AtOnce => run_by(PromptDriver::new(asker, unit, wire), turns, self),
-        }
+        let driver = Driver::with_ear(asker, settings.unit, ear, wire);
+        run_by(driver, settings.listens, self)
     }
 
     // Whether the automation goes on to this command, if it gives one.
@@ -313,22 +307,25 @@ fn run_by<S: Source + Drop, E: Ear + Drop, W: Wire + Drop, H: Hooks<S>>(
     mut driver: Driver<S, E, W>,
     turns: u32,
     hooks: &mut H,
-) -> Answer<W>
+) -> Answer<E, W>
     requires works { W.failures driver.wire ≡ 0 }
     ensures comes { Comes (record {
       does = W.does;
       asks = H.asks (plan_of S.items driver.controller);
       adds = H.adds;
       loses = H.loses;
-    }) E.fold driver.ear (plan_of S.items driver.controller) driver.unit turns driver.controller.state
+    }) E.fold (plan_of S.items driver.controller) driver.unit turns driver.controller.state driver.ear result.ear
         (over driver.wire (H.journal hooks.old)) (over result.wire (H.journal hooks.new)) result.ran result.outcome }
     ensures works { result.ran ≢ Err BrokenOff.Device → W.failures result.wire ≡ 0 }
 {
     let ran = driver.run_with(u64::from(turns), hooks);
+    let outcome = driver.controller().outcome();
+    let (ear, wire) = driver.into_parts();
     Answer {
         ran,
-        outcome: driver.controller().outcome(),
-        wire: driver.into_wire(),
+        outcome,
+        ear,
+        wire,
     }
 }
 

@@ -55,7 +55,7 @@ fn event_before(runs: &[RunAirings], event: usize) -> EventBefore
         Said::Aired(airing) => (
             millis_of(airing.played),
             match airing.ended {
-                Some(ended) => millis_of(ended),
+                Some(row) => millis_of(row.time),
                 None => None,
             },
         ),

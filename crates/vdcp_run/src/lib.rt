@@ -4,7 +4,7 @@
 //! standard error, and the exit status is given.
 //!
 //! Files, in reading order: `settings`, `run`, `begin`, `connecting`, `session`, `playing`, `console`, `stalling`, `asking`,
-//! `lapsing`, `lack`, `run_end`, `advice`, `asrun`, `saved`, `place`, `in_list`, `before`, `laws`.
+//! `lack`, `run_end`, `advice`, `asrun`, `saved`, `place`, `in_list`, `before`, `laws`.
 #![tactic(auto)]
 
 mod advice;
@@ -16,7 +16,6 @@ mod connecting;
 mod console;
 mod in_list;
 mod lack;
-mod lapsing;
 pub mod laws;
 mod place;
 mod playing;

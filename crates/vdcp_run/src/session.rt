@@ -1,9 +1,9 @@
 //! One session: a list is played over a connection, and what came of it.
 ghost use Rattle.std.specs.Duration.{as_nanos};
-ghost use Rattle.std.specs.Prelude.{◌≡◌, ◌⊎◌, ◌≤◌, ◌*◌, IfErr, IfOk, IsSome, None, OnErr};
+ghost use Rattle.std.specs.Prelude.{◌≡◌, ◌⊎◌, ◌≤◌, ◌*◌, ◌^◌, ◌-◌, IfErr, IfOk, IsSome, None, OnErr};
 ghost use Rattle.vdcp_run.specs.Run.{EndsRun, MayBeUnkept, journal_of};
 ghost use Rattle.vdcp_run.specs.Asking.{over, start_of};
-ghost use Rattle.vdcp_run.specs.Session.{HasSession, HasTried, IsClosed, Plays, TriesOver};
+ghost use Rattle.vdcp_run.specs.Session.{HasSession, HasTried, IsClosed, Plays, TriesOver, longest_answer};
 
 use crate::advice::Seen;
 use crate::asking::Asked;
@@ -11,18 +11,16 @@ use crate::before::events_before;
 use crate::connecting::connect_in_time;
 use crate::console::Console;
 use crate::lack::Lack;
-use crate::lapsing::Lapsing;
 use crate::playing::Playing;
 use crate::run_end::{LineEnd, RunEnd, ended};
 use crate::settings::{RunSettings, Showing};
-use std::cell::Cell;
 use std::fs::File;
 use std::io;
 use std::net::{Net, SocketAddrV4};
 use std::rt::{Clock, Files};
 use std::time::Duration;
 use vdcp_auto::{Controller, Outcome, Source};
-use vdcp_drive::{AutoDriver, Driver, Ear, Hearing, PromptDriver};
+use vdcp_drive::{AtOnce, AtSilences, Driver, Ear, Hearing};
 use vdcp_journal_file::{Disk, RecordFault, Recorder, Resumption};
 use vdcp_list::Rest;
 use vdcp_log::{Log, Logged, Side};
@@ -83,7 +81,7 @@ impl<
         let Some(stream) = connect_in_time(rt, address, &controller, &mut showing, &mut hand) else {
             return Err(Failure::Connect);
         };
-        let wire = StreamWire::new(stream, silence_of(settings));
+        let wire = StreamWire::with_limit(stream, silence_of(settings), limit_of(settings), rt);
         let log = Log::new(showing.telling, showing.capture, Side::Automation);
         let console = Console::new(rt, hand, showing.terminal, &log, settings);
         let playing = Playing { recorder, console };
@@ -102,6 +100,18 @@ fn silence_of(settings: RunSettings<'_>) -> Duration
     Duration::from_millis(u64::from(settings.silence))
 }
 
+// How long an answer may go on.
+fn limit_of(settings: RunSettings<'_>) -> Duration
+    ensures limit { as_nanos result ≡ longest_answer settings.entry }
+    ensures short { as_nanos result ≤ 2 ^ 64 - 1 }
+{
+    let silences = match settings.hearing {
+        Hearing::AtSilences => 16,
+        Hearing::AtOnce => 1,
+    };
+    Duration::from_millis(u64::from(settings.silence) * silences)
+}
+
 impl<
     'a,
     'r,
@@ -112,8 +122,7 @@ impl<
     O: io::Write + Drop,
     V: io::Write + Drop,
 > Playing<'a, 'r, 'l, R, F, I, O, V> {
-    // Plays a list over the wire of a connection, on which a time-out comes by the clock if bytes never pause, and which is
-    // logged. One that refuses to be a wire is a line that failed.
+    // Plays a list over the wire of a connection, which is logged. One that refuses to be a wire is a line that failed.
     fn play_over<S: Source + Copy, W: Wire + Drop>(
         self,
         controller: Controller<Rest<S>>,
@@ -132,16 +141,15 @@ impl<
         let Ok(wire) = wire else {
             return self.console.end(&controller, LineEnd::Failed, settings);
         };
-        let came = Cell::new(false);
-        let wire = Lapsing::new(wire, self.console.rt, settings, &came);
-        let wire = Logged::new(wire, self.console.log, settings.hearing);
-        let end = self.play_in_turn(controller, wire, settings, seen);
-        seen.came = came.get();
+        let log = self.console.log;
+        let wire = Logged::new(wire, log, settings.hearing);
+        let end = self.play_by(controller, wire, settings, seen);
+        seen.came = log.has_heard();
         end
     }
 
-    // Plays a list over a wire, once what has to be asked before was asked, and unless that ends the line.
-    fn play_in_turn<S: Source + Copy, W: Wire + Drop>(
+    // Plays a list over a wire, by a new ear.
+    fn play_by<S: Source + Copy, W: Wire + Drop>(
         self,
         controller: Controller<Rest<S>>,
         wire: W,
@@ -150,17 +158,41 @@ impl<
     ) -> RunEnd<'a>
         requires unit { settings.unit ≤ 15 }
         requires works { W.failures wire ≡ 0 }
-        ensures session { HasTried W.does F.safe settings.entry (start_of S.items controller)
+        ensures session { TriesOver W.does F.safe settings.entry (start_of S.items controller) wire self.entry.recorder
+            result }
+        ensures end { EndsRun settings.entry (journal_of self.entry.recorder) S.items controller result }
+    {
+        match settings.hearing {
+            Hearing::AtSilences => {
+                self.play_in_turn(controller, AtSilences::new(), wire, settings, seen)
+            }
+            Hearing::AtOnce => self.play_in_turn(controller, AtOnce::new(), wire, settings, seen),
+        }
+    }
+
+    // Plays a list with this ear over a wire, once what has to be asked before was asked, and unless that ends the line.
+    fn play_in_turn<S: Source + Copy, E: Ear + Drop, W: Wire + Drop>(
+        self,
+        controller: Controller<Rest<S>>,
+        ear: E,
+        wire: W,
+        settings: RunSettings<'a>,
+        seen: &mut Seen,
+    ) -> RunEnd<'a>
+        requires unit { settings.unit ≤ 15 }
+        requires works { W.failures wire ≡ 0 }
+        ensures session { HasTried W.does F.safe E.fold settings.entry (start_of S.items controller) ear
             (over wire self.entry.recorder) result }
         ensures end { EndsRun settings.entry (journal_of self.entry.recorder) S.items controller result }
     {
         let Playing { recorder, console } = self;
         let Asked {
             line,
+            ear,
             wire,
             console,
             left,
-        } = console.ask_first(&controller, wire, settings);
+        } = console.ask_first(&controller, ear, wire, settings);
         if let Some(line) = line {
             return console.end(&controller, line, settings);
         }
@@ -169,18 +201,8 @@ impl<
             listens: left,
             ..settings
         };
-        match settings.hearing {
-            Hearing::AtSilences => {
-                playing.play(AutoDriver::new(controller, settings.unit, wire), rest, seen)
-            }
-            Hearing::AtOnce => {
-                playing.play(
-                    PromptDriver::new(controller, settings.unit, wire),
-                    rest,
-                    seen,
-                )
-            }
-        }
+        let driver = Driver::with_ear(controller, settings.unit, ear, wire);
+        playing.play(driver, rest, seen)
     }
 
     // Runs an automation, and ends its journal.

@@ -7,7 +7,7 @@ ghost use Rattle.vdcp_run.specs.Stalls.{awaited_phase, first_stall, stall_after}
 use std::rt::Clock;
 use vdcp_auto::{Controller, Phase, Source, Standing};
 use vdcp_drive::Hearing;
-use vdcp_operator::Stopwatch;
+use vdcp_wire::Stopwatch;
 
 /// For how long the first cue may go on, in nanoseconds, until that is told.
 const PATIENCE: u64 = 5_000_000_000;
@@ -27,7 +27,7 @@ enum Stall {
 /// lets them pass, by which a server may count.)
 #[derive(Drop)]
 pub struct Stalling<'r, R: Clock> {
-    stopwatch: Stopwatch<'r, R>,
+    stopwatch: Stopwatch<&'r R>,
     stall: Stall,
     // What the last command was for.
     last: Option<Phase>,
