@@ -1,4 +1,4 @@
-//! Tests of `vdcp_drive`, by its public calls.
+//! Tests of `vdcp_port`, `vdcp_auto`, `vdcp_wire` and `vdcp_drive`, by their public calls.
 #![tactic(auto)]
 
 #[cfg(test)]

@@ -1,6 +1,5 @@
-//! The worked rows of both drivers over a wire in memory, and what a connection does below a wire.
+//! The worked rows of a port, and of both drivers over a wire in memory, and what a connection does below a wire.
 mod automation;
-mod calls;
 mod clips;
 mod ends;
 mod expecting;
@@ -8,7 +7,8 @@ mod hooks;
 mod loopback;
 mod memory;
 mod messages;
-mod scripts;
+mod port;
+mod port_memory;
 mod server;
 mod server_hooks;
 mod wire;

@@ -125,23 +125,6 @@ fn a_reader_that_fails_is_told(rt: HostRuntime) -> Result<(), Fail> {
     )
 }
 
-#[test]
-fn whole_lines_go_on_after_a_failure(rt: HostRuntime) -> Result<(), Fail> {
-    let text = b"ab\ncdef\n\nghij";
-    for call in 0..4 {
-        let mut lines = WholeLines::new(rt.alloc(), pieces(text, 5, Fails::At(call)))?;
-        let mut bytes = Vec::new(rt.alloc());
-        let failed = lines.read_to_end(&mut bytes).is_err();
-        let ended = lines.read_to_end(&mut bytes).is_ok();
-        assert_eq!(rt;
-            (failed, ended, bytes.as_slice()),
-            (true, true, b"ab\ncdef\n\n".as_slice()),
-            "read {call}"
-        );
-    }
-    Ok(())
-}
-
 // A text, and then a line of this many bytes with this end.
 fn text_with_line(alloc: Global, before: &str, size: usize, end: &str) -> Result<Vec<u8>, Fail> {
     let mut text = Vec::from_slice(alloc, before.as_bytes())?;

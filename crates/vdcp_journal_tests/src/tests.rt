@@ -3,8 +3,8 @@
 use std::alloc::Global;
 use std::process::Abort;
 use vdcp_auto::{Heard, Mode, Outcome, Source};
-use vdcp_journal::{Airing, AiringsSoFar, Heading, Moment, Note, Row, write_heading, write_row};
-use vdcp_list::{List, read_list, write_timed_events, write_timed_heading};
+use vdcp_journal::{Airing, Heading, Moment, Note, Row, write_heading, write_row};
+use vdcp_list::{read_list, write_timed_events, write_timed_heading};
 use vdcp_value::{ClipId, Rate};
 use vdcp_words::{Command, Reply};
 
@@ -17,8 +17,6 @@ pub fn time(rt: &impl Abort) -> Moment {
 pub enum TableNote {
     /// The command to cue the clip `A,B`.
     Cue,
-    Play,
-    Ack,
     Nak(u8),
     Silence,
     End(Outcome),
@@ -29,8 +27,6 @@ impl TableNote {
     fn note(&self) -> Note {
         match *self {
             TableNote::Cue => Note::Sent(Command::PlayCue(ClipId::new(*b"A,B     "))),
-            TableNote::Play => Note::Sent(Command::Play),
-            TableNote::Ack => Note::Heard(Heard::Reply(Reply::Ack)),
             TableNote::Nak(byte) => Note::Heard(Heard::Reply(Reply::Nak(byte))),
             TableNote::Silence => Note::Silence,
             TableNote::End(outcome) => Note::End(outcome),
@@ -91,15 +87,6 @@ fn a_heading_names_what_is_played(rt: HostRuntime) {
     assert_eq!(rt; (wrote, written.as_slice()), (Ok(()), wanted.as_bytes()));
 }
 
-// A list of one clip.
-fn list(rt: &impl Abort, alloc: Global) -> List {
-    let text = b"CLIP0001\n";
-    let Ok(list) = read_list(alloc, text.as_slice(), Rate::F25) else {
-        panic!(rt; "the list is read");
-    };
-    list
-}
-
 // A row of this note.
 fn row_of(rt: &impl Abort, note: Note) -> Row {
     Row {
@@ -117,35 +104,6 @@ pub fn rows_of(rt: &impl Abort, notes: &[TableNote], alloc: Global) -> Vec<Row> 
 }
 
 #[test]
-fn events_air_row_by_row(rt: HostRuntime) {
-    // (with each row, the event that may have aired besides)
-    static CASES: [(TableNote, Option<usize>); 3] = [
-        (TableNote::Play, Some(0)),
-        (TableNote::Ack, None),
-        (TableNote::Play, Some(1)),
-    ];
-    let mut so_far = AiringsSoFar::new(rt.alloc(), list(&rt, rt.alloc()), Mode::Plain);
-    for (note, unsettled) in CASES.iter() {
-        let row = Row {
-            time: time(&rt),
-            note: note.note(),
-        };
-        so_far.add(&row).expect(&rt, "memory");
-        assert_eq!(rt; so_far.unsettled(), *unsettled, "{note:?}");
-    }
-    let found = so_far.finish();
-    let airing = Airing {
-        played: time(&rt),
-        known: time(&rt),
-        ended: Some(time(&rt)),
-    };
-    assert_eq!(rt;
-        (found.airings.as_slice(), found.unsettled),
-        ([airing].as_slice(), Some(1))
-    );
-}
-
-#[test]
 fn airings_from_the_middle_are_written(rt: HostRuntime) {
     let alloc = rt.alloc();
     let text = b"A,,\nB,00:00:02:00,00:00:03:00\nC,,\n";
@@ -156,8 +114,12 @@ fn airings_from_the_middle_are_written(rt: HostRuntime) {
         known,
         ended: None,
     };
+    let stop = Row {
+        time: known,
+        note: Note::Sent(Command::Stop),
+    };
     let ended = Airing {
-        ended: Some(known),
+        ended: Some(stop),
         ..airing
     };
     let mut written = Vec::new(alloc);
@@ -167,7 +129,7 @@ fn airings_from_the_middle_are_written(rt: HostRuntime) {
     let events = write_timed_events(alloc, &list, Rate::F25, 1, &times, &mut written);
     let times = "2026-11-24T09:30:00.125Z,2026-11-24T09:30:01.000Z";
     let wanted = format!(in alloc;
-        "number,id,start,duration,played,known,ended\n1,B,00:00:02:00,00:00:03:00,{times},\n2,C,,,{times},2026-11-24T09:30:01.000Z\n"
+        "number,id,start,duration,played,known,ended,end\n1,B,00:00:02:00,00:00:03:00,{times},,not seen\n2,C,,,{times},2026-11-24T09:30:01.000Z,stopped\n"
     ).expect(&rt, "memory");
     assert_eq!(rt;
         (heading, events, written.as_slice()),

@@ -2,10 +2,8 @@
 #![tactic(auto)]
 
 #[cfg(test)]
-mod asrun_tests;
+mod asrun;
 #[cfg(test)]
-mod fault_tests;
+mod faults;
 #[cfg(test)]
-mod reading_tests;
-#[cfg(test)]
-mod tests;
+mod reading;

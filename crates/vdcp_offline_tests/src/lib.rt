@@ -1,15 +1,13 @@
-//! Tests of `check`, `vectors`, `judge` and `sim`, by the public calls of `vdcp_offline`.
+//! Tests of `vdcp_text` and `vdcp_offline`, by their public calls.
 #![tactic(auto)]
 
 #[cfg(test)]
-mod check;
+mod calls;
 #[cfg(test)]
-mod files;
+mod failing;
 #[cfg(test)]
-mod judge;
+mod failures;
 #[cfg(test)]
-mod run;
-#[cfg(test)]
-mod sim;
+mod rows;
 #[cfg(test)]
 mod vectors;

@@ -1,5 +1,11 @@
-//! Tests of `vdcp_words`, by its public calls.
+//! Tests of `vdcp_value`, `vdcp_frame` and `vdcp_words`, by their public calls.
 #![tactic(auto)]
 
 #[cfg(test)]
-mod tests;
+mod faults;
+#[cfg(test)]
+mod reader;
+#[cfg(test)]
+mod values;
+#[cfg(test)]
+mod words;

@@ -1,8 +1,7 @@
 //! When the hooks of a run are called, and that what they answer comes next.
-use super::ends::{Auto, automation};
+use super::ends::{SILENCE, automation, controller, script_of};
 use super::expecting::expect;
-use super::messages::{self, GRANTED};
-use super::scripts::{ALL_ANSWERED, SILENCE, spells};
+use super::messages::GRANTED;
 use std::alloc::{AllocError, Global};
 use std::test::Fail;
 use vdcp_auto::{Controller, Heard, Source};
@@ -26,12 +25,6 @@ struct Diary {
     answers: &'static [Next],
 }
 
-impl Diary {
-    fn add(&mut self, moment: Moment) {
-        let _ = self.moments.push(moment);
-    }
-}
-
 impl<S: Source> Hooks<S> for Diary {
     ghost Journal = { Unit {0} };
 
@@ -44,7 +37,7 @@ impl<S: Source> Hooks<S> for Diary {
     ghost loses = { λ _ _ _. Unit {0} };
 
     fn due(&mut self, controller: &Controller<S>) -> Next {
-        self.add(Moment::Due(controller.awaiting()));
+        let _ = self.moments.push(Moment::Due(controller.awaiting()));
         let Some((next, later)) = self.answers.split_first() else {
             return Next::GoOn;
         };
@@ -53,58 +46,52 @@ impl<S: Source> Hooks<S> for Diary {
     }
 
     fn keep_call(&mut self, call: Call) -> Result<(), KeepFault> {
-        self.add(Moment::Called(call));
+        let _ = self.moments.push(Moment::Called(call));
         Ok(())
     }
 
     fn keep_sent(&mut self, _unit: u8, command: &Command, _bytes: &[u8]) -> Result<(), KeepFault> {
-        self.add(Moment::Sent(*command));
+        let _ = self.moments.push(Moment::Sent(*command));
         Ok(())
     }
 
     fn note_end(&mut self, _heard: Option<Heard>) {
-        self.add(Moment::Ended);
+        let _ = self.moments.push(Moment::Ended);
     }
 
     fn see(&mut self, controller: &Controller<S>) {
-        self.add(Moment::Saw(controller.awaiting()));
+        let _ = self.moments.push(Moment::Saw(controller.awaiting()));
     }
 }
 
-/// An automation to which these pieces come, and hooks with a diary that answers these.
-fn ends(
+/// How a run of an automation of no clips ends to which these pieces come, if the hooks answer these, and what they remember
+/// by then. It promises nothing, so the proof of a test needn't go through its clauses.
+fn ran(
     alloc: Global,
     pieces: &[&[u8]],
     answers: &'static [Next],
-) -> Result<(Auto, Option<Diary>), AllocError> {
-    let diary = Diary {
+    turns: u64,
+) -> Result<(Result<Ran, BrokenOff>, Vec<Moment>), AllocError> {
+    let mut auto = automation(alloc, controller(0, false), script_of(pieces))?;
+    let mut hooks = Some(Diary {
         moments: Vec::new(alloc),
         answers,
-    };
-    Ok((automation(alloc, pieces)?, Some(diary)))
-}
-
-/// How a run of this many turns ends, and what the diary has by then. It promises nothing, so the proof of a test
-/// needn't go through its clauses.
-fn run<'a>(
-    auto: &mut Auto,
-    hooks: &'a mut Option<Diary>,
-    turns: u64,
-) -> (Result<Ran, BrokenOff>, &'a [Moment]) {
-    let ran = auto.run_with(turns, hooks);
-    match hooks {
-        Some(diary) => (ran, diary.moments.as_slice()),
-        None => (ran, &[]),
-    }
+    });
+    let ran = auto.run_with(turns, &mut hooks);
+    Ok(match hooks {
+        Some(diary) => (ran, diary.moments),
+        None => (ran, Vec::new(alloc)),
+    })
 }
 
 const OPEN: Moment = Moment::Sent(Command::Open(1, 1));
 
 const STOP: Moment = Moment::Sent(Command::Stop);
 
-// The first OPEN gets no answer. The second one is answered, and a silence ends that.
 #[test]
 fn hooks_are_called_each_turn(rt: HostRuntime) -> Result<(), Fail> {
+    // The first OPEN gets no answer. The second one is answered, and a silence ends that.
+    let (end, seen) = ran(rt.alloc(), &[SILENCE, GRANTED, SILENCE], &[], 3)?;
     let moments = [
         Moment::Due(false),
         OPEN,
@@ -117,15 +104,15 @@ fn hooks_are_called_each_turn(rt: HostRuntime) -> Result<(), Fail> {
         Moment::Saw(true),
         Moment::Ended,
     ];
-    let (mut auto, mut hooks) = ends(rt.alloc(), &[SILENCE, GRANTED, SILENCE], &[])?;
-    let seen = run(&mut auto, &mut hooks, 3);
-    expect(&rt, &seen, &(Ok(Ran::Spent), moments.as_slice()));
-    Ok(())
-}
+    expect(
+        &rt,
+        0,
+        &(end, seen.as_slice()),
+        &(Ok(Ran::Spent), moments.as_slice()),
+    );
 
-// A call is a turn of its own.
-#[test]
-fn call_of_the_hooks_is_given(rt: HostRuntime) -> Result<(), Fail> {
+    // A call is a turn of its own.
+    let (end, seen) = ran(rt.alloc(), &[SILENCE], &[Next::Call(Call::Stop)], 2)?;
     let moments = [
         Moment::Due(false),
         Moment::Called(Call::Stop),
@@ -134,14 +121,15 @@ fn call_of_the_hooks_is_given(rt: HostRuntime) -> Result<(), Fail> {
         Moment::Saw(true),
         Moment::Ended,
     ];
-    let (mut auto, mut hooks) = ends(rt.alloc(), &[SILENCE], &[Next::Call(Call::Stop)])?;
-    let seen = run(&mut auto, &mut hooks, 2);
-    expect(&rt, &seen, &(Ok(Ran::Spent), moments.as_slice()));
-    Ok(())
-}
+    expect(
+        &rt,
+        1,
+        &(end, seen.as_slice()),
+        &(Ok(Ran::Spent), moments.as_slice()),
+    );
 
-#[test]
-fn nothing_goes_out_once_the_hooks_leave(rt: HostRuntime) -> Result<(), Fail> {
+    // Nothing goes out once the hooks leave.
+    let (end, seen) = ran(rt.alloc(), &[SILENCE], &[Next::GoOn, Next::Leave], 100)?;
     let moments = [
         Moment::Due(false),
         OPEN,
@@ -149,21 +137,11 @@ fn nothing_goes_out_once_the_hooks_leave(rt: HostRuntime) -> Result<(), Fail> {
         Moment::Ended,
         Moment::Due(false),
     ];
-    let (mut auto, mut hooks) = ends(rt.alloc(), &[SILENCE], &[Next::GoOn, Next::Leave])?;
-    let seen = run(&mut auto, &mut hooks, 100);
-    let is_sent = spells(auto.wire().sent(), &[messages::OPEN]);
-    let left = (Err(BrokenOff::Left), moments.as_slice());
-    expect(&rt, &(seen, is_sent), &(left, true));
-    Ok(())
-}
-
-#[test]
-fn hooks_are_not_called_after_the_end(rt: HostRuntime) -> Result<(), Fail> {
-    let (mut auto, mut hooks) = ends(rt.alloc(), ALL_ANSWERED, &[])?;
-    let (first, moments) = run(&mut auto, &mut hooks, 100);
-    let count = moments.len();
-    let (next, moments) = run(&mut auto, &mut hooks, 100);
-    let seen = (first, count, next, moments.len());
-    expect(&rt, &seen, &(Ok(Ran::Ended), 24, Ok(Ran::Ended), 24));
+    expect(
+        &rt,
+        2,
+        &(end, seen.as_slice()),
+        &(Err(BrokenOff::Left), moments.as_slice()),
+    );
     Ok(())
 }

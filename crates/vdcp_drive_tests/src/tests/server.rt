@@ -1,9 +1,7 @@
 //! A server over a wire in memory.
-use super::calls::serve;
-use super::ends::{failing_server, server};
-use super::expecting::expect_row;
+use super::ends::{SILENCE, Script, script_of, server, spells};
+use super::expecting::expect;
 use super::messages::{ACK, GRANTED, IDLE, OPEN, SELECT, STATUS};
-use super::scripts::{SILENCE, spells};
 use std::alloc::Global;
 use std::test::Fail;
 use vdcp_drive::{Hearing, TurnsEnd, Unwatched};
@@ -120,15 +118,15 @@ static ROWS: [Row; 7] = [
 
 /// How a new server's turns end, and whether it sent these messages.
 fn served(alloc: Global, row: &Row) -> Result<(TurnsEnd, bool), Fail> {
-    let mut server = server(alloc, row.hearing, row.came)?;
-    let end = serve(&mut server, row.turns, &mut Unwatched)?;
+    let mut server = server(alloc, row.hearing, script_of(row.came))?;
+    let end = server.serve(row.turns, &mut Unwatched)?;
     Ok((end, spells(server.wire().sent(), row.sent)))
 }
 
 #[test]
 fn what_comes_is_answered(rt: HostRuntime) -> Result<(), Fail> {
     for (k, row) in ROWS.iter().enumerate() {
-        expect_row(&rt, k, &served(rt.alloc(), row)?, &(row.end, true));
+        expect(&rt, k, &served(rt.alloc(), row)?, &(row.end, true));
     }
     Ok(())
 }
@@ -136,9 +134,13 @@ fn what_comes_is_answered(rt: HostRuntime) -> Result<(), Fail> {
 /// A server whose wire's call of this number fails after two bytes of a send, and then is used again: whether both
 /// fail, and how many bytes were sent.
 fn failed_at(alloc: Global, call: u64) -> Result<(bool, usize), Fail> {
-    let mut server = failing_server(alloc, OPENING, call)?;
-    let fails = serve(&mut server, 100, &mut Unwatched).is_err()
-        && serve(&mut server, 0, &mut Unwatched).is_err();
+    let script = Script {
+        failure: (call, 2),
+        ..script_of(OPENING)
+    };
+    let mut server = server(alloc, Hearing::AtSilences, script)?;
+    let fails = server.serve(100, &mut Unwatched).is_err()
+        && server.serve(0, &mut Unwatched).is_err();
     Ok((fails, server.wire().sent().len()))
 }
 
@@ -150,7 +152,7 @@ fn each_call_fails_in_turn(rt: HostRuntime) -> Result<(), Fail> {
     for (k, sent) in SENT.iter().enumerate() {
         let call = k + 1;
         let failed = failed_at(rt.alloc(), call as u64)?;
-        expect_row(&rt, call, &failed, &(true, *sent));
+        expect(&rt, call, &failed, &(true, *sent));
     }
     Ok(())
 }

@@ -1,9 +1,7 @@
 //! When the hooks of a server are called, and that what they say is due is done.
-use super::calls::{serve, turn};
-use super::ends::{Serving, failing_server, server};
+use super::ends::{Script, script_of, server};
 use super::expecting::expect;
-use super::messages::{ACK, CUE_1, CUED, GRANTED, OPEN, PLAY, SELECT, STATUS};
-use super::scripts::spells;
+use super::messages::{CUE_1, OPEN, PLAY, SELECT};
 use std::alloc::Global;
 use std::test::Fail;
 use vdcp_drive::{Came, DriveFault, Due, Hearing, ServerHooks, Turned, TurnsEnd};
@@ -42,25 +40,26 @@ impl<C: Catalogue> ServerHooks<C> for Diary {
     }
 }
 
-/// How the turns of a server end with hooks that say that these are due, and what the diary has then. It promises
-/// nothing, so the proof of a test needn't go through its clauses.
+/// How the turns of a server end to which this comes, with hooks that say that these are due, and what the diary has then.
+/// It promises nothing, so the proof of a test needn't go through its clauses.
 fn served(
     alloc: Global,
-    mut server: Serving,
+    script: Script<'_>,
     dues: &'static [Due],
-) -> (Result<TurnsEnd, DriveFault>, Vec<Moment>) {
+) -> Result<(Result<TurnsEnd, DriveFault>, Vec<Moment>), Fail> {
+    let mut server = server(alloc, Hearing::AtOnce, script)?;
     let mut diary = Diary {
         moments: Vec::new(alloc),
         dues,
     };
-    let end = serve(&mut server, 100, &mut diary);
-    (end, diary.moments)
+    let end = server.serve(100, &mut diary);
+    Ok((end, diary.moments))
 }
 
-// The PLAY after the frame that ends a cue puts the item to air.
 #[test]
 fn what_is_due_is_done(rt: HostRuntime) -> Result<(), Fail> {
-    let server = server(rt.alloc(), Hearing::AtOnce, &[OPEN, SELECT, CUE_1, PLAY])?;
+    // The PLAY after the frame that ends a cue puts the item to air.
+    let came = script_of(&[OPEN, SELECT, CUE_1, PLAY]);
     let dues = &[
         Due::Listen,
         Due::Listen,
@@ -69,7 +68,7 @@ fn what_is_due_is_done(rt: HostRuntime) -> Result<(), Fail> {
         Due::Listen,
         Due::GiveUp,
     ];
-    let (end, moments) = served(rt.alloc(), server, dues);
+    let (end, seen) = served(rt.alloc(), came, dues)?;
     let expected = [
         Moment::Asked(Due::Listen),
         Moment::Lent(Ok(Turned::Listen(Came::Bytes(7))), false),
@@ -85,45 +84,26 @@ fn what_is_due_is_done(rt: HostRuntime) -> Result<(), Fail> {
     ];
     expect(
         &rt,
-        &(end, moments.as_slice()),
+        0,
+        &(end, seen.as_slice()),
         &(Ok(TurnsEnd::GivenUp), expected.as_slice()),
     );
-    Ok(())
-}
 
-// The wire fails in the first answer.
-#[test]
-fn hooks_are_told_that_the_wire_failed(rt: HostRuntime) -> Result<(), Fail> {
-    let server = failing_server(rt.alloc(), &[OPEN], 2)?;
-    let (end, moments) = served(rt.alloc(), server, &[]);
+    // The wire fails in the first answer.
+    let came = Script {
+        failure: (2, 2),
+        ..script_of(&[OPEN])
+    };
+    let (end, seen) = served(rt.alloc(), came, &[])?;
     let expected = [
         Moment::Asked(Due::Listen),
         Moment::Lent(Err(DriveFault::Device), false),
     ];
     expect(
         &rt,
-        &(end, moments.as_slice()),
+        1,
+        &(end, seen.as_slice()),
         &(Err(DriveFault::Device), expected.as_slice()),
-    );
-    Ok(())
-}
-
-// A frame passes that nobody asked for.
-#[test]
-fn frame_ends_a_cue(rt: HostRuntime) -> Result<(), Fail> {
-    let came: &[&[u8]] = &[OPEN, SELECT, CUE_1, STATUS];
-    let mut server = server(rt.alloc(), Hearing::AtOnce, came)?;
-    for _ in 0..3 {
-        turn(&mut server)?;
-    }
-    server.pass_frame();
-    turn(&mut server)?;
-    let is_so = spells(server.wire().sent(), &[GRANTED, ACK, ACK, CUED]);
-    let closing = Turned::Listen(turn(&mut server)?).closes();
-    expect(
-        &rt,
-        &(is_so, closing, Turned::Frame.closes()),
-        &(true, true, false),
     );
     Ok(())
 }

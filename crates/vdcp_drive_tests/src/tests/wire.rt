@@ -38,32 +38,26 @@ fn hear<W: Wire>(wire: &mut W) -> Result<Came, WireFault>
     wire.listen(&mut [0; PIECE])
 }
 
-// What is sent goes out at once, or waits for ten seconds.
-#[test]
-fn times_are_set(rt: HostRuntime) -> Result<(), Fail> {
-    let (peer, near, _wire) = wire(&rt, SHORT)?;
-    let silence = Some(Duration::from_millis(SHORT));
-    let sending = Some(Duration::from_secs(10));
-    let set = (near.nodelay()?, near.read_timeout()?, near.write_timeout()?);
-    let is_refused = StreamWire::new(peer, Duration::ZERO).is_err();
-    expect(&rt, &(set, is_refused), &((true, silence, sending), true));
-    Ok(())
-}
-
-// What waits is dropped, and a drop doesn't wait. A silence takes its time, and then it goes on.
+// What is sent goes out at once, or waits for ten seconds. What waits is dropped, and a drop doesn't wait. A silence takes
+// its time, and then it goes on.
 #[test]
 fn silence_comes_after_so_long(rt: HostRuntime) -> Result<(), Fail> {
+    let short = Duration::from_millis(SHORT);
     let (mut peer, near, mut wire) = wire(&rt, SHORT)?;
+    let set = (near.nodelay()?, near.read_timeout()?, near.write_timeout()?);
+    let sending = Duration::from_secs(10);
+    expect(&rt, 0, &set, &(true, Some(short), Some(sending)));
     peer.write_all(&[5, 1])?;
     near.peek(&mut [0])?;
     wire.drop_waiting()?;
     let start = Instant::now(&rt)?;
     let first = hear(&mut wire)?;
-    let is_late = start.elapsed(&rt)? >= Duration::from_millis(SHORT);
+    let is_late = start.elapsed(&rt)? >= short;
     peer.write_all(&[7])?;
     let second = hear(&mut wire)?;
-    let expected = (Came::Silence, true, Came::Bytes(1));
-    expect(&rt, &(first, is_late, second), &expected);
+    let is_refused = StreamWire::new(peer, Duration::ZERO).is_err();
+    let expected = (Came::Silence, true, Came::Bytes(1), true);
+    expect(&rt, 1, &(first, is_late, second, is_refused), &expected);
     Ok(())
 }
 
@@ -76,7 +70,7 @@ fn close_is_no_silence(rt: HostRuntime) -> Result<(), Fail> {
     near.peek(&mut [0])?;
     drop(peer);
     wire.drop_waiting()?;
-    expect(&rt, &hear(&mut wire)?, &Came::Closed);
+    expect(&rt, 0, &hear(&mut wire)?, &Came::Closed);
     Ok(())
 }
 
@@ -88,7 +82,7 @@ fn drop_takes_no_more_than_it_may(rt: HostRuntime) -> Result<(), Fail> {
     let count = peer.write(vec![in rt.alloc(); 3; 100_000]?.as_slice())?;
     wire.drop_waiting()?;
     let is_left = matches!(hear(&mut wire)?, Came::Bytes(_));
-    expect(&rt, &(count > 128 * PIECE, is_left), &(true, true));
+    expect(&rt, 0, &(count > 128 * PIECE, is_left), &(true, true));
     Ok(())
 }
 
@@ -117,6 +111,6 @@ fn failed_connection_is_no_silence(rt: HostRuntime) -> Result<(), Fail> {
     let mut wire = StreamWire::with_waits(near, waits)?;
     let sent = wire.send(vec![in rt.alloc(); 3; 64_000_000]?.as_slice());
     let failed = (Err(WireFault), Err(WireFault), Err(WireFault));
-    expect(&rt, &(heard, dropped, sent), &failed);
+    expect(&rt, 0, &(heard, dropped, sent), &failed);
     Ok(())
 }

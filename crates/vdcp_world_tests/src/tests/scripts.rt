@@ -1,12 +1,60 @@
 //! Scripts that are read, and scripts that are refused.
-use super::seen::{expect_seen, read};
-use std::alloc::Global;
-use std::process::Abort;
+use super::worlds::{expect, read};
 use std::test::Fail;
 use vdcp_world::{Event, ScriptFault};
 
+// A script, and how many events it has, or its first fault.
+static SCRIPTS: [(&str, Result<usize, ScriptFault>); 40] = [
+    ("", Ok(0)),
+    ("\n\n# tick\n#\n\n", Ok(0)),
+    ("tick", Ok(1)),
+    ("tick\r\n\r\n# comment\r\ndown\r\n", Ok(2)),
+    ("tick\n\ndown", Ok(2)),
+    ("round 10000\n", Ok(30_000)),
+    ("frame 10000\n", Ok(10_000)),
+    ("good 10000\nround 10000\nframe 10000\n", Ok(100_000)),
+    ("tick\n\njump\n", Err(ScriptFault::Word(3))),
+    ("jump 3 4\n", Err(ScriptFault::Word(1))),
+    ("# one\r\n\r\nTick\r\n", Err(ScriptFault::Word(3))),
+    ("tick \n", Err(ScriptFault::Word(1))),
+    (" tick\n", Err(ScriptFault::Word(1))),
+    (" \n", Err(ScriptFault::Word(1))),
+    ("tick 1\n", Err(ScriptFault::Word(1))),
+    ("tick\r", Err(ScriptFault::Word(1))),
+    ("alter-down\n", Err(ScriptFault::Word(1))),
+    ("alter-up\n", Err(ScriptFault::Word(1))),
+    ("stray-nak\n", Err(ScriptFault::Word(1))),
+    ("stray-ack 04\n", Err(ScriptFault::Word(1))),
+    ("alter-up ff ff\n", Err(ScriptFault::Word(1))),
+    ("round 2 \n", Err(ScriptFault::Word(1))),
+    ("good  2\n", Err(ScriptFault::Word(1))),
+    ("round \n", Err(ScriptFault::Number(1))),
+    ("round 0\n", Err(ScriptFault::Number(1))),
+    ("round 01\n", Err(ScriptFault::Number(1))),
+    ("round +1\n", Err(ScriptFault::Number(1))),
+    ("tick\ngood x\n", Err(ScriptFault::Number(2))),
+    ("frame 10001\n", Err(ScriptFault::Number(1))),
+    ("frame 4294967297\n", Err(ScriptFault::Number(1))),
+    ("alter-up \n", Err(ScriptFault::Hex(1))),
+    ("alter-up f\n", Err(ScriptFault::Hex(1))),
+    ("alter-down 0g\n", Err(ScriptFault::Hex(1))),
+    ("stray-nak 0A\n", Err(ScriptFault::Hex(1))),
+    ("stray-nak 1\n", Err(ScriptFault::Hex(1))),
+    ("stray-nak 0101\n", Err(ScriptFault::Hex(1))),
+    ("good 10000\ngood 10000\n", Err(ScriptFault::TooMany)),
+    (
+        "good 10000\nround 10000\nframe 10000\ntick\n",
+        Err(ScriptFault::TooMany),
+    ),
+    (
+        "good 10000\nround 10000\nframe 10000\njump\n",
+        Err(ScriptFault::Word(4)),
+    ),
+    ("good 10000\ngood 10000\njump\n", Err(ScriptFault::TooMany)),
+];
+
 #[test]
-fn each_word_is_its_event(rt: HostRuntime) -> Result<(), Fail> {
+fn scripts_are_read_up_to_their_first_fault(rt: HostRuntime) -> Result<(), Fail> {
     let alloc = rt.alloc();
     let text =
         "tick\ndown\nup\ndown-copy\nup-copy\nlose-down\nlose-up\ntimeout\nready\nend\ntake\nstop\n\
@@ -18,141 +66,33 @@ fn each_word_is_its_event(rt: HostRuntime) -> Result<(), Fail> {
         Frame, Frame, Tick, Down, Up, Tick, Down, Up, Tick, Down, Up, Timeout, Ready, End, Tick, Down, \
         Up]";
     let shown = format!(in alloc; "{events:?}")?;
-    expect_seen(&rt, "the events of the words", &shown.as_str(), &wanted);
+    expect(&rt, "the events of the words", &shown.as_str(), &wanted);
+    for (text, wanted) in SCRIPTS.iter() {
+        let count = read(alloc, text).map(|events| events.len());
+        expect(&rt, text, &count, wanted);
+    }
     Ok(())
 }
 
-static COUNTS: [(&str, usize); 8] = [
-    ("", 0),
-    ("\n\n# tick\n#\n\n", 0),
-    ("tick", 1),
-    ("tick\r\n\r\n# comment\r\ndown\r\n", 2),
-    ("tick\n\ndown", 2),
-    ("round 10000\n", 30_000),
-    ("frame 10000\n", 10_000),
-    ("good 10000\nround 10000\nframe 10000\n", 100_000),
-];
-
-/// A script has this number of events, or this first fault.
-fn reads_as(rt: &impl Abort, alloc: Global, text: &str, wanted: Result<usize, ScriptFault>) {
-    let count = read(alloc, text).map(|events| events.len());
-    expect_seen(rt, text, &count, &wanted);
-}
-
+// The first of these has 1024 bytes, and the second 1025.
 #[test]
-fn rounds_and_frames_count_as_their_events(rt: HostRuntime) {
-    for (text, count) in COUNTS.iter() {
-        reads_as(&rt, rt.alloc(), text, Ok(*count));
-    }
-}
-
-static REFUSED: [(&str, ScriptFault); 32] = [
-    ("tick\n\njump\n", ScriptFault::Word(3)),
-    ("jump 3 4\n", ScriptFault::Word(1)),
-    ("# one\r\n\r\nTick\r\n", ScriptFault::Word(3)),
-    ("tick \n", ScriptFault::Word(1)),
-    (" tick\n", ScriptFault::Word(1)),
-    (" \n", ScriptFault::Word(1)),
-    ("tick 1\n", ScriptFault::Word(1)),
-    ("tick\r", ScriptFault::Word(1)),
-    ("alter-down\n", ScriptFault::Word(1)),
-    ("alter-up\n", ScriptFault::Word(1)),
-    ("stray-nak\n", ScriptFault::Word(1)),
-    ("stray-ack 04\n", ScriptFault::Word(1)),
-    ("alter-up ff ff\n", ScriptFault::Word(1)),
-    ("round 2 \n", ScriptFault::Word(1)),
-    ("good  2\n", ScriptFault::Word(1)),
-    ("round \n", ScriptFault::Number(1)),
-    ("round 0\n", ScriptFault::Number(1)),
-    ("round 01\n", ScriptFault::Number(1)),
-    ("round +1\n", ScriptFault::Number(1)),
-    ("tick\ngood x\n", ScriptFault::Number(2)),
-    ("frame 10001\n", ScriptFault::Number(1)),
-    ("frame 4294967297\n", ScriptFault::Number(1)),
-    ("alter-up \n", ScriptFault::Hex(1)),
-    ("alter-up f\n", ScriptFault::Hex(1)),
-    ("alter-down 0g\n", ScriptFault::Hex(1)),
-    ("stray-nak 0A\n", ScriptFault::Hex(1)),
-    ("stray-nak 1\n", ScriptFault::Hex(1)),
-    ("stray-nak 0101\n", ScriptFault::Hex(1)),
-    ("good 10000\ngood 10000\n", ScriptFault::TooMany),
-    (
-        "good 10000\nround 10000\nframe 10000\ntick\n",
-        ScriptFault::TooMany,
-    ),
-    (
-        "good 10000\nround 10000\nframe 10000\njump\n",
-        ScriptFault::Word(4),
-    ),
-    ("good 10000\ngood 10000\njump\n", ScriptFault::TooMany),
-];
-
-#[test]
-fn the_first_fault_is_told(rt: HostRuntime) {
-    for (text, fault) in REFUSED.iter() {
-        reads_as(&rt, rt.alloc(), text, Err(*fault));
-    }
-}
-
-/// How many bytes the first event has, if it is an `alter-down`.
-fn bytes_altered(events: &[Event]) -> Option<usize> {
-    match events.first() {
-        Some(Event::AlterDown(burst)) => Some(burst.bytes().len()),
-        _ => None,
-    }
-}
-
-/// What comes of an `alter-down` of 1024 bytes and these digits.
-fn altered(alloc: Global, more: &str) -> Result<Result<Option<usize>, ScriptFault>, Fail> {
-    let mut text = String::new(alloc);
+fn a_burst_has_1024_bytes_at_most(rt: HostRuntime) -> Result<(), Fail> {
+    let mut text = String::new(rt.alloc());
     text.push_str("alter-down ")?;
     for _ in 0..1024 {
         text.push_str("fF")?;
     }
-    text.push_str(more)?;
-    let script = read(alloc, text.as_str());
-    Ok(script.map(|events| bytes_altered(events.as_slice())))
-}
-
-#[test]
-fn a_burst_has_1024_bytes_at_most(rt: HostRuntime) -> Result<(), Fail> {
-    let most = altered(rt.alloc(), "")?;
-    let too_many = altered(rt.alloc(), "ff")?;
-    let wanted = (Ok(Some(1024)), Err(ScriptFault::Hex(1)));
-    expect_seen(&rt, "1024 bytes and 1025", &(most, too_many), &wanted);
+    let events = read(rt.alloc(), text.as_str())?;
+    let most = match events.first() {
+        Some(Event::AlterDown(burst)) => burst.bytes().len(),
+        _ => 0,
+    };
+    text.push_str("ff")?;
+    let too_many = read(rt.alloc(), text.as_str()).err();
+    let wanted = (1024, Some(ScriptFault::Hex(1)));
+    expect(&rt, "1024 bytes and 1025", &(most, too_many), &wanted);
     Ok(())
 }
-
-/// Each of these values equals itself, and none of the others.
-fn are_all_different<T: PartialEq>(rt: &impl Abort, values: &[T]) {
-    for (i, a) in values.iter().enumerate() {
-        for (j, b) in values.iter().enumerate() {
-            assert_eq!(rt; a == b, i == j, "values {i} and {j}");
-        }
-    }
-}
-
-#[test]
-fn events_differ_by_what_they_bring(rt: HostRuntime) -> Result<(), Fail> {
-    let script =
-        "tick\ndown\nup\ndown-copy\nup-copy\nlose-down\nlose-up\nalter-down 02\nalter-down 03\nalter-down 0202\n\
-        alter-up 02\nalter-up 03\ntimeout\nready\nend\nframe\ntake\nstop\nstray-ack\nstray-nak 00\nstray-nak 01\n";
-    let events = read(rt.alloc(), script)?;
-    expect_seen(&rt, "all events", &events.len(), &21);
-    are_all_different(&rt, events.as_slice());
-    Ok(())
-}
-
-static FAULTS: [ScriptFault; 8] = [
-    ScriptFault::Word(1),
-    ScriptFault::Word(2),
-    ScriptFault::Number(1),
-    ScriptFault::Number(2),
-    ScriptFault::Hex(1),
-    ScriptFault::Hex(2),
-    ScriptFault::TooMany,
-    ScriptFault::Memory,
-];
 
 static WORDED: [(ScriptFault, &str); 5] = [
     (ScriptFault::Word(2), "line 2 is no event"),
@@ -166,11 +106,10 @@ static WORDED: [(ScriptFault, &str); 5] = [
 ];
 
 #[test]
-fn faults_are_told_apart_and_worded(rt: HostRuntime) -> Result<(), Fail> {
-    are_all_different(&rt, &FAULTS);
+fn faults_are_worded(rt: HostRuntime) -> Result<(), Fail> {
     for (fault, text) in WORDED.iter() {
         let shown = format!(in rt.alloc(); "{fault}")?;
-        expect_seen(&rt, text, &shown.as_str(), text);
+        expect(&rt, text, &shown.as_str(), text);
     }
     Ok(())
 }

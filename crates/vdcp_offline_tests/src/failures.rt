@@ -1,4 +1,4 @@
-//! Tests of failures, their lines and their exit statuses.
+//! Failures, their lines and their exit statuses.
 use std::alloc::Global;
 use std::process::Abort;
 use vdcp_text::{Failure, ScriptLineFault};

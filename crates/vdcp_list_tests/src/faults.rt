@@ -1,57 +1,9 @@
-//! Faults are told apart by what they tell, and have their texts.
+//! The texts of faults.
 use std::alloc::AllocError;
 use std::fmt;
 use std::process::Abort;
 use vdcp_list::{ListFault, SlotFault, WriteFault};
 use vdcp_value::RowFault;
-
-/// The places of two values that are equal and shouldn't be, or unequal and should be equal.
-fn wrong_pair<T: PartialEq>(values: &[T]) -> Option<(usize, usize)> {
-    for i in 0..values.len() {
-        for j in 0..values.len() {
-            if (values[i] == values[j]) != (i == j) {
-                return Some((i, j));
-            }
-        }
-    }
-    None
-}
-
-/// Each of these values equals itself, and none of the others.
-fn are_all_different<T: PartialEq>(rt: &impl Abort, values: &[T]) {
-    assert_eq!(rt; wrong_pair(values), None);
-}
-
-static LIST_FAULTS: [ListFault; 12] = [
-    ListFault::Row(1, RowFault::Columns),
-    ListFault::Row(2, RowFault::Columns),
-    ListFault::Row(1, RowFault::Id),
-    ListFault::Row(2, RowFault::Id),
-    ListFault::Row(1, RowFault::Time),
-    ListFault::Row(2, RowFault::Time),
-    ListFault::Row(1, RowFault::Twice),
-    ListFault::Row(2, RowFault::Twice),
-    ListFault::Row(1, RowFault::TooMany),
-    ListFault::Row(2, RowFault::TooMany),
-    ListFault::Memory,
-    ListFault::Read,
-];
-
-static SLOT_FAULTS: [SlotFault; 2] = [SlotFault::Twice, SlotFault::Full];
-
-static WRITE_FAULTS: [WriteFault; 4] = [
-    WriteFault::Device,
-    WriteFault::Memory,
-    WriteFault::Time(0),
-    WriteFault::Time(1),
-];
-
-#[test]
-fn faults_differ_by_what_they_tell(rt: HostRuntime) {
-    are_all_different(&rt, &LIST_FAULTS);
-    are_all_different(&rt, &SLOT_FAULTS);
-    are_all_different(&rt, &WRITE_FAULTS);
-}
 
 /// Each of these faults has its text.
 fn are_worded<F: fmt::Display + Copy + Drop>(

@@ -1,19 +1,7 @@
-//! Worked rows of ids and time codes, and the words of faults.
+//! Worked rows of ids and time codes.
 use arrayvec::ArrayString;
-use std::alloc::AllocError;
-use std::fmt;
 use std::process::Abort;
 use vdcp_value::{ClipId, Field, IdFault, Rate, TcFault, Timecode};
-
-#[test]
-fn eight_spaces_are_shown_and_read_back(rt: HostRuntime) {
-    let id = ClipId::new([0x20; 8]);
-    let mut text = ArrayString::new();
-    text.push_str("what stood here");
-    id.show(&mut text);
-    let read = ClipId::parse("0x2020202020202020");
-    assert_eq!(rt; (text.as_str(), read), ("0x2020202020202020", Ok(id)));
-}
 
 static TEXTS_OF_NO_ID: [(&str, IdFault); 6] = [
     ("", IdFault::Empty),
@@ -25,7 +13,13 @@ static TEXTS_OF_NO_ID: [(&str, IdFault); 6] = [
 ];
 
 #[test]
-fn texts_of_no_id_are_refused(rt: HostRuntime) {
+fn ids_are_shown_and_read(rt: HostRuntime) {
+    let id = ClipId::new([0x20; 8]);
+    let mut text = ArrayString::new();
+    text.push_str("what stood here");
+    id.show(&mut text);
+    let read = ClipId::parse("0x2020202020202020");
+    assert_eq!(rt; (text.as_str(), read), ("0x2020202020202020", Ok(id)));
     for &(text, fault) in &TEXTS_OF_NO_ID {
         assert_eq!(rt; ClipId::parse(text), Err(fault), "at {text}");
     }
@@ -71,13 +65,6 @@ fn is_time_code(rt: &impl Abort, rate: Rate, text: &str, number: u32, bytes: [u8
     assert_eq!(rt; read, (Some(timecode), Ok(timecode)), "at {text}");
 }
 
-#[test]
-fn time_codes_are_numbered_packed_and_shown(rt: HostRuntime) {
-    for &(rate, text, number, bytes) in &TIME_CODES {
-        is_time_code(&rt, rate, text, number, bytes);
-    }
-}
-
 static DAYS: [(Rate, u32); 4] = [
     (Rate::F24, 2_073_600),
     (Rate::F25, 2_160_000),
@@ -86,16 +73,15 @@ static DAYS: [(Rate, u32); 4] = [
 ];
 
 #[test]
-fn a_day_ends(rt: HostRuntime) {
+fn time_codes_are_numbered_packed_and_shown(rt: HostRuntime) {
+    for &(rate, text, number, bytes) in &TIME_CODES {
+        is_time_code(&rt, rate, text, number, bytes);
+    }
     for &(rate, frames) in &DAYS {
         let last = Timecode::from_frames(rate, frames - 1).is_some();
         let behind = Timecode::from_frames(rate, frames);
         assert_eq!(rt; (last, behind), (true, None), "at {rate:?}");
     }
-}
-
-#[test]
-fn bytes_and_texts_of_no_time_code_are_refused(rt: HostRuntime) {
     let bytes = (
         Timecode::from_bcd(Rate::F25, [0x25, 0x00, 0x00, 0x00]),
         Timecode::from_bcd(Rate::F25, [0x25, 0x6a, 0x00, 0x00]),
@@ -111,61 +97,4 @@ fn bytes_and_texts_of_no_time_code_are_refused(rt: HostRuntime) {
             Err(TcFault::Dropped)
         )
     );
-}
-
-/// Each of these faults has its words.
-fn are_worded<F: fmt::Display + Copy + Drop>(
-    rt: &(impl Abort + AllocGlobal),
-    rows: &[(F, &str)],
-) -> Result<(), AllocError> {
-    for &(fault, words) in rows {
-        assert_eq!(rt; format!(in rt.alloc(); "{fault}")?.as_str(), words);
-    }
-    Ok(())
-}
-
-static ID_WORDS: [(IdFault, &str); 6] = [
-    (IdFault::Empty, "the id is empty"),
-    (IdFault::TooLong, "the id has more than eight bytes"),
-    (
-        IdFault::BadByte(2),
-        "byte 2 of the id is no printable ascii character",
-    ),
-    (IdFault::EdgeSpace, "the id begins or ends with a space"),
-    (
-        IdFault::BadHex,
-        "the id has a digit that is none of 0-9 and a-f",
-    ),
-    (IdFault::HasPlainForm, "the id has a plain form"),
-];
-
-static TIME_CODE_WORDS: [(TcFault, &str); 7] = [
-    (
-        TcFault::NotBcd(3),
-        "byte 3 of the time code is no two decimal digits",
-    ),
-    (
-        TcFault::OutOfRange(Field::Frames),
-        "the frames of the time code are out of range",
-    ),
-    (
-        TcFault::OutOfRange(Field::Seconds),
-        "the seconds of the time code are out of range",
-    ),
-    (
-        TcFault::OutOfRange(Field::Minutes),
-        "the minutes of the time code are out of range",
-    ),
-    (
-        TcFault::OutOfRange(Field::Hours),
-        "the hours of the time code are out of range",
-    ),
-    (TcFault::Dropped, "the time code is dropped at this rate"),
-    (TcFault::Shape, "the time code has not the form of one"),
-];
-
-#[test]
-fn faults_are_worded(rt: HostRuntime) -> Result<(), AllocError> {
-    are_worded(&rt, &ID_WORDS)?;
-    are_worded(&rt, &TIME_CODE_WORDS)
 }
