@@ -1,7 +1,0 @@
-//! Tests of `vdcp_journal`, by its public calls.
-#![tactic(auto)]
-
-#[cfg(test)]
-mod reading_tests;
-#[cfg(test)]
-mod tests;

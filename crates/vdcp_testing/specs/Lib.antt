@@ -1,2 +1,0 @@
--- The definitions, file by file.
-pub mod Fails

@@ -1,0 +1,5 @@
+//! Tests of values, frames and words.
+mod faults;
+mod reader;
+mod spelling;
+mod values;
