@@ -1,4 +1,4 @@
-//! The steps of a reader, if the caller keeps the held bytes.
+//! The steps of a reader, for a caller that keeps the held bytes.
 ghost use Rattle.std.specs.Prelude.{◌≡◌, ◌+◌, ◌≤◌, ◌++◌, ◌↔◌, ℕ, IsTrue, length, take};
 ghost use Rattle.vdcp_frame.specs.Front.{CanHold, IsFront, is_part, looked_at};
 ghost use Rattle.vdcp_frame.specs.Head.{head_of, size_of};
@@ -11,22 +11,19 @@ use crate::got::Got;
 use crate::head::{FRAME, Head, LONGEST, NAK};
 use crate::message::Fault;
 
-/// Whether a reader can have taken `taken` bytes of a burst, 4,096 at most, and hold the last of these because they begin
-/// a message that isn't whole yet.
+/// Whether `held`, the last of `taken` bytes of a burst, 4,096 at most, can be the beginning of a message.
 pub fn can_hold(taken: usize, held: &[u8]) -> bool
     ensures { IsTrue result ↔ CanHold taken held.now }
 {
     taken <= LIMIT && held.len() <= taken && is_part(held)
 }
 
-// Whether the bytes begin a message and hold no whole one.
 fn is_part(bytes: &[u8]) -> bool
     ensures { IsTrue result ↔ IsUnfinished bytes.now }
 {
     needs_more(bytes)
 }
 
-// Whether more has to come before more is known.
 fn needs_more(bytes: &[u8]) -> bool
     ensures { result ≡ is_part (head_of bytes.now) }
 {
@@ -37,8 +34,8 @@ fn needs_more(bytes: &[u8]) -> bool
     }
 }
 
-/// Copies bytes of the piece to where the buffer's first `held` bytes end, up to the end of the message
-/// that they begin, or of the burst's limit, `taken` bytes of the burst being behind. Says how many.
+/// Copies bytes of the piece behind the buffer's first `held`, up to the end of their message or the burst's limit, and
+/// says how many. `taken` counts all bytes of the burst that came before, the held ones, too.
 pub fn fill(buffer: &mut [u8; LONGEST], taken: usize, held: usize, piece: &[u8]) -> usize
     requires held { held ≤ 258 }
     requires can { CanHold taken (take held buffer.old) }
@@ -55,7 +52,6 @@ pub fn fill(buffer: &mut [u8; LONGEST], taken: usize, held: usize, piece: &[u8])
     count
 }
 
-// How many bytes of those held and the piece to look at.
 fn size_shown(held: &[u8], piece: &[u8]) -> usize
     ensures { result ≡ size_of (head_of (looked_at held.now piece.now)) }
 {
@@ -67,7 +63,6 @@ fn size_shown(held: &[u8], piece: &[u8]) -> usize
     }
 }
 
-// Copies the piece to a place of the buffer.
 fn put(buffer: &mut [u8], at: usize, piece: &[u8])
     requires { at + length piece.now ≤ length buffer.old }
     ensures { take (at + length piece.now) buffer.new ≡ take at buffer.old ++ piece.now }
@@ -75,8 +70,7 @@ fn put(buffer: &mut [u8], at: usize, piece: &[u8])
     buffer[at..at + piece.len()].copy_from_slice(piece);
 }
 
-/// What a reader gives that took `taken` bytes of a burst and holds `held` of them: `front` is those, and after them the
-/// next ones of the piece, as `fill` copies them. Says how many bytes of the piece it takes.
+/// What `Reader::feed` gives, and how many bytes it takes. `front` is the held bytes and those that `fill` copied.
 pub fn read_front<'a>(front: &'a [u8], taken: usize, held: usize, piece: &[u8]) -> (usize, Got<'a>)
     requires { (n : ℕ) × IsFront taken held piece.now n front.now }
     ensures gives { Gives (reading taken (take held front.now)) piece.now result.0 (answer_of result.1) }

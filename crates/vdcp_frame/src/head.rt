@@ -4,23 +4,20 @@ ghost use Rattle.std.specs.Prelude.{◌≡◌, ◌+◌, ◌*◌, ◌<◌, ◌≤
 
 use crate::message::{Fault, Message};
 
-/// The first byte of a framed message.
 pub(crate) const FRAME: u8 = 0x02;
 /// The one byte of ACK.
 pub(crate) const ACK: u8 = 0x04;
 /// The first byte of NAK.
 pub(crate) const NAK: u8 = 0x05;
 
-/// The bytes of the longest message.
+/// The first byte, the count, the 255 bytes that it counts at most, and the checksum.
 pub(crate) const LONGEST: usize = 258;
 
-/// What stands at the front of some bytes.
 pub(crate) enum Head<'a> {
-    /// No whole message yet: look again once there are at least this many bytes, 258 at most.
+    /// Look again once there are at least this many bytes, 258 at most.
     Part(usize),
     /// A fault, and the length of the shortest front that shows it.
     Wrong(Fault, usize),
-    /// A message and its length.
     Found(Message<'a>, usize),
 }
 
@@ -28,14 +25,12 @@ impl Head<'_> {
     ghost use Rattle.vdcp_frame.specs.Seen.{seen, Means};
     ghost use Rattle.vdcp_frame.specs.Head.{head_of};
 
-    /// What stands at the front of these bytes.
     pub(crate) fn at(bytes: &[u8]) -> Head<'_>
         ensures { Means bytes.now result }
     {
         Head::of(bytes)
     }
 
-    /// The same, said exactly.
     pub(crate) fn of(bytes: &[u8]) -> Head<'_>
         ensures { seen result ≡ head_of bytes.now }
     {
@@ -51,7 +46,6 @@ impl Head<'_> {
 
     ghost use Rattle.vdcp_frame.specs.Head.{size_of};
 
-    /// The bytes that are needed, or those of the fault or the message.
     pub(crate) fn size(self) -> usize
         ensures { result ≡ size_of (seen self.entry) }
     {
@@ -64,7 +58,6 @@ impl Head<'_> {
 
     ghost use Rattle.vdcp_frame.specs.Head.{frame_head};
 
-    // From the count on.
     fn of_frame(bytes: &[u8]) -> Head<'_>
         ensures { seen result ≡ frame_head bytes.now }
     {
@@ -77,7 +70,6 @@ impl Head<'_> {
 
     ghost use Rattle.vdcp_frame.specs.Head.{body_head};
 
-    // From CMD-1 on, with `size` bytes of data to come.
     fn of_body(size: usize, bytes: &[u8]) -> Head<'_>
         requires { size < 254 }
         ensures { seen result ≡ body_head size bytes.now }
@@ -111,7 +103,6 @@ pub(crate) fn check_byte(address: u8, code: u8, rest: &[u8]) -> u8
     ((256 - total % 256) % 256) as u8
 }
 
-// The sum of at most 256 bytes.
 fn total_of(bytes: &[u8]) -> u32
     requires { length bytes.now ≤ 256 }
     ensures total { result ≡ sum bytes.now }

@@ -1,5 +1,4 @@
-//! Laws of the definitions that the contracts cite. Each holds for all that it names; the functions
-//! do nothing.
+//! Laws of the definitions that the contracts cite: each function is there for its contract, which is the law.
 ghost use Rattle.std.specs.Prelude.{◌≡◌, ◌≢◌, ℕ, ◌+◌, ◌<◌, ◌≤◌, ◌++◌, [], ◌∷◌, List, flat_map, length, slice_index, slice_set};
 ghost use Rattle.vdcp_frame.specs.Message.{Content, framed, AreOctets, Fits, Spells, spelling};
 ghost use Rattle.vdcp_frame.specs.Reading.{SpellsAll, End, clean, fault, burst_limit, Reads};
@@ -10,26 +9,22 @@ ghost use Rattle.vdcp_frame.specs.Pieces.{Call, FeedsAll, with_message, messages
 ghost use Rattle.vdcp_frame.specs.declared.got.Ended.{Ended};
 ghost use Rattle.vdcp_frame.specs.declared.message.Fault.TheVariants.{BadSum};
 
-/// If one spelling begins with another, the two are the same, and of the same message.
 pub fn no_spelling_begins_another()
     ensures { (m n : Content) (a b more : List ℕ) → Spells m a → Spells n b → b ≡ a ++ more →
         (m ≡ n) × (more ≡ []) }
 {}
 
-/// A message that fits has exactly one spelling, and no other message has one.
 pub fn one_spelling()
     ensures spelt { (m : Content) → Fits m → Spells m (spelling m) }
     ensures only { (m : Content) (bytes : List ℕ) → Spells m bytes → Fits m × (bytes ≡ spelling m) }
 {}
 
-/// What is spelt is bytes: 1 to 258 for a message.
 pub fn what_is_spelt_is_bytes()
     ensures message { (m : Content) (bytes : List ℕ) → Spells m bytes → AreOctets bytes }
     ensures size { (m : Content) (bytes : List ℕ) → Spells m bytes → (0 < length bytes) × (length bytes ≤ 258) }
     ensures messages { (ms : List Content) (bytes : List ℕ) → SpellsAll ms bytes → AreOctets bytes }
 {}
 
-/// Each burst has exactly one reading: that of `messages_of` and `end_of`.
 pub fn one_reading()
     ensures some { (burst : List ℕ) → AreOctets burst → Reads burst (messages_of burst) (end_of burst) }
     ensures only { (burst : List ℕ) (ms ns : List Content) (e f : End) →
@@ -38,9 +33,8 @@ pub fn one_reading()
         Reads burst ms end → (ms ≡ messages_of burst) × (end ≡ end_of burst) }
 {}
 
-/// A framed message in a burst's first 4,096 bytes, of which exactly one byte from CMD-1 to the
-/// checksum is changed, reads as a bad sum at the place of the checksum, whatever whole messages come
-/// before and whatever follows.
+/// If exactly one byte of a framed message from CMD-1 to the checksum is changed, the burst reads as a bad sum at the
+/// checksum's place, whatever whole messages come before and whatever follows.
 pub fn one_changed_byte()
     ensures { (kind unit code : ℕ) (rest frame : List ℕ) (i byte : ℕ) (ms : List Content) (before more : List ℕ) →
         Spells (framed kind unit code rest) frame →
@@ -49,8 +43,7 @@ pub fn one_changed_byte()
         Reads ((before ++ slice_set frame i byte) ++ more) ms (fault BadSum (length before + length frame)) }
 {}
 
-/// Messages that were written one after another into the first 4,096 bytes of a burst are the first
-/// ones read from it, with anything after them; with nothing after them they are all of it.
+/// Messages that were written into a burst's first 4,096 bytes are the first that are read, whatever follows them.
 pub fn written_is_read()
     ensures first { (ms ns : List Content) (bytes more : List ℕ) (end : End) →
         SpellsAll ms bytes → length bytes ≤ burst_limit → Reads (bytes ++ more) ns end →
@@ -61,7 +54,6 @@ pub fn written_is_read()
         SpellsAll ms bytes → length bytes ≤ burst_limit → (messages_of bytes ≡ ms) × (end_of bytes ≡ clean) }
 {}
 
-/// A spelling alone reads as its one message, and with anything after it as this message first.
 pub fn a_spelling_is_its_message()
     ensures alone { (m : Content) (ms : List Content) (end : End) → Fits m →
         Reads (spelling m) ms end → (ms ≡ m ∷ []) × (end ≡ clean) }
@@ -73,8 +65,6 @@ pub fn a_spelling_is_its_message()
         (others : List Content) × (messages_of (spelling m ++ more) ≡ m ∷ others) }
 {}
 
-/// A reader follows the empty burst at its start, and after each call of `feed` the burst with the
-/// bytes taken and the message given.
 #[tactic(auto, using(crate::proofs::ReaderLemmas::follows_none, crate::proofs::FollowLemmas::next_followed))]
 pub fn what_is_fed_is_followed()
     ensures start { Follows [] [] (reading 0 []) }
@@ -82,8 +72,7 @@ pub fn what_is_fed_is_followed()
         FollowsNext burst ms answer new → Follows burst (ms ++ with_message answer []) new }
 {}
 
-/// What a reader has followed is read: if the burst ends here, its messages are those given so
-/// far and its end is what a silence tells; if it goes on, its messages begin with those.
+/// If the burst ends here, its messages are those given so far, and its end is what a silence tells.
 pub fn what_is_followed_is_read()
     ensures read { (burst : List ℕ) (ms : List Content) (p : Progress) →
         Follows burst ms p → ReadsAs burst ms (ended_of p) }
@@ -97,7 +86,6 @@ pub fn what_is_followed_is_read()
         Follows burst ms p → (others : List Content) × (messages_of (burst ++ more) ≡ ms ++ others) }
 {}
 
-/// The reading that a silence tells is the computed one.
 #[tactic(auto, using(crate::proofs::FollowLemmas::told_messages, crate::proofs::FollowLemmas::told_end))]
 pub fn what_a_silence_tells_is_computed()
     ensures messages { (burst : List ℕ) (ms : List Content) (ended : Ended) → AreOctets burst →
@@ -106,8 +94,7 @@ pub fn what_a_silence_tells_is_computed()
         ReadsAs burst ms ended → IsEnd ended (end_of burst) }
 {}
 
-/// However a burst is cut into pieces, the messages that a new reader gives for them, their order,
-/// the end and its place are those of the reading of the joined pieces.
+/// However a burst is cut into pieces, a new reader gives the messages and the end of the joined pieces.
 #[tactic(auto, using(crate::proofs::PieceLemmas::pieces_read))]
 pub fn pieces_are_read_as_one()
     ensures { (pieces : List (List ℕ)) (calls : List (List Call)) (new : Progress) →

@@ -1,39 +1,19 @@
-//! Messages of the Video Disk Communications Protocol, in its unextended form.
+//! Messages of the Video Disk Communications Protocol, in its unextended form. Nothing here allocates.
 //!
-//! A burst is what comes in one direction from one silence to the next. If a whole burst lies in
-//! memory, `Messages` gives its messages one after another, and then how it ends:
-//!
+//! A burst is what comes in one direction from one silence to the next. `Messages` walks along one in memory:
 //! ```text
 //! let mut messages = Messages::of(burst);
-//! while let Some(message) = messages.next() {
-//!     use the message
-//! }
+//! while let Some(message) = messages.next() { .. }
 //! match messages.end() { End::Clean | End::Cut(_) | End::Fault(_, _) => .. }
 //! ```
-//!
-//! `read_at` is one step of such a walk, for a caller that keeps its place itself.
-//!
-//! If a burst comes in pieces, a `Reader` holds what has come of a message:
-//!
+//! A `Reader` takes one in pieces, and holds what has come of a message. At each piece, and then at the silence:
 //! ```text
-//! for each piece that comes {
-//!     let mut rest = piece;
-//!     loop {
-//!         match reader.next(&mut rest) {
-//!             Got::Message(message) => use the message,
-//!             Got::Fault(fault, place) => use the fault,
-//!             Got::More => break,
-//!         }
-//!     }
-//! }
-//! at a silence: reader.silence()
+//! let mut rest = piece;
+//! loop { match reader.next(&mut rest) { Got::More => break, Got::Message(m) => .., Got::Fault(fault, place) => .. } }
+//! reader.silence()
 //! ```
-//!
-//! `feed` is one step of it, for a caller that keeps its place in the piece itself; and of `feed` the steps are `fill` and
-//! `read_front`, for one that keeps the bytes held itself. What it kept `can_hold` tests.
-//!
-//! `write` appends a message's spelling to a buffer. Nothing here allocates: a message borrows its
-//! data from the burst, or from the reader's buffer.
+//! `read_at` and `feed` are single steps, for a caller that keeps its place; `can_hold`, `fill` and `read_front` are
+//! for one that keeps the held bytes, too. `write` appends a message's bytes to a buffer.
 #![tactic(auto)]
 
 mod burst;

@@ -1,19 +1,17 @@
-//! Messages, and what can be wrong with a burst of them.
+//! Messages, and the faults of a burst.
 
-/// A message of VDCP's unextended form.
 #[derive(Clone, Copy, Debug, PartialEq, Eq)]
 pub enum Message<'a> {
-    /// ACK: the byte 04h.
+    /// The byte 04h.
     Ack,
-    /// NAK: the byte 05h and one byte, which may be any.
+    /// The byte 05h, and one byte of any value.
     Nak(u8),
-    /// A framed message, of whatever type and code.
     Framed {
         /// The command type, 0 to 15: the upper half of CMD-1.
         kind: u8,
         /// The unit address, 0 to 15: the lower half of CMD-1.
         unit: u8,
-        /// The command code, CMD-2.
+        /// CMD-2.
         code: u8,
         /// The data, at most 253 bytes.
         rest: &'a [u8],
@@ -29,6 +27,6 @@ pub enum Fault {
     BadCount(u8),
     /// The bytes from CMD-1 to the checksum don't add up to 0 modulo 256.
     BadSum,
-    /// No fault stands among the burst's first 4,096 bytes, and it has more.
+    /// The burst has more than 4,096 bytes, and no fault is among these.
     Long,
 }

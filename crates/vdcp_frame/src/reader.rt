@@ -12,34 +12,28 @@ use crate::got::{Ended, Got};
 use crate::head::LONGEST;
 use std::marker::Model;
 
-/// Reads a burst that comes in pieces.
-///
-/// The caller passes each piece to `next`, until that says that none of it is left, and calls `silence` at each
-/// silence. `feed` is one such call, for a caller that keeps its place itself.
+/// Reads a burst that comes in pieces: pass each piece to `next` until that gives `More`, and call `silence` at each
+/// silence. `feed` is one step, for a caller that keeps its place in the piece itself.
 #[derive(Drop)]
 pub struct Reader {
     place: Place,
     buffer: [u8; LONGEST],
 }
 
-/// Where a reader is in a burst.
 #[derive(Clone, Copy)]
 pub(crate) enum Place {
-    /// After `taken` bytes. The last `held` of them are the first ones of the buffer, and begin a message.
+    /// The last `held` of the bytes taken begin a message, and are at the front of the buffer.
     Reading { taken: usize, held: usize },
-    /// After a fault.
     Failed,
 }
 
 impl Place {
-    // Between two messages, after `taken` bytes.
     const fn after(taken: usize) -> Self
         ensures { result ≡ places.Reading taken 0 }
     {
         Place::Reading { taken, held: 0 }
     }
 
-    // Where a reader stands after a call that took `count` more bytes.
     fn further(taken: usize, held: usize, count: usize, got: &Got) -> Self
         requires taken { taken + count ≤ 4097 }
         requires held { held ≤ 258 }
@@ -68,7 +62,6 @@ impl Model for Reader {
 }
 
 impl Reader {
-    /// A reader at the start of a burst.
     pub fn new() -> Self
         ensures new { result ≡ reading 0 [] }
         ensures follows { Follows [] [] result }
@@ -79,7 +72,7 @@ impl Reader {
         }
     }
 
-    /// Whether it is behind a fault: until the next silence it reads nothing.
+    /// Whether a fault has come, after which nothing is read until the next silence.
     pub fn has_failed(&self) -> bool
         ensures { result ≡ is_failed self.now }
     {
@@ -91,14 +84,11 @@ impl Reader {
     ghost use Rattle.std.specs.Prelude.{⊤};
     ghost use Rattle.vdcp_frame.specs.contracts.reader.Reader.{the_row};
 
-    /// Takes bytes of the burst until one message or one fault has ended, or else all of them, and
-    /// says how many it took. After a fault it takes all and reads nothing.
+    /// Takes bytes until a message or a fault has ended, or else all, and says how many. After a fault it takes all.
     pub fn feed(&mut self, piece: &[u8]) -> (usize, Got<'_>)
         ensures within { result.0 ≤ length piece.now }
         ensures some { 0 < length piece.now → 0 < result.0 }
-        // Which bytes are taken, and what they are with those held.
         ensures gives { Gives self.old piece.now result.0 (answer_of result.1) }
-        // What the burst's messages are with it, and where the reader is then.
         ensures follows { (burst : List ℕ) (ms : List Content) → Follows burst ms self.old →
             FollowsNext (burst ++ take result.0 piece.now) ms (answer_of result.1)
             (fed self.old piece.now result.0 (answer_of result.1)) }
@@ -115,11 +105,9 @@ impl Reader {
         (count, got)
     }
 
-    /// Reads on in a piece: takes bytes from the front of `rest`, up to the end of one message or one fault, or
-    /// else all of them, and leaves those after them there. `More` says that none is left.
+    /// As `feed`, but it takes the bytes from the front of `rest`. At `More` none is left.
     pub fn next(&mut self, rest: &mut &[u8]) -> Got<'_>
         ensures shorter { GoesOn (answer_of result) rest.old.now rest.new.now }
-        // What is taken and given, and where the reader is then.
         ensures* reads { sem 𝓛 (follows_so the_row the_row self.entry.ghost_name none (λ _ _. ⊤)
             (λ new. ReadsOn self.old rest.old.now (answer_of result) rest.new.now new)) }
     {
@@ -129,7 +117,7 @@ impl Reader {
         got
     }
 
-    /// The burst ends here; the next byte begins a new one.
+    /// Ends the burst: the next byte begins a new one.
     pub fn silence(&mut self) -> Ended
         ensures ended { result ≡ ended_of self.old }
         ensures new { self.new ≡ reading 0 [] }

@@ -8,13 +8,12 @@ use crate::message::Message;
 use arrayvec::ArrayVec;
 use thiserror::Error;
 
-/// The message does not fit after what the buffer holds.
 #[derive(Clone, Copy, Debug, PartialEq, Eq, Error)]
 #[error("no room for the message")]
 pub struct Full;
 
-/// Appends a message's spelling in VDCP's message format. Kind and unit are at most 15, and the data
-/// at most 253 bytes. `Full` if the buffer has no room for it; the buffer then stays as it was.
+/// Appends a message's bytes, with kind and unit at most 15, and at most 253 bytes of data. `Full`: the buffer has no
+/// room for them, and stays as it was.
 pub fn write<const N: usize>(message: &Message, out: &mut ArrayVec<u8, N>) -> Result<(), Full>
     requires { IsWritable (content_of message.now) }
     ensures spelt { Spells (content_of message.now) (spelling (content_of message.now)) }

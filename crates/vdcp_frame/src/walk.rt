@@ -1,4 +1,4 @@
-//! A walk along a whole burst in memory.
+//! A walk along a burst in memory.
 ghost use Rattle.std.specs.Prelude.{◌≡◌, ◌≤◌, ◌∷◌, [], length, take, IfSome, IfNone, IfOk, OnErr, IfErr};
 ghost use Rattle.vdcp_frame.specs.Burst.{messages_of, end_of};
 ghost use Rattle.vdcp_frame.specs.Message.{content_of};
@@ -16,14 +16,13 @@ use std::marker::Model;
 pub enum End {
     /// After a whole message, or with no byte.
     Clean,
-    /// Inside a message: how many bytes of it came.
+    /// Inside a message, of which this many bytes came.
     Cut(usize),
-    /// In a fault, with its place, counted from 1 at the burst's first byte.
+    /// In a fault, with its place from 1.
     Fault(Fault, usize),
 }
 
 impl End {
-    /// The end as a `Reader` tells it at a silence.
     pub fn ended(self) -> Ended
         ensures { IsEnd result (end_seen self) }
     {
@@ -35,12 +34,11 @@ impl End {
     }
 }
 
-/// The messages of a burst that lies in memory, one after another, and then its end.
+/// The messages of a burst in memory, one after another, and then its end.
 #[derive(Drop)]
 pub struct Messages<'a> {
     burst: &'a [u8],
     place: usize,
-    // None until it's come upon.
     end: Option<End>,
 }
 
@@ -58,7 +56,6 @@ impl<'a> Model for Messages<'a> {
 }
 
 impl<'a> Messages<'a> {
-    /// All messages of the burst.
     pub fn of(burst: &'a [u8]) -> Self
         ensures burst { result.burst ≡ burst.now }
         ensures all { coming result ≡ messages_of burst.now }
@@ -70,7 +67,6 @@ impl<'a> Messages<'a> {
         }
     }
 
-    /// The next message, or none if the burst has no more.
     pub fn next(&mut self) -> Option<Message<'a>>
         ensures some { IfSome result (λ m. coming self.old ≡ content_of m ∷ coming self.new) }
         ensures none { IfNone result (coming self.old ≡ []) }
@@ -100,7 +96,6 @@ impl<'a> Messages<'a> {
         }
     }
 
-    // The next message, or else how the burst ends.
     fn step(&mut self) -> Result<Message<'a>, End>
         ensures some { IfOk result (λ m. coming self.old ≡ content_of m ∷ coming self.new) }
         ensures none { OnErr result (coming self.old ≡ []) }
@@ -120,7 +115,7 @@ impl<'a> Messages<'a> {
     }
 }
 
-/// How many bytes of a burst are whole messages.
+/// How many bytes at the front of a burst are whole messages.
 pub fn whole_messages(burst: &[u8]) -> usize
     ensures limit { result ≤ 4096 }
     ensures within { result ≤ length burst.now }

@@ -10,11 +10,9 @@ use crate::id_text::{
 };
 use arrayvec::ArrayString;
 
-/// A clip's ID: eight bytes, of any values.
-///
-/// Its text is plain if all bytes are printable ASCII (20h to 7Eh) and the first isn't a space:
-/// the bytes up to the last that isn't a space. Else the text is `0x` with the bytes in sixteen
-/// lower-case hexadecimal digits. So an ID has one text and no other (this profile).
+/// A clip's ID: eight bytes of any values, with exactly one text (this profile). If all are printable ASCII (20h to
+/// 7Eh) and the first isn't a space, the text is the bytes without the spaces at their end. Otherwise it is `0x` and
+/// sixteen lower-case hexadecimal digits.
 #[derive(Clone, Copy, Debug, PartialEq, Eq)]
 pub struct ClipId {
     bytes: [u8; 8],
@@ -24,7 +22,6 @@ pub struct ClipId {
 impl ClipId {
     ghost use Rattle.vdcp_value.specs.Ids.{id_bytes, text_of_id};
 
-    /// The ID of these bytes.
     pub fn new(bytes: [u8; 8]) -> ClipId
         ensures { id_bytes result ≡ bytes }
     {
@@ -42,16 +39,14 @@ impl ClipId {
         }
     }
 
-    /// The ID's bytes.
     pub fn bytes(&self) -> [u8; 8]
         ensures { result ≡ id_bytes self.now }
     {
         self.bytes
     }
 
-    /// The ID that has this text. A text that no ID has is refused by its first fault. Of no bytes
-    /// that is `Empty`; of `0x` and sixteen bytes `BadHex`, then `HasPlainForm`; of any other text
-    /// `TooLong`, then `BadByte`, then `EdgeSpace`.
+    /// Reads an ID's text. The first fault is given: of no bytes `Empty`; of `0x` and sixteen bytes `BadHex`, then
+    /// `HasPlainForm`; of any other text `TooLong`, then `BadByte`, then `EdgeSpace`.
     pub fn parse(text: &str) -> Result<ClipId, IdFault>
         ensures read { IfOk result (λ id. IsTextOf text.now (id_bytes id)) }
         ensures accepts { (id : ClipId) → IsTextOf text.now (id_bytes id) → result ≡ Ok id }
@@ -60,7 +55,7 @@ impl ClipId {
         ClipId::parse_ascii(text.as_bytes())
     }
 
-    /// The ID of a text in bytes, refused as `parse` does. A byte that isn't ASCII is in no ID's text.
+    /// As `parse`, but of bytes, which need not be UTF-8.
     pub fn parse_ascii(text: &[u8]) -> Result<ClipId, IdFault>
         ensures read { IfOk result (λ id. IsTextOf text.now (id_bytes id)) }
         ensures accepts { (id : ClipId) → IsTextOf text.now (id_bytes id) → result ≡ Ok id }
@@ -75,7 +70,6 @@ impl ClipId {
         }
     }
 
-    /// Writes the ID's text in place of the buffer's.
     pub fn show(&self, text: &mut ArrayString<18>)
         ensures text { IsTextOf text.new.bytes (id_bytes self.now) }
         ensures same { text.new.bytes ≡ text_of_id self.now }
@@ -89,14 +83,12 @@ impl ClipId {
         }
     }
 
-    /// Whether the text is the bytes without the spaces at their end.
     fn has_plain_form(&self) -> bool
         ensures { result ≡ is_plain (without_end_spaces (id_bytes self.now)) }
     {
         is_plain(without_end_spaces(&self.bytes))
     }
 
-    /// The ID of a plain form.
     fn from_plain(text: &[u8]) -> Result<ClipId, IdFault>
         requires some { 1 ≤ length text.now }
         requires plain { IsFalse (is_hex_long text.now) }
@@ -119,7 +111,6 @@ impl ClipId {
         Ok(ClipId::new(bytes))
     }
 
-    /// The ID of `0x` and sixteen digits.
     fn from_hex(text: &[u8]) -> Result<ClipId, IdFault>
         requires { IsTrue (is_hex_long text.now) }
         ensures read { IfOk result (λ id. IsTextOf text.now (id_bytes id)) }

@@ -1,8 +1,8 @@
-//! The faults of IDs, of time codes, and of rows that have them.
+//! Faults of IDs, of time codes and of rows of files.
 use std::fmt;
 use thiserror::Error;
 
-/// Why no ID has a text. `ClipId::parse` says which one is given if several hold.
+/// Why a text is no ID's. `ClipId::parse` says which fault is given if several hold.
 #[derive(Clone, Copy, Debug, PartialEq, Eq, Error)]
 pub enum IdFault {
     #[error("the id is empty")]
@@ -20,7 +20,6 @@ pub enum IdFault {
     HasPlainForm,
 }
 
-/// A field of a time code.
 #[derive(Clone, Copy, Debug, PartialEq, Eq)]
 pub enum Field {
     Frames,
@@ -40,8 +39,7 @@ impl fmt::Display for Field {
     }
 }
 
-/// Why bytes or a text are no time code at a rate. If several hold, the first of `Shape`,
-/// `NotBcd`, `OutOfRange` and `Dropped` is given.
+/// Why bytes or a text are no time code at a rate. The first of `Shape`, `NotBcd`, `OutOfRange` and `Dropped` is given.
 #[derive(Clone, Copy, Debug, PartialEq, Eq, Error)]
 pub enum TcFault {
     /// The place, from 1 to 4, of the first byte with a half above 9. Of bytes only.
@@ -50,34 +48,30 @@ pub enum TcFault {
     /// The first field out of its range, in the order frames, seconds, minutes, hours.
     #[error("the {0} of the time code are out of range")]
     OutOfRange(Field),
-    /// A label that drop frame leaves out.
     #[error("the time code is dropped at this rate")]
     Dropped,
-    /// Not the eleven bytes of `hh:mm:ss:ff`, or at drop frame of `hh:mm:ss;ff`. Of a text only.
+    /// A text that hasn't the form `hh:mm:ss:ff`, or at drop frame `hh:mm:ss;ff`.
     #[error("the time code has not the form of one")]
     Shape,
 }
 
-/// Why a row of a file is refused. If several hold, the first of `Long`, `TooMany`, `Columns`, `Id`, `Time` and `Twice` is
-/// given.
+/// Why a row is refused. The first of `Long`, `TooMany`, `Columns`, `Id`, `Time` and `Twice` is given.
 #[derive(Clone, Copy, Debug, PartialEq, Eq, Error)]
 pub enum RowFault {
-    /// It has another number of fields than it has to have.
     #[error("has a wrong number of fields")]
     Columns,
-    /// Its first field is no ID's text.
     #[error("has no clip id")]
     Id,
-    /// It has a bad time code, or one of frame 0 if a length is meant.
+    /// A time code is bad, or is of frame 0 where a length is meant.
     #[error("has no time code that it can have")]
     Time,
-    /// Its ID stands in an earlier row. Of a catalogue only.
+    /// Only a catalogue's row is refused for this.
     #[error("has the clip id of an earlier row")]
     Twice,
-    /// It is the first past the limit of 10,000.
+    /// A file has 10,000 rows at most.
     #[error("is one too many")]
     TooMany,
-    /// It has more than 64 KiB, and isn't read to its end.
+    /// It has more than 64 KiB; the rest of it isn't read.
     #[error("is too long")]
     Long,
 }

@@ -6,14 +6,12 @@ ghost use Rattle.arrayvec.specs.ArrayString.{array_string_len};
 
 use arrayvec::ArrayString;
 
-/// Whether the byte is one of 20h to 7Eh.
 pub(crate) fn is_plain_byte(byte: u8) -> bool
     ensures { result ≡ is_plain_byte byte }
 {
     b' ' <= byte && byte <= b'~'
 }
 
-/// Whether the text is one to eight of these bytes and has no space at either end.
 pub(crate) fn is_plain(text: &[u8]) -> bool
     ensures { result ≡ is_plain text.now }
 {
@@ -23,14 +21,12 @@ pub(crate) fn is_plain(text: &[u8]) -> bool
     are_plain(text) && !has_edge_space(text)
 }
 
-/// Whether each byte is one of 20h to 7Eh.
 fn are_plain(text: &[u8]) -> bool
     ensures { result ≡ list_all is_plain_byte text.now }
 {
     text.iter().all(|byte| is_plain_byte(*byte))
 }
 
-/// Whether the text begins or ends with a space.
 pub(crate) fn has_edge_space(text: &[u8]) -> bool
     requires { 1 ≤ length text.now }
     ensures { result ≡ has_edge_space text.now }
@@ -38,14 +34,12 @@ pub(crate) fn has_edge_space(text: &[u8]) -> bool
     text[0] == b' ' || text[text.len() - 1] == b' '
 }
 
-/// Whether the text is `0x` and sixteen bytes.
 pub(crate) fn is_hex_long(text: &[u8]) -> bool
     ensures { result ≡ is_hex_long text.now }
 {
     text.len() == 18 && text[0] == b'0' && text[1] == b'x'
 }
 
-/// The bytes without the spaces at their end.
 pub(crate) fn without_end_spaces(bytes: &[u8]) -> &[u8]
     ensures { result.now ≡ without_end_spaces bytes.now }
 {
@@ -56,7 +50,6 @@ pub(crate) fn without_end_spaces(bytes: &[u8]) -> &[u8]
     kept
 }
 
-/// Appends a plain text.
 pub(crate) fn push_plain(text: &mut ArrayString<18>, plain: &[u8])
     requires room { array_string_len text.old + length plain.now ≤ 18 }
     requires ascii { IsTrue (list_all is_plain_byte plain.now) }
@@ -67,7 +60,6 @@ pub(crate) fn push_plain(text: &mut ArrayString<18>, plain: &[u8])
     }
 }
 
-/// Writes `0x` and two digits a byte into an empty buffer.
 #[tactic(auto, using(crate::proofs::HexForm::length_of_pairs))]
 pub(crate) fn push_hex(text: &mut ArrayString<18>, bytes: &[u8; 8])
     requires { text.old.bytes ≡ [] }
@@ -80,7 +72,6 @@ pub(crate) fn push_hex(text: &mut ArrayString<18>, bytes: &[u8; 8])
     }
 }
 
-/// The bytes that sixteen digits write.
 pub(crate) fn bytes_of_hex(digits: &[u8]) -> Option<[u8; 8]>
     requires { length digits.now ≡ 16 }
     ensures read { IfSome result (λ bytes. flat_map hex_pair bytes ≡ digits.now) }
@@ -93,7 +84,6 @@ pub(crate) fn bytes_of_hex(digits: &[u8]) -> Option<[u8; 8]>
     Some(bytes)
 }
 
-/// The digit of a number below sixteen: 0 to 9, then a to f.
 fn hex_digit(n: u8) -> u8
     requires { n < 16 }
     ensures digit { result ≡ hex_digit n }
@@ -102,7 +92,6 @@ fn hex_digit(n: u8) -> u8
     if n < 10 { b'0' + n } else { b'a' + (n - 10) }
 }
 
-/// The number that a digit stands for; None if it is none.
 fn hex_value(digit: u8) -> Option<u8>
     ensures some { IsSome result ↔ IsTrue (is_hex_digit digit) }
     ensures below { IfSome result (λ n. n < 16) }

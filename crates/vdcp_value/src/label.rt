@@ -1,4 +1,4 @@
-//! What a time code writes, before it is known to be lawful.
+//! The label that a time code writes, lawful or not.
 ghost use Rattle.std.specs.Prelude.{IsTrue, ◌≡◌, ◌<◌, ◌+◌, ◌-◌, ◌*◌, ◌/◌, ◌%◌, IfOk, IfErr, Some};
 ghost use Rattle.vdcp_value.specs.Bcd.{label_fault};
 ghost use Rattle.vdcp_value.specs.Day.{frame_number, frames_of_day};
@@ -8,7 +8,6 @@ ghost use Rattle.vdcp_value.specs.declared.rate.Rate.TheVariants.{D30};
 use crate::faults::{Field, TcFault};
 use crate::rate::Rate;
 
-/// What a time code writes.
 #[derive(Clone, Copy, Debug, PartialEq, Eq)]
 pub struct Label {
     pub hours: u8,
@@ -18,7 +17,6 @@ pub struct Label {
 }
 
 impl Label {
-    /// Refuses a label that stands for no frame.
     pub(crate) fn check(&self, rate: Rate) -> Result<(), TcFault>
         ensures lawful { IfOk result (λ _. IsTrue (is_lawful rate self.now)) }
         ensures refused { IfErr result (λ fault. label_fault rate self.now ≡ Some fault) }
@@ -38,7 +36,6 @@ impl Label {
         }
     }
 
-    /// Whether drop frame leaves this label out.
     fn is_dropped(&self, rate: Rate) -> bool
         ensures { result ≡ is_dropped rate self.now }
     {
@@ -48,14 +45,13 @@ impl Label {
         }
     }
 
-    /// The label of a frame.
     #[tactic(auto, using(crate::proofs::FrameNumbers::frame_number_is))]
     pub(crate) fn of_frame(rate: Rate, frame: u32) -> Label
         requires { frame < frames_of_day rate }
         ensures lawful { IsTrue (is_lawful rate result) }
         ensures number { frame_number rate result ≡ frame }
     {
-        // With the labels that are left out counted too, labels are digits.
+        // If the labels that drop frame leaves out are counted, too, a frame's label is the digits of its place.
         let place = match rate {
             Rate::F24 | Rate::F25 | Rate::F30 => frame,
             Rate::D30 => place_among_all(frame),
@@ -69,7 +65,6 @@ impl Label {
         }
     }
 
-    /// The frame that a lawful label stands for.
     #[tactic(auto, using(crate::proofs::FrameNumbers::frame_number_is))]
     pub(crate) fn frame(&self, rate: Rate) -> u32
         requires { IsTrue (is_lawful rate self.now) }
@@ -85,8 +80,7 @@ impl Label {
     }
 }
 
-/// Where the label of a drop frame's frame stands among all labels, those that are left out too: two
-/// are in each of nine minutes out of ten.
+/// Drop frame leaves out two labels in each of nine minutes out of ten.
 fn place_among_all(frame: u32) -> u32
     requires { frame < frames_of_day D30 }
     ensures passed { result ≡ frame + 2 * (result / 1_800 - result / 18_000) }

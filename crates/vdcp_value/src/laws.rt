@@ -1,5 +1,4 @@
-//! The laws of the definitions in `specs/`. What a law says is the contract of its function, whose
-//! body does nothing; the last four read back what was written, for any value.
+//! Laws of the definitions in `specs/`: each function is there for its contract, which is the law.
 
 ghost use Rattle.std.specs.Prelude.{◌≡◌, ◌+◌, ◌<◌, ◌≤◌, ◌↔◌, All, IsAscii, IsTrue, List, ℕ, length, Ok, Some};
 ghost use Rattle.vdcp_value.specs.Bcd.{frames_in, is_time, label_of_bcd};
@@ -25,12 +24,10 @@ use crate::rate::Rate;
 use crate::timecode::Timecode;
 use arrayvec::ArrayString;
 
-/// A list of n bytes has n numbers, each below 256.
 pub fn bytes_are_counted()
     ensures { (n : ℕ) (bytes : List ℕ) → AreBytes n bytes ↔ ((length bytes ≡ n) × All (λ byte. byte < 256) bytes) }
 {}
 
-/// An ID is eight bytes, equal bytes are one ID, and eight bytes are those of the ID that `id_of` gives.
 pub fn an_id_is_its_bytes()
     ensures eight { (id : ClipId) → AreBytes 8 (id_bytes id) }
     ensures one { (a b : ClipId) → id_bytes a ≡ id_bytes b → a ≡ b }
@@ -39,41 +36,33 @@ pub fn an_id_is_its_bytes()
     ensures of_id { (id : ClipId) → id_of (id_bytes id) ≡ id }
 {}
 
-/// Each ID has exactly one text.
 pub fn an_id_has_one_text()
     ensures some { (id : ClipId) → IsTextOf (text_of_id id) (id_bytes id) }
     ensures one { (id : ClipId) (text : List ℕ) → IsTextOf text (id_bytes id) → text ≡ text_of_id id }
 {}
 
-/// An ID's text is 1 to 18 ASCII bytes.
 pub fn the_text_of_an_id_is_short()
     ensures ascii { (id : ClipId) → IsAscii (text_of_id id) }
     ensures some { (id : ClipId) → 1 ≤ length (text_of_id id) }
     ensures most { (id : ClipId) → length (text_of_id id) ≤ 18 }
 {}
 
-/// A text is at most one ID's.
 pub fn a_text_is_of_one_id()
     ensures { (a b : ClipId) (text : List ℕ) → IsTextOf text (id_bytes a) → IsTextOf text (id_bytes b) → a ≡ b }
 {}
 
-/// An ID's text says the ID: `id_of_text` gives it.
 pub fn a_text_says_its_id()
     ensures { (id : ClipId) (text : List ℕ) → IsTextOf text (id_bytes id) → id_of_text text ≡ id }
 {}
 
-/// A text that is refused is no ID's.
 pub fn a_refused_text_is_no_ids()
     ensures { (id : ClipId) (text : List ℕ) (fault : IdFault) → IsIdFault text fault → ¬ IsTextOf text (id_bytes id) }
 {}
 
-/// A text is refused with one fault only.
 pub fn a_text_has_one_fault()
     ensures { (text : List ℕ) → (a b : IdFault) → IsIdFault text a → IsIdFault text b → a ≡ b }
 {}
 
-/// A day has as many lawful labels as frames, and they are those in their ranges that drop frame
-/// doesn't leave out.
 pub fn a_day_has_its_lawful_labels(rate: Rate)
     ensures number { length (lawful_labels rate) ≡ frames_of_day rate }
     ensures lawful { (label : Label) → IsTrue (is_lawful rate label) ↔ Stands label (lawful_labels rate) }
@@ -86,8 +75,6 @@ pub fn a_time_code_is_one()
     ensures by_text { (a b : Timecode) → rate_of a ≡ rate_of b → text_of a ≡ text_of b → a ≡ b }
 {}
 
-/// The four bytes of a time code are bytes, they are lawful at its rate, and they write its label,
-/// so that they say its frame number.
 pub fn a_time_code_has_lawful_bytes()
     ensures four { (timecode : Timecode) → AreBytes 4 (bcd_of timecode) }
     ensures lawful { (timecode : Timecode) → IsTrue (is_time (rate_of timecode) (bcd_of timecode)) }
@@ -95,27 +82,22 @@ pub fn a_time_code_has_lawful_bytes()
     ensures number { (timecode : Timecode) → frames_in (rate_of timecode) (bcd_of timecode) ≡ frames_of timecode }
 {}
 
-/// Four bytes that are lawful at a rate are those of a time code of that rate.
 pub fn lawful_bytes_are_a_time_codes()
     ensures { (rate : Rate) (bytes : List ℕ) → AreBytes 4 bytes → IsTrue (is_time rate bytes) →
         (timecode : Timecode) × (rate_of timecode ≡ rate) × (bcd_of timecode ≡ bytes) }
 {}
 
-/// A time code's text is eleven ASCII bytes.
 pub fn the_text_of_a_time_code_is_eleven_bytes()
     ensures ascii { (timecode : Timecode) → IsAscii (text_of timecode) }
     ensures eleven { (timecode : Timecode) → length (text_of timecode) ≡ 11 }
 {}
 
-/// A text that is refused at a rate is no time code's, and it has one fault only.
 pub fn a_refused_text_is_no_time_codes()
     ensures none { (timecode : Timecode) (fault : TcFault) → ¬ IsTextFault (rate_of timecode) (text_of timecode) fault }
     ensures one { (rate : Rate) (text : List ℕ) (a b : TcFault) → IsTextFault rate text a → IsTextFault rate text b →
         a ≡ b }
 {}
 
-/// A part that fits a clip is two lawful time codes at the clip's rate, has at least one frame, and
-/// ends within the clip.
 pub fn a_part_that_fits_lies_within()
     ensures start { (part : Part) (clip : Timecode) → IsTrue (part_fits part clip) →
         IsTrue (is_time (rate_of clip) part.start) }
@@ -127,7 +109,6 @@ pub fn a_part_that_fits_lies_within()
         frames_in (rate_of clip) part.start + frames_in (rate_of clip) part.duration ≤ frames_of clip }
 {}
 
-/// The text of an ID is read back.
 pub fn a_shown_id_is_read_back(id: &ClipId) -> Result<ClipId, IdFault>
     ensures { result ≡ Ok id.now }
 {
@@ -136,7 +117,6 @@ pub fn a_shown_id_is_read_back(id: &ClipId) -> Result<ClipId, IdFault>
     ClipId::parse(text.as_str())
 }
 
-/// The text of a time code is read back at its rate.
 pub fn a_shown_time_code_is_read_back(timecode: &Timecode) -> Result<Timecode, TcFault>
     ensures { result ≡ Ok timecode.now }
 {
@@ -145,14 +125,12 @@ pub fn a_shown_time_code_is_read_back(timecode: &Timecode) -> Result<Timecode, T
     Timecode::parse(timecode.rate(), text.as_str())
 }
 
-/// The bytes of a time code are read back at its rate.
 pub fn a_packed_time_code_is_read_back(timecode: &Timecode) -> Result<Timecode, TcFault>
     ensures { result ≡ Ok timecode.now }
 {
     Timecode::from_bcd(timecode.rate(), timecode.to_bcd())
 }
 
-/// The frame number of a time code is read back at its rate.
 pub fn a_numbered_time_code_is_read_back(timecode: &Timecode) -> Option<Timecode>
     ensures { result ≡ Some timecode.now }
 {

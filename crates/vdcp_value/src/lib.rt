@@ -1,9 +1,4 @@
-//! The values that commands and replies carry: clip IDs, time codes at a rate, parts of clips, and
-//! items, which are a clip or a part of one.
-//!
-//! A `ClipId` is eight bytes with one text each. A `Timecode` is a lawful label of a day at its rate,
-//! seen as a frame number, as four bytes or as text. All are plain values; nothing here takes memory,
-//! and a text is written into a buffer that the caller holds:
+//! The values that commands and replies carry: clip IDs, time codes at a rate, and items (clips, or parts of them).
 //!
 //! ```text
 //! let id = ClipId::parse("CLIP0001")?;
@@ -11,10 +6,7 @@
 //! let mut text = ArrayString::new();
 //! id.show(&mut text);
 //! ```
-//!
-//! What is read is checked once, by `parse` or `from_bcd`, which name the first fault. `laws` has the
-//! laws that hold of all these values.
-//!
+//! `parse` and `from_bcd` check what they read, once, and name the first fault. Nothing here takes memory.
 //! Files, in reading order: `clip_id`, `id_text`, `rate`, `label`, `timecode`, `part`, `faults`, `laws`.
 #![tactic(auto)]
 

@@ -6,21 +6,18 @@ use crate::clip_id::ClipId;
 use crate::rate::Rate;
 use crate::timecode::Timecode;
 
-/// A part of a clip, by two time codes at the clip's rate, as `Timecode::to_bcd` gives them. Any
-/// bytes may stand here, as they came: `fits` tests them.
+/// A part of a clip: two packed BCD time codes at the clip's rate, of any bytes; `fits` tests them.
 #[derive(Clone, Copy, Debug, PartialEq, Eq)]
 pub struct Part {
-    /// The first frame, counted from the clip's own.
+    /// Counted from the clip's first frame, which is 0.
     pub start: [u8; 4],
-    /// How many frames.
     pub duration: [u8; 4],
 }
 
 impl Part {
     ghost use Rattle.vdcp_value.specs.Parts.{part_fits};
 
-    /// Whether a clip of this length has the part: start and duration are lawful time codes at the
-    /// length's rate, the duration has at least one frame, and the part ends within the clip.
+    /// Whether the part is lawful at this length's rate, has at least one frame, and ends within a clip of this length.
     #[tactic(auto, unfolding(crate::specs::Parts::part_fits))]
     pub fn fits(&self, length: &Timecode) -> bool
         ensures { result ≡ part_fits self.now length.now }
@@ -33,7 +30,6 @@ impl Part {
     }
 }
 
-/// The frame number that four bytes say, if they are a lawful time code's.
 fn frames_in(rate: Rate, bytes: [u8; 4]) -> Option<u32>
     ensures lawful { IsSome result ↔ IsTrue (is_time rate bytes) }
     ensures number { IfSome result (λ frames. frames ≡ frames_in rate bytes) }
@@ -48,7 +44,6 @@ fn frames_in(rate: Rate, bytes: [u8; 4]) -> Option<u32>
 /// What is cued and aired: a clip, or a part of it.
 #[derive(Clone, Copy, Debug, PartialEq, Eq)]
 pub struct Item {
-    /// The clip.
     pub id: ClipId,
     /// `None` for the whole clip.
     pub part: Option<Part>,

@@ -4,22 +4,17 @@ ghost use Rattle.vdcp_value.specs.Clock.{frames_after, millis_of};
 ghost use Rattle.vdcp_value.specs.Day.{frames_of_day};
 ghost use Rattle.vdcp_value.specs.Labels.{frames_per_second};
 
-/// How frames are counted.
 #[derive(Clone, Copy, Debug, PartialEq, Eq)]
 pub enum Rate {
-    /// 24 frames a second.
     F24,
-    /// 25 frames a second.
     F25,
-    /// 30 frames a second.
     F30,
-    /// 30 frames a second by drop frame (SMPTE ST 12-1): each minute that isn't divisible by ten
-    /// leaves out its first two labels.
+    /// Drop frame (SMPTE ST 12-1): minutes not divisible by ten lack their first two labels; 30 frames last 1.001 s.
     D30,
 }
 
 impl Rate {
-    /// A label's frames are below this, and at most this many frames pass in a second.
+    /// A label's frames are below this; at most this many frames pass in a second.
     pub fn frames_per_second(self) -> u32
         ensures { result ≡ frames_per_second self }
     {
@@ -30,7 +25,6 @@ impl Rate {
         }
     }
 
-    /// How many frames a day has.
     pub(crate) fn frames_of_day(self) -> u32
         ensures { result ≡ frames_of_day self }
     {
@@ -42,7 +36,7 @@ impl Rate {
         }
     }
 
-    /// How many frames are over after this many nanoseconds.
+    /// How many whole frames pass in this time.
     pub fn frames_after(self, nanoseconds: u64) -> u128
         ensures { result ≡ frames_after self nanoseconds }
     {
@@ -55,7 +49,6 @@ impl Rate {
         }
     }
 
-    /// The least number of nanoseconds after which a frame is over.
     pub fn frame_nanos(self) -> u64
         ensures over { frames_after self result ≡ 1 }
         ensures least { frames_after self (result - 1) ≡ 0 }
@@ -68,7 +61,7 @@ impl Rate {
         }
     }
 
-    /// How long frames last, in whole milliseconds.
+    /// How long this many frames last, rounded down.
     pub fn millis_of(self, frames: u32) -> u64
         ensures { result ≡ millis_of self frames }
     {

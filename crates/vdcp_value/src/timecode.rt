@@ -13,9 +13,7 @@ use crate::label::Label;
 use crate::rate::Rate;
 use arrayvec::ArrayString;
 
-/// A lawful time code at a rate: hours, minutes and seconds of a day, and a frame of the second, which
-/// is below the rate's number of frames. Drop frame leaves out frames 00 and 01 of second 00 in all
-/// minutes but 00, 10, 20, 30, 40 and 50 (SMPTE ST 12-1).
+/// A lawful time code at a rate: hours, minutes and seconds of a day, and a frame below the rate's number of frames.
 #[derive(Clone, Copy, Debug, PartialEq, Eq)]
 pub struct Timecode {
     rate: Rate,
@@ -26,7 +24,7 @@ pub struct Timecode {
 impl Timecode {
     ghost use Rattle.vdcp_value.specs.Timecodes.{rate_of, label_of, frames_of, bcd_of, text_of};
 
-    /// The time code of a frame number; None from the number of the day's frames on.
+    /// `None` if the day has no frame of this number; its first is 0.
     #[tactic(auto, using(crate::proofs::FrameNumbers::length_of_day))]
     pub fn from_frames(rate: Rate, frames: u32) -> Option<Timecode>
         ensures within { IsSome result ↔ (frames < length (lawful_labels rate)) }
@@ -42,7 +40,7 @@ impl Timecode {
         Some(Timecode { rate, label })
     }
 
-    /// The frame number: how many lawful time codes of the day stand before this one.
+    /// How many lawful time codes of the day stand before this one.
     #[tactic(auto, using(crate::proofs::Timecodes::frames_below))]
     pub fn frames(&self) -> u32
         ensures number { result ≡ frames_of self.now }
@@ -52,15 +50,13 @@ impl Timecode {
         self.label.frame(self.rate)
     }
 
-    /// The rate.
     pub fn rate(&self) -> Rate
         ensures { result ≡ rate_of self.now }
     {
         self.rate
     }
 
-    /// Frames, seconds, minutes and hours, each a byte of two decimal digits. The bytes don't say
-    /// whether the rate is drop frame.
+    /// Frames, seconds, minutes and hours in packed BCD, which doesn't tell drop frame from 30 frames a second.
     pub fn to_bcd(&self) -> [u8; 4]
         ensures { result ≡ bcd_of self.now }
     {
@@ -73,8 +69,7 @@ impl Timecode {
         ]
     }
 
-    /// Reads what `to_bcd` gives. The first fault that applies is given, in the order `NotBcd`,
-    /// `OutOfRange`, `Dropped`.
+    /// Reads what `to_bcd` gives. Faults: the first of `NotBcd`, `OutOfRange` and `Dropped`.
     #[tactic(auto, using(crate::proofs::Bcd::read_frames))]
     pub fn from_bcd(rate: Rate, bytes: [u8; 4]) -> Result<Timecode, TcFault>
         ensures same_rate { IfOk result (λ timecode. rate_of timecode ≡ rate) }
@@ -95,8 +90,7 @@ impl Timecode {
         Ok(Timecode { rate, label })
     }
 
-    /// Reads `hh:mm:ss:ff`, or at drop frame `hh:mm:ss;ff`. The first fault that applies is given, in
-    /// the order `Shape`, `OutOfRange`, `Dropped`.
+    /// Reads `hh:mm:ss:ff`, or at drop frame `hh:mm:ss;ff`. Faults: the first of `Shape`, `OutOfRange` and `Dropped`.
     pub fn parse(rate: Rate, text: &str) -> Result<Timecode, TcFault>
         ensures same_rate { IfOk result (λ timecode. rate_of timecode ≡ rate) }
         ensures read { IfOk result (λ timecode. text_of timecode ≡ text.now) }
@@ -107,7 +101,7 @@ impl Timecode {
         Timecode::parse_ascii(rate, text.as_bytes())
     }
 
-    /// Reads a text in bytes, refused as `parse` does. A byte that isn't ASCII is in no time code's text.
+    /// As `parse`, but of bytes, which need not be UTF-8.
     pub fn parse_ascii(rate: Rate, text: &[u8]) -> Result<Timecode, TcFault>
         ensures same_rate { IfOk result (λ timecode. rate_of timecode ≡ rate) }
         ensures read { IfOk result (λ timecode. text_of timecode ≡ text.now) }
@@ -122,7 +116,6 @@ impl Timecode {
         Ok(Timecode { rate, label })
     }
 
-    /// Writes `hh:mm:ss:ff`, or at drop frame `hh:mm:ss;ff`, in place of the buffer's text.
     pub fn show(&self, text: &mut ArrayString<11>)
         ensures { text.new.bytes ≡ text_of self.now }
     {
@@ -137,7 +130,6 @@ impl Timecode {
     }
 }
 
-/// What stands before the frames.
 fn frames_mark(rate: Rate) -> u8
     ensures { result ≡ frames_mark rate }
 {
@@ -147,7 +139,6 @@ fn frames_mark(rate: Rate) -> u8
     }
 }
 
-/// Appends two decimal digits.
 fn push_digits(text: &mut ArrayString<11>, n: u8)
     requires two { n < 100 }
     requires room { array_string_len text.old + 2 ≤ 11 }
@@ -157,7 +148,6 @@ fn push_digits(text: &mut ArrayString<11>, n: u8)
     text.push(char::from(b'0' + n % 10));
 }
 
-/// The label that a text writes, lawful or not.
 fn label_in(rate: Rate, text: &[u8]) -> Option<Label>
     ensures read { IfSome result (λ label. Writes rate text.now label) }
     ensures none { IfNone result ((label : Label) → ¬ Writes rate text.now label) }
@@ -176,7 +166,6 @@ fn label_in(rate: Rate, text: &[u8]) -> Option<Label>
     })
 }
 
-/// The number of two decimal digits.
 fn number(tens: u8, units: u8) -> Option<u8>
     ensures read { IfSome result (λ n. (n < 100) × (two_digits n ≡ tens ∷ units ∷ [])) }
     ensures none { IfNone result ((n : ℕ) → n < 100 → two_digits n ≢ tens ∷ units ∷ []) }
@@ -187,7 +176,6 @@ fn number(tens: u8, units: u8) -> Option<u8>
     Some(10 * (tens - b'0') + (units - b'0'))
 }
 
-/// Two decimal digits in the halves of a byte.
 fn bcd(n: u8) -> u8
     requires { n < 100 }
     ensures { result ≡ bcd_byte n }
@@ -195,7 +183,6 @@ fn bcd(n: u8) -> u8
     16 * (n / 10) + n % 10
 }
 
-/// The number of two decimal digits in the halves of a byte.
 fn from_digits(byte: u8, place: usize) -> Result<u8, TcFault>
     ensures read { IfOk result (λ n. IsTrue (is_bcd byte) × (n ≡ bcd_value byte)) }
     ensures refused { IfErr result (λ fault. IsFalse (is_bcd byte) × (fault ≡ NotBcd place)) }

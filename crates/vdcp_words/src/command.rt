@@ -1,4 +1,4 @@
-//! Commands: they are read, written and shown.
+//! How commands are read, written and shown.
 ghost use Rattle.std.specs.Prelude.{◌≡◌, ◌<◌, ◌≤◌, ℕ, All, length};
 ghost use Rattle.vdcp_frame.specs.Message.{content_of, framed, spelling, IsWritable};
 ghost use Rattle.vdcp_words.specs.Commands.{command_message, IsWritableCommand, ReadsCommand};
@@ -15,42 +15,34 @@ use arrayvec::{ArrayString, ArrayVec};
 use vdcp_frame::Message;
 use vdcp_value::ClipId;
 
-/// What the controller asks of the server's port.
-///
-/// The protocol has more commands; these are the ones of this profile.
+/// What the controller asks of the server's port: those of VDCP's commands that this profile has.
 #[derive(Clone, Copy, Debug, PartialEq, Eq)]
 pub enum Command {
     /// OPEN PORT: the port's number and the lock byte.
     Open(u8, u8),
-    /// CLOSE PORT: the port's number.
+    /// The port's number.
     Close(u8),
-    /// SELECT PORT: the port's number.
+    /// The port's number.
     Select(u8),
-    /// PLAY CUE: the clip to cue as a whole.
     PlayCue(ClipId),
-    /// CUE WITH DATA: the clip, and the start and the duration of the part to cue, both as packed
-    /// BCD time codes in the order frames, seconds, minutes, hours.
+    /// The clip, and start and duration of its part in packed BCD: frames, seconds, minutes, hours.
     CueData(ClipId, [u8; 4], [u8; 4]),
-    /// PLAY: airs the item whose cue is done.
+    /// Airs the item whose cue is done.
     Play,
-    /// STOP: empties the port's slots.
+    /// Empties both slots of the port.
     Stop,
-    /// PORT STATUS REQUEST: the bitmap of the status groups that are asked for.
+    /// The bitmap of the status groups that are asked for.
     Status(u8),
-    /// ACTIVE ID REQUEST: which clip plays.
+    /// Asks which clip plays.
     ActiveId,
-    /// ID REQUEST: whether the server has the clip.
+    /// Asks whether the server has the clip.
     IdRequest(ClipId),
-    /// ID SIZE REQUEST: how long the clip is.
+    /// Asks how long the clip is.
     IdSize(ClipId),
 }
 
 impl Command {
-    /// The command that the message carries, to whatever unit. It has exactly the data that the
-    /// command names (VDCP, and this profile for which commands there are).
-    ///
-    /// `NotCommand` for ACK and NAK; `Unknown` if no command has the message's type and code;
-    /// `Length` if one has, but with another number of data bytes.
+    /// Reads a command to whatever unit, with exactly its own data (VDCP; the choice of commands is this profile's).
     pub fn read(message: &Message) -> Result<Command, WordFault>
         ensures table { ReadsCommand (content_of message.now) result }
         ensures exact { result ≡ command_of (content_of message.now) }
@@ -72,8 +64,7 @@ impl Command {
         }
     }
 
-    /// The message that carries the command to the unit, which is at most 15. The data of the
-    /// message lies in `room`.
+    /// Makes the message that carries the command to the unit; its data lies in `room`.
     pub fn to_message<'a>(&self, unit: u8, room: &'a mut [u8; 16]) -> Message<'a>
         requires { unit ≤ 15 }
         ensures message { content_of result ≡ command_message unit self.now }
@@ -100,7 +91,6 @@ impl Command {
         }
     }
 
-    /// The bytes that carry the command to the unit, which is at most 15.
     pub fn encode(&self, unit: u8) -> ArrayVec<u8, LONGEST>
         requires { unit ≤ 15 }
         ensures bytes { result.items ≡ spelling (command_message unit self.now) }
@@ -110,8 +100,7 @@ impl Command {
         encoded(&self.to_message(unit, &mut room))
     }
 
-    /// Replaces the buffer's text by the command's (this profile), as `open 01 01`, `cue CLIP0001`
-    /// or `cue-data CLIP0001 00020000 00030000`. Bytes are two lower-case hexadecimal digits each.
+    /// Replaces the buffer's text by the command's (this profile), as `open 01 01`; bytes are lower-case hexadecimal.
     pub fn show(&self, text: &mut ArrayString<64>)
         ensures { text.new.bytes ≡ command_text self.now }
     {
@@ -162,7 +151,6 @@ impl Command {
     }
 }
 
-/// The commands of type 1, which act at once.
 #[tactic(auto, using(crate::proofs::CommandLemmas::other_lengths))]
 fn immediate(code: u8, rest: &[u8]) -> Result<Command, WordFault>
     ensures table { (unit : ℕ) → ReadsCommand (framed 1 unit code rest.now) result }
@@ -175,7 +163,6 @@ fn immediate(code: u8, rest: &[u8]) -> Result<Command, WordFault>
     }
 }
 
-/// The commands of type 2, which prepare what is to be aired.
 #[tactic(auto, using(crate::proofs::CommandLemmas::other_lengths))]
 fn preset(code: u8, rest: &[u8]) -> Result<Command, WordFault>
     ensures table { (unit : ℕ) → ReadsCommand (framed 2 unit code rest.now) result }
@@ -190,7 +177,6 @@ fn preset(code: u8, rest: &[u8]) -> Result<Command, WordFault>
     }
 }
 
-/// The commands of type 3, which ask for a reply.
 #[tactic(auto, using(crate::proofs::CommandLemmas::other_lengths))]
 fn sense_request(code: u8, rest: &[u8]) -> Result<Command, WordFault>
     ensures table { (unit : ℕ) → ReadsCommand (framed 3 unit code rest.now) result }

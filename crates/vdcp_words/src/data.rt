@@ -8,7 +8,6 @@ use crate::command::Command;
 use crate::fault::WordFault;
 use vdcp_value::ClipId;
 
-/// The word, if there is no data.
 pub(crate) fn nothing(rest: &[u8], word: Command) -> Result<Command, WordFault>
     ensures read { IfOk result (λ c. (c ≡ word) × (rest.now ≡ [])) }
     ensures length { IfErr result (λ e. (e ≡ WordFault.Length) × (length rest.now ≢ 0)) }
@@ -19,7 +18,6 @@ pub(crate) fn nothing(rest: &[u8], word: Command) -> Result<Command, WordFault>
     }
 }
 
-/// The one byte that the data is.
 pub(crate) fn byte(rest: &[u8]) -> Result<u8, WordFault>
     ensures read { IfOk result (λ b. rest.now ≡ b ∷ []) }
     ensures length { IfErr result (λ e. (e ≡ WordFault.Length) × (length rest.now ≢ 1)) }
@@ -30,7 +28,6 @@ pub(crate) fn byte(rest: &[u8]) -> Result<u8, WordFault>
     }
 }
 
-/// The ID that the data is.
 pub(crate) fn id(rest: &[u8]) -> Result<ClipId, WordFault>
     ensures read { IfOk result (λ id. rest.now ≡ id_bytes id) }
     ensures length { IfErr result (λ e. (e ≡ WordFault.Length) × (length rest.now ≢ 8)) }
@@ -39,7 +36,6 @@ pub(crate) fn id(rest: &[u8]) -> Result<ClipId, WordFault>
     Ok(ClipId::new(bytes))
 }
 
-/// The four bytes of the time code that the data is.
 pub(crate) fn time(rest: &[u8]) -> Result<[u8; 4], WordFault>
     ensures read { IfOk result (λ t. (rest.now ≡ t) × AreBytes 4 t) }
     ensures length { IfErr result (λ e. (e ≡ WordFault.Length) × (length rest.now ≢ 4)) }

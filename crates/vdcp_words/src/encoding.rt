@@ -7,11 +7,9 @@ ghost use Rattle.vdcp_words.specs.Messages.{rest_of};
 use arrayvec::ArrayVec;
 use vdcp_frame::{Message, write};
 
-/// As many bytes as the longest word has: CUE WITH DATA is four bytes from the start byte to the
-/// command's code, sixteen of data and the checksum.
+/// The bytes of CUE WITH DATA: four up to its code, sixteen of data and the checksum.
 pub const LONGEST: usize = 21;
 
-/// The bytes of a message that carries a word.
 #[tactic(auto, using(crate::proofs::WordBytes::short_spelling))]
 pub(crate) fn encoded(message: &Message) -> ArrayVec<u8, LONGEST>
     requires writable { IsWritable (content_of message.now) }

@@ -1,5 +1,4 @@
-//! Laws of the word tables, and what they make of bytes. Each holds for all that it names; the
-//! functions do nothing.
+//! Laws of the word tables: each function is there for its contract, which is the law.
 
 ghost use Rattle.std.specs.Prelude.{◌≡◌, ◌<◌, ◌≤◌, ℕ, List, [], ◌∷◌, ◌++◌, All, Result, Ok};
 ghost use Rattle.vdcp_frame.specs.Message.{Content, nak, Fits, spelling};
@@ -16,7 +15,6 @@ ghost use Rattle.vdcp_words.specs.declared.fault.WordFault.{WordFault};
 use vdcp_frame::laws::{one_reading, one_spelling, written_is_read};
 use vdcp_value::laws::{an_id_is_its_bytes, bytes_are_counted};
 
-/// A message of bytes is read as a command or has a fault, and that in one way.
 pub fn one_command()
     ensures some { (message : Content) → All (λ b. b < 256) (rest_of message) →
         ReadsCommand message (command_of message) }
@@ -26,7 +24,6 @@ pub fn one_command()
     ids_are_bytes();
 }
 
-/// A message of bytes is read as a reply or has a fault, and that in one way.
 pub fn one_reply()
     ensures some { (message : Content) → All (λ b. b < 256) (rest_of message) →
         ReadsReply message (reply_of message) }
@@ -36,7 +33,6 @@ pub fn one_reply()
     ids_are_bytes();
 }
 
-/// The message of a command is read as that command and as no other, and names its unit.
 pub fn written_command_is_read()
     ensures read { (unit : ℕ) (command : Command) → IsWritableCommand command →
         ReadsCommand (command_message unit command) (Ok command) }
@@ -50,8 +46,7 @@ pub fn written_command_is_read()
     one_command();
 }
 
-/// A reply's message is read as that reply and as no other, if it has a state byte exactly when bit 0
-/// of its bitmap asks for one. If it is framed it names its unit.
+/// A reply with a state byte exactly if bit 0 of its bitmap asks for one is read back from its message.
 pub fn written_reply_is_read()
     ensures read { (unit : ℕ) (reply : Reply) → IsWritableReply reply →
         ReadsReply (reply_message unit reply) (Ok reply) }
@@ -66,7 +61,6 @@ pub fn written_reply_is_read()
     one_reply();
 }
 
-/// The message of a command fits. Its bytes are read first, as that message, whatever follows them.
 pub fn command_is_read_first()
     ensures fits { (unit : ℕ) (command : Command) → unit ≤ 15 → IsWritableCommand command →
         Fits (command_message unit command) }
@@ -78,7 +72,6 @@ pub fn command_is_read_first()
     bursts_are_read();
 }
 
-/// The message of a reply fits. Its bytes are read first, as that message, whatever follows them.
 pub fn reply_is_read_first()
     ensures fits { (unit : ℕ) (reply : Reply) → unit ≤ 15 → IsWritableReply reply →
         Fits (reply_message unit reply) }
@@ -90,15 +83,13 @@ pub fn reply_is_read_first()
     bursts_are_read();
 }
 
-/// An empty burst: no message.
 pub fn no_bytes_are_no_message()
     ensures { (ms : List Content) (end : End) → Reads [] ms end → (ms ≡ []) × (end ≡ clean) }
 {
     bursts_are_read();
 }
 
-/// What the server writes at the end of a burst that it can't read to its end is one NAK: 04h for
-/// a fault, 80h for a burst that is cut short.
+/// The server's NAK at a burst's end: 04h after a fault, 80h inside a message.
 pub fn naks_of_a_burst_end()
     ensures fault { (ms : List Content) (end : End) → Reads (5 ∷ 0x04 ∷ []) ms end →
         (ms ≡ nak 0x04 ∷ []) × (end ≡ clean) }
@@ -108,7 +99,6 @@ pub fn naks_of_a_burst_end()
     bursts_are_read();
 }
 
-// What the laws of vdcp_value say of bytes and IDs.
 fn ids_are_bytes()
     ensures { ValueLaws }
 {
@@ -116,7 +106,6 @@ fn ids_are_bytes()
     an_id_is_its_bytes();
 }
 
-// What the laws of vdcp_frame say of readings.
 fn bursts_are_read()
     ensures { FrameLaws }
 {

@@ -1,4 +1,4 @@
-//! Replies: they are read, written and shown.
+//! How replies are read, written and shown.
 ghost use Rattle.std.specs.Prelude.{◌≡◌, ◌<◌, ◌≤◌, ℕ, All, length};
 ghost use Rattle.vdcp_frame.specs.Message.{content_of, framed, spelling, IsWritable};
 ghost use Rattle.vdcp_words.specs.Computed.{reply_of};
@@ -15,33 +15,27 @@ use arrayvec::{ArrayString, ArrayVec};
 use vdcp_frame::Message;
 use vdcp_value::ClipId;
 
-/// What the server answers.
 #[derive(Clone, Copy, Debug, PartialEq, Eq)]
 pub enum Reply {
     /// The command was executed.
     Ack,
-    /// The command was refused, or the burst couldn't be read: the error byte.
+    /// The error byte: the command was refused, or the burst couldn't be read.
     Nak(u8),
     /// To OPEN PORT: whether the port was granted.
     Opened(bool),
-    /// To PORT STATUS REQUEST: the bitmap of the status groups that follow, and the state byte.
+    /// To PORT STATUS REQUEST: the bitmap of the status groups, and the state byte that bit 0 announces.
     State(u8, Option<u8>),
     /// To ACTIVE ID REQUEST: the clip that plays.
     Active(Option<ClipId>),
     /// To ID REQUEST: whether the server has the clip.
     Present(bool),
-    /// To ID SIZE REQUEST: the clip's length as a packed BCD time code in the order frames, seconds,
-    /// minutes, hours.
+    /// To ID SIZE REQUEST: the clip's length in packed BCD: frames, seconds, minutes, hours.
     Size([u8; 4]),
 }
 
 impl Reply {
-    /// The reply that the message carries, from whatever unit (VDCP, and this profile for what each
-    /// byte means). Data after the bytes that a reply names is ignored. Bit 0 of a state's bitmap says
-    /// whether a state byte follows.
-    ///
-    /// `Unknown` if no reply has the message's type and code; `Length` if one has, but the
-    /// data ends too early. `NotCommand` never comes.
+    /// Reads a reply from whatever unit (VDCP; the meaning of each byte is this profile's). Data behind the reply's own
+    /// is ignored. `NotCommand` never comes.
     pub fn read(message: &Message) -> Result<Reply, WordFault>
         ensures table { ReadsReply (content_of message.now) result }
         ensures exact { result ≡ reply_of (content_of message.now) }
@@ -62,9 +56,7 @@ impl Reply {
         }
     }
 
-    /// The message that carries the reply from the unit, which is at most 15. The data of the
-    /// message lies in `room`. A state is written with its bitmap as it is, and with a state byte
-    /// exactly if it has one.
+    /// Makes the reply's message; its data lies in `room`. A state byte is written exactly if there is one.
     pub fn to_message<'a>(&self, unit: u8, room: &'a mut [u8; 16]) -> Message<'a>
         requires { unit ≤ 15 }
         ensures message { content_of result ≡ reply_message unit self.now }
@@ -89,7 +81,6 @@ impl Reply {
         }
     }
 
-    /// The bytes that carry the reply from the unit, which is at most 15.
     pub fn encode(&self, unit: u8) -> ArrayVec<u8, LONGEST>
         requires { unit ≤ 15 }
         ensures bytes { result.items ≡ spelling (reply_message unit self.now) }
@@ -99,8 +90,8 @@ impl Reply {
         encoded(&self.to_message(unit, &mut room))
     }
 
-    /// Replaces the buffer's text by that of the reply as it is heard (this profile), as `granted`,
-    /// `state 84` or `size 00100000`. Bytes are two lower-case hexadecimal digits each.
+    /// Replaces the buffer's text by the reply's (this profile), as `granted`, `state 84` or `size 00100000`. A bitmap
+    /// isn't shown; other bytes are two lower-case hexadecimal digits each.
     pub fn show(&self, text: &mut ArrayString<64>)
         ensures { text.new.bytes ≡ reply_text self.now }
     {
@@ -133,7 +124,6 @@ impl Reply {
     }
 }
 
-/// The replies to sense requests.
 fn sense_reply(code: u8, rest: &[u8]) -> Result<Reply, WordFault>
     ensures table { (unit : ℕ) → ReadsReply (framed 3 unit code rest.now) result }
     ensures bytes { All (λ b. b < 256) rest.now }

@@ -9,7 +9,6 @@ use vdcp_frame::Message;
 use vdcp_value::ClipId;
 use vdcp_value::laws::{an_id_is_its_bytes, bytes_are_counted};
 
-/// A framed message of this type, unit, code and data.
 pub(crate) fn message(kind: u8, unit: u8, code: u8, rest: &[u8]) -> Message<'_>
     ensures { content_of result ≡ framed kind unit code rest.now }
 {
@@ -21,7 +20,6 @@ pub(crate) fn message(kind: u8, unit: u8, code: u8, rest: &[u8]) -> Message<'_>
     }
 }
 
-/// The bytes, laid into the front of the room.
 pub(crate) fn put<'a>(room: &'a mut [u8; 16], bytes: &[u8]) -> &'a [u8]
     requires { length bytes.now ≤ 16 }
     ensures { result.now ≡ bytes.now }
@@ -31,7 +29,6 @@ pub(crate) fn put<'a>(room: &'a mut [u8; 16], bytes: &[u8]) -> &'a [u8]
     front
 }
 
-/// The four bytes of a time code.
 pub(crate) fn four(time: &[u8; 4]) -> [u8; 4]
     ensures same { result ≡ time.now }
     ensures bytes { AreBytes 4 result }
@@ -40,7 +37,6 @@ pub(crate) fn four(time: &[u8; 4]) -> [u8; 4]
     [a, b, c, d]
 }
 
-/// An ID and two time codes, one after another.
 pub(crate) fn joined(id: &ClipId, start: &[u8; 4], duration: &[u8; 4]) -> [u8; 16]
     ensures bytes { result ≡ id_bytes id.now ++ start.now ++ duration.now }
     ensures start { AreBytes 4 start.now }
@@ -54,7 +50,6 @@ pub(crate) fn joined(id: &ClipId, start: &[u8; 4], duration: &[u8; 4]) -> [u8; 1
     [a, b, c, d, e, f, g, h, i, j, k, l, m, n, o, p]
 }
 
-/// 01h, and then an ID.
 pub(crate) fn marked(id: &ClipId) -> [u8; 9]
     ensures { result ≡ 1 ∷ id_bytes id.now }
 {

@@ -17,7 +17,6 @@ fn digit(n: u8) -> char
     char::from(code)
 }
 
-/// Appends a byte as two digits.
 pub(crate) fn push_byte(text: &mut ArrayString<64>, byte: u8)
     requires { array_string_len text.old + 2 ≤ 64 }
     ensures text { text.new.bytes ≡ text.old.bytes ++ hex_pair byte }
@@ -27,7 +26,6 @@ pub(crate) fn push_byte(text: &mut ArrayString<64>, byte: u8)
     text.push(digit(byte % 16));
 }
 
-/// Appends the bytes of a time code, in their order.
 pub(crate) fn push_time(text: &mut ArrayString<64>, time: &[u8; 4])
     requires { array_string_len text.old + 8 ≤ 64 }
     ensures text { text.new.bytes ≡ text.old.bytes ++ hex_text time.now }
@@ -40,7 +38,6 @@ pub(crate) fn push_time(text: &mut ArrayString<64>, time: &[u8; 4])
     push_byte(text, hours);
 }
 
-/// Appends an ID's text, which has at most 18 bytes.
 pub(crate) fn push_id(text: &mut ArrayString<64>, id: &ClipId)
     requires { array_string_len text.old + 18 ≤ 64 }
     ensures text { text.new.bytes ≡ text.old.bytes ++ text_of_id id.now }
