@@ -1,4 +1,4 @@
-//! What a captured burst says, by the way that it went.
+//! What a captured burst says, by the way it went.
 ghost use Rattle.std.specs.Option.{option_to_list};
 ghost use Rattle.std.specs.Prelude.{◌≡◌, ◌++◌, IfOk, OnOk};
 ghost use Rattle.vdcp_frame.specs.Message.{content_of};
@@ -10,7 +10,6 @@ use std::alloc::{AllocError, Allocator};
 use vdcp_frame::{Message, Messages};
 use vdcp_words::Command;
 
-/// Which way a burst went on a captured line.
 #[derive(Clone, Copy, Debug, PartialEq, Eq)]
 pub enum Way {
     /// To the port.
@@ -19,7 +18,7 @@ pub enum Way {
     Up,
 }
 
-/// What a burst says that went to or from the port of this unit: down its commands, up each message as an answer.
+/// Reads a burst to or from the port of this unit: down, its commands; up, each message as an answer.
 pub fn captured_in<A: Allocator>(
     alloc: A,
     unit: u8,
@@ -36,7 +35,6 @@ pub fn captured_in<A: Allocator>(
     Ok(captured)
 }
 
-/// Adds what was found, if anything.
 fn add<A: Allocator>(
     captured: &mut Vec<Captured, A>,
     found: Option<Captured>,
@@ -49,7 +47,7 @@ fn add<A: Allocator>(
     Ok(())
 }
 
-/// What a message says that went to or from the port of this unit.
+/// Reads one message, as `captured_in` does.
 pub fn captured_as(unit: u8, way: Way, message: &Message) -> Option<Captured>
     ensures { result ≡ captured_as unit way (content_of message.now) }
 {
@@ -62,7 +60,6 @@ pub fn captured_as(unit: u8, way: Way, message: &Message) -> Option<Captured>
     }
 }
 
-/// The command that the message carries to the unit.
 fn command_as(unit: u8, message: &Message) -> Option<Command>
     ensures { result ≡ command_as unit (content_of message.now) }
 {

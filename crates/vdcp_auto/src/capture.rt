@@ -1,4 +1,4 @@
-//! What a captured line has, and the exchanges that it shows.
+//! What a captured line shows, and the exchanges in it.
 ghost use Rattle.std.specs.Option.{option_to_list};
 ghost use Rattle.std.specs.Prelude.{◌≡◌, ◌∷◌, ◌++◌, List};
 ghost use Rattle.vdcp_auto.specs.Captures.{awaited_after, ended_at, exchanges_from};
@@ -9,19 +9,16 @@ use crate::meaning::is_end;
 use crate::phase::Mode;
 use vdcp_words::Command;
 
-/// What a captured line has, in the order of time.
 #[derive(Clone, Copy, Debug, PartialEq, Eq)]
 pub enum Captured {
-    /// A command went down to the port.
     Sent(Command),
-    /// A message came up.
     Came(Heard),
     /// Nothing came for so long that the automation waited no longer.
     Silence,
 }
 
-/// The exchange that ends with what was captured next, if one does, of an automation in this mode.
-/// `awaited` is the command whose exchange goes on, before and after; at the end of a capture that has heard nothing.
+/// Gives the exchange that `next` ends, if it ends one. `awaited` is the command whose exchange goes on; if one still
+/// goes on when the capture ends, nothing was heard for it.
 pub fn exchange_ended(
     mode: Mode,
     awaited: &mut Option<Command>,

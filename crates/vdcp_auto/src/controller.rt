@@ -15,18 +15,11 @@ use vdcp_words::Command;
 
 mod table;
 
-/// Plays a list through one port.
+/// Plays a list through one port: the caller sends what `tick` gives, and calls `hear` with what came, or `timeout`,
+/// until `awaiting` is false; and so on until `outcome` answers. The operator's `take`, `stop` and `forget` may come at
+/// any time.
 ///
-/// The calling loop: `tick` gives the next command, which the caller sends; then, until `awaiting` is
-/// false, `hear` takes what came, or `timeout` says that nothing did; and so on until `outcome`
-/// answers. `take`, `stop` and `forget` are the operator's and may come at any time.
-///
-/// - `settled`, `outcome`, `is_ready`, `to_send`, `awaiting`, `awaited`, `wishes_to_stop`, `is_confirming` and
-///   `source` only look.
-/// - `hear` and `timeout` bring in what happens on the line; `receive` does both, and gives the
-///   exchange that ended.
-/// - `take` and `stop` are calls of the operator, and `forget` withdraws them.
-/// - `tick` gives out the next command; `to_send` and then `await_answer` do the same in two steps.
+/// `receive` is `hear` and `timeout` in one, and `to_send` with `await_answer` is `tick` in two steps.
 #[derive(Drop)]
 pub struct Controller<S: Source> {
     source: S,
@@ -34,15 +27,12 @@ pub struct Controller<S: Source> {
     port: u8,
     limit: u32,
     position: Position,
-    // the wish to take: the next event is to be played though the last one still plays
     take: bool,
-    // the wish to stop: the next command is to be STOP
     stop: bool,
-    // how many exchanges in a row were unanswered (in confirm mode, of those that ask for a reply)
+    // How many exchanges in a row were unanswered (in confirm mode, of those that ask for a reply).
     unanswered: u32,
-    // how many events it takes for aired
     settled: usize,
-    // how often the event's cue was lost (confirm mode)
+    // How often the event's cue was lost (confirm mode).
     tries: u32,
 }
 
@@ -77,8 +67,7 @@ impl<S: Source> Model for Controller<S> {
 }
 
 impl<S: Source> Controller<S> {
-    /// A new controller in plain mode, for the port of this number. It gives up after `limit`
-    /// unanswered exchanges in a row, 1 to 1,000.
+    /// Makes a controller in plain mode, which gives up after `limit` unanswered exchanges in a row.
     pub fn new(source: S, port: u8, limit: u32) -> Self
         requires some { 1 ≤ limit }
         requires few { limit ≤ 1000 }
@@ -87,8 +76,7 @@ impl<S: Source> Controller<S> {
         Self::begun(source, Mode::Plain, port, limit)
     }
 
-    /// A new controller in confirm mode, for the port of this number. It gives up after `limit`
-    /// unanswered requests in a row, 1 to 1,000, and on an event whose cue was lost as often.
+    /// Makes one in confirm mode. It gives up after `limit` unanswered requests in a row, or lost cues of one event.
     pub fn confirming(source: S, port: u8, limit: u32) -> Self
         requires some { 1 ≤ limit }
         requires few { limit ≤ 1000 }
@@ -118,7 +106,7 @@ impl<S: Source> Controller<S> {
 
     ghost use Rattle.vdcp_auto.specs.Snapshots.{CanStand, view_of};
 
-    /// All that the controller knows, but for its list. `of_snapshot` makes it again.
+    /// All that the controller knows, but for its list; `of_snapshot` makes the controller again.
     pub fn snapshot(&self) -> Snapshot
         ensures seen { self.now ≡ view_of self.now.source result }
         ensures again { CanStand (length (S.items self.now.source)) result }
@@ -140,7 +128,7 @@ impl<S: Source> Controller<S> {
         }
     }
 
-    /// The controller of this source that stands so.
+    /// `Snapshot::can_stand` tests what this requires.
     pub fn of_snapshot(source: S, snapshot: &Snapshot) -> Controller<S>
         requires { CanStand (length (S.items source)) snapshot.now }
         ensures { result ≡ view_of source snapshot.now }
@@ -159,14 +147,13 @@ impl<S: Source> Controller<S> {
         controller
     }
 
-    /// The controller is in confirm mode.
     pub fn is_confirming(&self) -> bool
         ensures { IsTrue result ↔ (self.now.mode ≡ Mode.Confirming) }
     {
         self.mode == Mode::Confirming
     }
 
-    /// A tick gives a command: nothing is awaited, and the controller hasn't ended.
+    /// Whether a tick gives a command: nothing is awaited, and the controller hasn't ended.
     pub fn is_ready(&self) -> bool
         ensures ready { result ≡ turns.is_ready self.now.state.stage }
         ensures given { result ≡ is_some (turns.given (plan_of S.items self.now) self.now.state) }
@@ -174,7 +161,7 @@ impl<S: Source> Controller<S> {
         matches!(self.position, Position::Ready(_))
     }
 
-    /// A command was given, and its exchange hasn't ended.
+    /// Whether a command was given whose exchange hasn't ended.
     pub fn awaiting(&self) -> bool
         ensures awaiting { result ≡ turns.is_awaiting self.now.state.stage }
         ensures awaited { result ≡ is_some (turns.awaited (plan_of S.items self.now) self.now.state) }
@@ -182,7 +169,7 @@ impl<S: Source> Controller<S> {
         matches!(self.position, Position::Awaiting(_, _))
     }
 
-    /// The operator wants to stop, and the STOP hasn't gone out yet.
+    /// Whether the operator wants to stop, and the STOP hasn't gone out yet.
     pub fn wishes_to_stop(&self) -> bool
         ensures { result ≡ self.now.state.stop }
     {
@@ -190,7 +177,6 @@ impl<S: Source> Controller<S> {
         *stop
     }
 
-    /// The command whose answer is awaited.
     pub fn awaited(&self) -> Option<Command>
         ensures awaited { result ≡ turns.awaited (plan_of S.items self.now) self.now.state }
         ensures writable { IfSome result IsWritableCommand }
@@ -201,7 +187,7 @@ impl<S: Source> Controller<S> {
         }
     }
 
-    /// The command that the next `tick` gives, without giving it.
+    /// What the next `tick` gives, without giving it.
     pub fn to_send(&self) -> Option<Command>
         ensures command { result ≡ turns.given (plan_of S.items self.now) self.now.state }
         ensures ready { is_some result ≡ turns.is_ready self.now.state.stage }
@@ -214,7 +200,7 @@ impl<S: Source> Controller<S> {
         Some(self.command_in(next))
     }
 
-    /// How many events the controller takes for aired. They are the first of the list.
+    /// How many events the controller takes for aired: the first ones of the list.
     pub fn settled(&self) -> usize
         ensures count { result ≡ self.now.state.settled }
         ensures within { result ≤ length (S.items self.now.source) }
@@ -223,7 +209,7 @@ impl<S: Source> Controller<S> {
         *settled
     }
 
-    /// How the controller ended; None while it goes on.
+    /// `None` while the controller goes on.
     pub fn outcome(&self) -> Option<Outcome>
         ensures { result ≡ turns.outcome_of self.now.state.stage }
     {
@@ -233,15 +219,14 @@ impl<S: Source> Controller<S> {
         }
     }
 
-    /// The source that the controller was made with.
     pub fn source(&self) -> &S
         ensures { result.now ≡ self.now.source }
     {
         &self.source
     }
 
-    /// Takes what came. Nothing changes if nothing is awaited. In confirm mode receipts change
-    /// nothing, and nothing that comes does while a command is awaited that only a receipt answers.
+    /// Takes what came, if a command is awaited. In confirm mode receipts change nothing, nor does anything while a
+    /// command is awaited that only a receipt answers.
     pub fn hear(&mut self, heard: &Heard)
         ensures { self.new ≡ record self.old {
           state = turns.came_to (plan_of S.items self.old) (Some heard.now) self.old.state;
@@ -250,7 +235,7 @@ impl<S: Source> Controller<S> {
         self.receive(Some(*heard));
     }
 
-    /// Nothing came in time. Nothing changes if nothing is awaited.
+    /// Says that nothing came in time for the awaited command, if there is one.
     pub fn timeout(&mut self)
         ensures { self.new ≡ record self.old {
           state = turns.came_to (plan_of S.items self.old) None self.old.state;
@@ -259,8 +244,7 @@ impl<S: Source> Controller<S> {
         self.receive(None);
     }
 
-    /// Takes what came, or None for a time-out, as `hear` and `timeout` do, and gives the exchange
-    /// that it ended.
+    /// Does as `hear`, or for `None` as `timeout`, and gives the exchange that this ended.
     pub fn receive(&mut self, came: Option<Heard>) -> Option<Exchange>
         ensures exchange { result ≡ turns.ended_by (plan_of S.items self.old) came self.old.state }
         ensures after { self.new ≡ record self.old {
@@ -281,17 +265,15 @@ impl<S: Source> Controller<S> {
         Some(exchange)
     }
 
-    /// The operator wants the next event though the last one still plays. The wish holds until PLAY
-    /// is sent.
+    /// The operator wants the next event though the last one still plays. The wish holds until PLAY is sent.
     pub fn take(&mut self)
         ensures { self.new ≡ record self.old { state = turns.taken self.old.state } }
     {
         self.take = true;
     }
 
-    /// The operator wants to stop. The awaited exchange is still ended; unless that ends the controller,
-    /// STOP and then CLOSE go out. Once CLOSE is next, or STOP is on its way, or after an end, the call
-    /// changes nothing.
+    /// The operator wants to stop. The awaited exchange still ends; unless it ends the controller, STOP and then CLOSE
+    /// go out. Once CLOSE is next, STOP is on its way or the controller has ended, the call changes nothing.
     pub fn stop(&mut self)
         ensures { self.new ≡ record self.old { state = turns.stopped self.old.state } }
     {
@@ -305,8 +287,7 @@ impl<S: Source> Controller<S> {
         }
     }
 
-    /// The wishes of `take` and `stop` that the controller hasn't acted on are forgotten, as if an
-    /// automation is started anew.
+    /// Forgets the wishes of `take` and `stop` that weren't acted on, as if the automation were started anew.
     pub fn forget(&mut self)
         ensures { self.new ≡ record self.old { state = turns.forgotten self.old.state } }
     {
@@ -314,8 +295,7 @@ impl<S: Source> Controller<S> {
         self.stop = false;
     }
 
-    /// Gives the next command, and awaits its answer. None if there is nothing to send: an answer is
-    /// still awaited, or the controller has ended.
+    /// Gives the next command, and awaits its answer. `None` if an answer is awaited, or the controller has ended.
     pub fn tick(&mut self) -> Option<Command>
         ensures command { result ≡ turns.given (plan_of S.items self.old) self.old.state }
         ensures ready { is_some result ≡ turns.is_ready self.old.state.stage }
@@ -327,7 +307,7 @@ impl<S: Source> Controller<S> {
         Some(command)
     }
 
-    /// Awaits the answer to the command that `to_send` gives, as `tick` does.
+    /// Awaits the answer to what `to_send` gives, as `tick` does.
     pub fn await_answer(&mut self, command: &Command)
         requires given { turns.given (plan_of S.items self.old) self.old.state ≡ Some command.now }
         requires writable { IsWritableCommand command.now }

@@ -9,15 +9,14 @@ use vdcp_words::{Command, Reply};
 /// What came for a command.
 #[derive(Clone, Copy, Debug, PartialEq, Eq)]
 pub enum Heard {
-    /// A reply: ACK or NAK, or one that the asked unit framed.
+    /// ACK or NAK, or a reply that the asked unit framed.
     Reply(Reply),
-    /// Something else: no reply, or a message of another unit.
+    /// No reply, or a message of another unit.
     Other,
 }
 
 impl Heard {
-    /// Interprets a message as an answer from `unit`: the reply that it carries, or Other if it
-    /// carries none or is framed by another unit. ACK and NAK name no unit, and count as from any.
+    /// The message as an answer from `unit`. ACK and NAK name no unit, and count as from any.
     pub fn of_message(message: &Message, unit: u8) -> Heard
         ensures { result ≡ heard_as unit (content_of message.now) }
     {
@@ -36,13 +35,9 @@ impl Heard {
 /// What happens to a controller in a rehearsal.
 #[derive(Clone, Copy, Debug, PartialEq, Eq)]
 pub enum Input {
-    /// This came for the awaited command.
     Heard(Heard),
-    /// Nothing came for the awaited command in time.
     Silence,
-    /// The operator wants the next event though the last one still plays.
     Take,
-    /// The operator wants to stop.
     Stop,
 }
 
@@ -50,6 +45,6 @@ pub enum Input {
 #[derive(Clone, Copy, Debug, PartialEq, Eq)]
 pub struct Exchange {
     pub command: Command,
-    /// None for silence.
+    /// `None` for silence.
     pub heard: Option<Heard>,
 }

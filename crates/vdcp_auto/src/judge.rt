@@ -25,7 +25,7 @@ use vdcp_words::Command;
 /// What the last cue of a log is good for.
 #[derive(Clone, Copy, Debug, PartialEq, Eq)]
 pub enum LastCue {
-    /// Nothing: none was sent, it isn't the next item's, it wasn't taken, or something has settled since.
+    /// None was sent, it isn't the next item's, it wasn't taken, or something has settled since.
     Void,
     /// It is the next item's, it was taken, and nothing has settled since.
     Stands,
@@ -33,21 +33,16 @@ pub enum LastCue {
     Done,
 }
 
-/// What the rule book says of an exchange where it stands.
+/// What the rule book says of an exchange.
 #[derive(Clone, Copy, Debug, PartialEq, Eq)]
 pub struct Ruling {
-    /// The command was allowed.
     pub is_allowed: bool,
-    /// The exchange shows one more event to be aired.
+    /// The exchange shows that one more event has aired.
     pub settles: bool,
 }
 
-/// Holds an automation's exchanges against the rule book, one after another.
-///
-/// - `allows`, `rule_on`, `settled` and `may_have_aired` only look.
-/// - `add` takes the exchange that ended.
-///
-/// A clause about the log is of whatever log the judge was given, exchange by exchange, from its first one on.
+/// Holds an automation's exchanges against the rule book, one after another, as `add` takes them. The log in a clause
+/// is any that the judge was given so from its first exchange on.
 #[derive(Drop)]
 pub struct Judge<S: Source> {
     source: S,
@@ -80,7 +75,7 @@ impl<S: Source> Model for Judge<S> {
 }
 
 impl<S: Source> Judge<S> {
-    /// A judge of an automation that plays this list in this mode. Its log is empty.
+    /// Makes a judge with an empty log, of an automation that plays this list in this mode.
     pub fn new(source: S, mode: Mode) -> Self
         ensures source { result.source ≡ source }
         ensures mode { result.mode ≡ mode }
@@ -99,7 +94,7 @@ impl<S: Source> Judge<S> {
         }
     }
 
-    /// All that the judge knows, but for its list. `of_notes` makes it again.
+    /// All that the judge knows, but for its list; `of_notes` makes the judge again.
     pub fn notes(&self) -> Notes
         ensures { self.now ≡ view_of self.now.source result }
     {
@@ -115,7 +110,6 @@ impl<S: Source> Judge<S> {
         }
     }
 
-    /// The judge of a list that knows this.
     pub fn of_notes(source: S, notes: &Notes) -> Self
         ensures { result ≡ view_of source notes.now }
     {
@@ -132,7 +126,6 @@ impl<S: Source> Judge<S> {
         }
     }
 
-    /// How many events the log settles.
     pub fn settled(&self) -> usize
         ensures kept { result ≡ self.now.settled }
         ensures settled { (log : List Exchange) → Knows S.items log self.now → result ≡ settled self.now.mode log }
@@ -141,7 +134,7 @@ impl<S: Source> Judge<S> {
         *settled
     }
 
-    /// Whether one event more than are settled may have aired: a PLAY stands in the log, and nothing has settled since.
+    /// Whether one event more may have aired: a PLAY is in the log, and nothing has settled since.
     pub fn may_have_aired(&self) -> bool
         ensures kept { result ≡ self.now.may_have_aired }
         ensures airing { (log : List Exchange) → Knows S.items log self.now →
@@ -159,7 +152,6 @@ impl<S: Source> Judge<S> {
         self.keeps_rule(command) && self.goes_on(command)
     }
 
-    /// The ruling on an exchange that comes next.
     pub fn rule_on(&self, exchange: &Exchange) -> Ruling
         ensures { (log : List Exchange) → Knows S.items log self.now →
             IsRuling self.now.mode (S.items self.now.source) log exchange.now result }
@@ -170,7 +162,7 @@ impl<S: Source> Judge<S> {
         }
     }
 
-    /// Adds an exchange to the log, after those that it has, fewer than 2^64 - 1.
+    /// Adds an exchange to the log, which has fewer than 2^64 - 1.
     pub fn add(&mut self, exchange: &Exchange)
         ensures source { self.new.source ≡ self.old.source }
         ensures mode { self.new.mode ≡ self.old.mode }
@@ -192,7 +184,6 @@ impl<S: Source> Judge<S> {
         self.granted |= is_grant(exchange);
     }
 
-    /// The rule of the command holds.
     fn keeps_rule(&self, command: &Command) -> bool
         ensures { (log : List Exchange) → Knows S.items log self.now →
             (IsTrue result ↔ Rule self.now.mode (S.items self.now.source) log command.now) }
@@ -213,7 +204,6 @@ impl<S: Source> Judge<S> {
         }
     }
 
-    /// No STOP or CLOSE keeps the command back.
     fn goes_on(&self, command: &Command) -> bool
         ensures { result ≡ ((not self.now.stopped || (is_stop_command command.now || is_close_command command.now))
             && (not self.now.closed || is_close_command command.now)) }
@@ -225,7 +215,6 @@ impl<S: Source> Judge<S> {
         }
     }
 
-    /// Every event is settled, and no PLAY is open.
     fn has_settled_all(&self) -> bool
         ensures { IsTrue result ↔
             ((self.now.settled ≡ length (S.items self.now.source)) × (self.now.has_open_play ≡ false)) }
@@ -233,7 +222,6 @@ impl<S: Source> Judge<S> {
         self.settled == self.source.len() && !self.has_open_play
     }
 
-    /// The command cues the first event that isn't settled.
     fn cues_next(&self, command: &Command) -> bool
         ensures { IsTrue result ↔ CuesItemAt (S.items self.now.source) self.now.settled command.now }
     {
@@ -241,7 +229,6 @@ impl<S: Source> Judge<S> {
         self.settled < self.source.len() && *command == cue_of(&self.source.at(self.settled))
     }
 
-    /// The exchange settles one more event.
     fn settles(&self, exchange: &Exchange) -> bool
         ensures { (log : List Exchange) → Knows S.items log self.now →
             result ≡ settles self.now.mode log exchange.now }
@@ -262,14 +249,12 @@ impl<S: Source> Judge<S> {
         }
     }
 
-    /// Whether one event more may have aired once the exchange has ended, which settles an event or doesn't.
     fn may_have_aired_after(&self, exchange: &Exchange, has_settled: bool) -> bool
         ensures { result ≡ (not has_settled && (is_play exchange.now || self.now.may_have_aired)) }
     {
         !has_settled && (is_play(exchange) || self.may_have_aired)
     }
 
-    /// What the last cue is good for once the exchange has ended, which settles an event or doesn't.
     fn cue_after(&self, exchange: &Exchange, has_settled: bool) -> LastCue
         ensures stands { (log : List Exchange) → Knows S.items log self.now →
             has_settled ≡ settles self.now.mode log exchange.now →
@@ -289,7 +274,6 @@ impl<S: Source> Judge<S> {
         self.kept_cue(exchange)
     }
 
-    /// What the last cue is good for after an exchange that is no cue and settles nothing.
     fn kept_cue(&self, exchange: &Exchange) -> LastCue
         ensures stands { stands result ≡ stands self.now.last_cue }
         ensures done { is_done result ≡ (stands self.now.last_cue
@@ -303,7 +287,7 @@ impl<S: Source> Judge<S> {
         }
     }
 
-    /// One more than the count, if one more has settled. It stops at the largest number.
+    /// The count stops at the largest number.
     fn settled_after(&self, has_settled: bool) -> usize
         ensures { self.now.settled + 1 < 2 ^ 64 →
             result ≡ (if has_settled then self.now.settled + 1 else self.now.settled) }
@@ -315,7 +299,6 @@ impl<S: Source> Judge<S> {
         }
     }
 
-    /// What a cue is good for that was just sent.
     fn new_cue(&self, exchange: &Exchange) -> LastCue
         ensures stands { IsTrue (stands result)
             ↔ (CuesItemAt (S.items self.now.source) self.now.settled exchange.now.command

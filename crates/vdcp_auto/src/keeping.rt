@@ -7,8 +7,7 @@ use crate::exchange::Exchange;
 use crate::judge::Judge;
 use crate::source::Source;
 
-/// Where in a whole log the first exchange stands whose command the rule book forbids there, from 0; None if
-/// the log keeps the rules. The judge is a new one.
+/// The place, from 0, of the first exchange whose command the rule book forbids; `None` if the log keeps the rules.
 pub fn first_forbidden<S: Source + Drop>(mut judge: Judge<S>, log: &[Exchange]) -> Option<usize>
     requires new { Knows S.items [] judge }
     ensures keeps { IfNone result (KeepsRules judge.mode (S.items judge.source) log.now) }

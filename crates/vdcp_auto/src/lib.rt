@@ -1,16 +1,12 @@
-//! The automation's controller: it plays a list of items through one port of a server, one command
-//! at a time, and reports an item as aired only once the answers show it: in plain mode an ACK to its PLAY,
-//! or a status after an unanswered PLAY; in confirm mode such a status alone.
+//! The automation's controller: it plays a list of items through one port of a server, one command at a time. It
+//! reports an item as aired only once the answers show it: in plain mode an ACK to its PLAY, or a status after an
+//! unanswered PLAY; in confirm mode such a status alone.
 //!
-//! The controller does no input or output. The caller asks it for the next command by `tick`, sends
-//! that, and then hands in what came for it, by `hear`, or that nothing came, by `timeout`; and so on
-//! until `outcome` answers. Time is an event that comes in, and so are the operator's calls `take` and
-//! `stop`. `rehearse` runs a controller over a list of inputs.
+//! The controller does no input or output. The caller sends what `tick` gives, and hands in what came by `hear`, or by
+//! `timeout` that nothing did, until `outcome` answers. `rehearse` runs a controller over a list of inputs.
 //!
-//! The rule book as a test of any log is a `Judge`, which is given a log's exchanges one after another, and says of
-//! each command whether it may follow them (`allows`, `add`). It keeps no log, so its memory stays the same however
-//! long the log is. `first_forbidden` does so for a whole log. `captured_in` says what the bursts of a captured line
-//! are, `captured_as` what one message is, and `exchange_ended` gives the exchanges that these show.
+//! A `Judge` holds the exchanges of any log against the rule book, one after another, and its memory stays the same.
+//! `captured_in` reads a captured line, and `exchange_ended` gives the exchanges that it shows.
 #![tactic(auto)]
 
 mod burst;

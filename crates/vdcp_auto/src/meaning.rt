@@ -36,7 +36,6 @@ pub fn is_present(reply: &Reply) -> bool
     matches!(reply, Reply::Present(true))
 }
 
-/// The state byte is there, and the bit is on in it.
 fn has_on(bit: u8, reply: &Reply) -> bool
     ensures { result ≡ replies.has_on bit reply.now }
 {
@@ -46,7 +45,6 @@ fn has_on(bit: u8, reply: &Reply) -> bool
     }
 }
 
-/// The state byte is there, and the bit is off in it.
 fn has_off(bit: u8, reply: &Reply) -> bool
     ensures { result ≡ replies.has_off bit reply.now }
 {
@@ -74,14 +72,13 @@ pub fn is_cueing(reply: &Reply) -> bool
     has_on(CUEING, reply)
 }
 
-/// Nothing is cued, nor being cued.
+/// Whether nothing is cued or being cued.
 pub fn is_empty(reply: &Reply) -> bool
     ensures { result ≡ replies.is_empty reply.now }
 {
     has_off(CUEING, reply) && has_off(CUE_DONE, reply)
 }
 
-/// Whether the reply names a clip, and not this item's.
 pub fn names_other(item: &Item, reply: &Reply) -> bool
     ensures { result ≡ table.names_other (Some item.now) reply.now }
 {
@@ -91,7 +88,6 @@ pub fn names_other(item: &Item, reply: &Reply) -> bool
     }
 }
 
-/// What cues the item.
 pub fn cue_of(item: &Item) -> Command
     ensures { result ≡ commands.cue_of item.now }
 {
@@ -101,7 +97,7 @@ pub fn cue_of(item: &Item) -> Command
     }
 }
 
-/// A request for a reply of its own. The other commands are answered by ACK.
+/// Whether it asks for a reply of its own. The other commands are answered by ACK.
 pub fn is_sense(command: &Command) -> bool
     ensures { result ≡ commands.is_sense command.now }
 {
@@ -120,7 +116,6 @@ pub fn is_sense(command: &Command) -> bool
     }
 }
 
-/// The reply is of the kind that the command asks for.
 fn fits(command: &Command, reply: &Reply) -> bool
     ensures { result ≡ commands.fits command.now reply.now }
 {
@@ -139,7 +134,6 @@ fn fits(command: &Command, reply: &Reply) -> bool
     }
 }
 
-/// The reply that answers the exchange, if it is answered.
 pub fn answer_in(exchange: &Exchange) -> Option<Reply>
     ensures { result ≡ log.answer_in exchange.now }
 {
@@ -151,7 +145,7 @@ pub fn answer_in(exchange: &Exchange) -> Option<Reply>
     }
 }
 
-/// Unanswered exchanges of this command are counted.
+/// Whether it counts towards the limit if it is unanswered.
 pub fn is_counted(mode: Mode, exchange: &Exchange) -> bool
     ensures { result ≡ log.is_counted mode exchange.now }
 {
@@ -161,7 +155,6 @@ pub fn is_counted(mode: Mode, exchange: &Exchange) -> bool
     }
 }
 
-/// What came, or silence, ends the exchange of the command.
 pub fn is_end(mode: Mode, command: &Command, came: &Option<Heard>) -> bool
     ensures { result ≡ turn.is_end mode command.now came.now }
 {
@@ -200,14 +193,13 @@ pub fn is_close(exchange: &Exchange) -> bool
     matches!(exchange.command, Command::Close(_))
 }
 
-/// Heard ACK.
 pub fn is_acked(exchange: &Exchange) -> bool
     ensures { result ≡ log.is_acked exchange.now }
 {
     matches!(exchange.heard, Some(Heard::Reply(Reply::Ack)))
 }
 
-/// A PLAY that has an answer: ACK or NAK 01.
+/// Whether a PLAY heard ACK or NAK 01.
 pub fn is_answered_play(exchange: &Exchange) -> bool
     ensures { result ≡ (log.is_play exchange.now && log.is_answered exchange.now) }
 {
@@ -218,7 +210,6 @@ pub fn is_answered_play(exchange: &Exchange) -> bool
         )
 }
 
-/// An OPEN that heard granted.
 pub fn is_grant(exchange: &Exchange) -> bool
     ensures { result ≡ log.is_grant exchange.now }
 {
@@ -228,7 +219,6 @@ pub fn is_grant(exchange: &Exchange) -> bool
     )
 }
 
-/// A status that heard that the cue is done.
 pub fn is_done_status(exchange: &Exchange) -> bool
     ensures { result ≡ log.is_done_status exchange.now }
 {
@@ -240,7 +230,6 @@ pub fn is_done_status(exchange: &Exchange) -> bool
     }
 }
 
-/// A status that heard that nothing is cued, nor being cued.
 pub fn is_empty_status(exchange: &Exchange) -> bool
     ensures { result ≡ log.is_empty_status exchange.now }
 {

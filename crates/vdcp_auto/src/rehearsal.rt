@@ -10,10 +10,8 @@ use crate::exchange::{Exchange, Input};
 use crate::source::Source;
 use std::alloc::{AllocError, Allocator};
 
-/// The exchanges of a new controller in plain mode to which these inputs happen, in order.
-///
-/// The controller is ticked before each `Heard` or `Silence` if nothing is awaited; once it has
-/// ended, the rest of the inputs is left. The limit is 1 to 1,000. It fails only for want of memory.
+/// The exchanges of a new controller in plain mode with these inputs. It is ticked before each `Heard` or `Silence` if
+/// nothing is awaited; once it has ended, the other inputs are left.
 pub fn rehearse<S: Source + Drop, A: Allocator>(
     alloc: A,
     source: S,

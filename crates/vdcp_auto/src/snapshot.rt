@@ -9,7 +9,6 @@ use crate::outcome::Outcome;
 use crate::phase::{Mode, Phase, Position};
 use crate::source::Source;
 
-/// Where a controller stands: the phase that it sends in next, or whose answer it awaits, or its end.
 #[derive(Clone, Copy, Debug, PartialEq, Eq)]
 pub enum Standing {
     Ready(Phase),
@@ -32,7 +31,6 @@ pub struct Snapshot {
 }
 
 impl Snapshot {
-    /// What a new controller knows, whatever its list.
     pub fn new(mode: Mode, port: u8, limit: u32) -> Snapshot
         requires some { 1 ≤ limit }
         requires few { limit ≤ 1000 }
@@ -53,7 +51,7 @@ impl Snapshot {
         }
     }
 
-    /// Whether a controller over a list of this length can stand so.
+    /// Whether a controller over a list of this length can be in this state.
     pub fn can_stand(&self, length: usize) -> bool
         ensures { IsTrue result ↔ CanStand length self.now }
     {
@@ -73,7 +71,6 @@ impl Snapshot {
     }
 }
 
-// The phase's event is one of the list's.
 fn is_phase_of(length: usize, phase: Phase) -> bool
     ensures { IsTrue result ↔ IsPhaseOf length phase }
 {

@@ -5,21 +5,17 @@ ghost use Rattle.vdcp_value.specs.declared.part.Item.{Item};
 
 use vdcp_value::Item;
 
-/// The list of items to play. It is one fixed list: no call changes it.
+/// The list of items to play, which no call changes.
 pub trait Source {
-    /// The items in order.
     ghost items: { Self → List Item };
 
-    /// How many items there are.
     fn len(&self) -> usize
         ensures { result ≡ length (items self.now) };
 
-    /// The item at place k, from 0.
     fn at(&self, k: usize) -> Item
         requires { k < length (items self.now) }
         ensures { slice_get (items self.now) k ≡ Some result };
 
-    /// The items can be counted.
     ghost countable: { (source : Self) → length (items source) < 2 ^ 64 };
 
     /// Start and duration of each part are four bytes.

@@ -1,6 +1,5 @@
 //! How far a port is open to its controller.
 
-/// What a port lets its controller do.
 #[derive(Clone, Copy, Debug, PartialEq, Eq)]
 pub enum Access {
     /// OPEN PORT comes first.

@@ -7,25 +7,22 @@ ghost use Rattle.vdcp_port.specs.Seen.{seen_cue, seen_clip, cue_left, clip_left,
 
 use vdcp_value::Item;
 
-/// What airs next.
 #[derive(Clone, Copy)]
 pub(crate) struct Cue {
     pub(crate) item: Item,
     /// The frames until the cue is done; 0 once it is.
     pub(crate) left: u32,
-    /// The frames that the item will play.
+    /// How many frames the item will play.
     pub(crate) frames: u32,
 }
 
-/// What is on the air.
+/// An item that airs, and the frames until it ends.
 #[derive(Clone, Copy, Debug, PartialEq, Eq)]
 pub struct Clip {
     pub item: Item,
-    /// The frames until it ends.
     pub left: u32,
 }
 
-/// The cue once it is done.
 pub(crate) fn finish_cue(cued: Option<Cue>) -> Option<Cue>
     ensures seen { seen_cue result ≡ made_ready (seen_cue cued) }
     ensures left { cue_left result ≡ 0 }
@@ -39,7 +36,6 @@ pub(crate) fn finish_cue(cued: Option<Cue>) -> Option<Cue>
     })
 }
 
-/// The cue a frame later, and whether this was its last one.
 pub(crate) fn count_cue(cued: Option<Cue>) -> (Option<Cue>, bool)
     ensures last { result.1 ≡ nat_eq (cue_left cued) 1 }
     ensures seen { seen_cue result.0
@@ -60,7 +56,6 @@ pub(crate) fn count_cue(cued: Option<Cue>) -> (Option<Cue>, bool)
     }
 }
 
-/// The clip a frame later, and whether this was its last one.
 pub(crate) fn count_clip(playing: Option<Clip>) -> (Option<Clip>, bool)
     ensures last { result.1 ≡ nat_eq (clip_left playing) 1 }
     ensures seen { seen_clip result.0 ≡ (if nat_eq (clip_left playing) 1 then None else seen_clip playing) }

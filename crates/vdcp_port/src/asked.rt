@@ -1,4 +1,4 @@
-//! What a message asks of a port, if it asks anything.
+//! What a message asks of a port, if anything.
 ghost use Rattle.std.specs.Prelude.{◌≡◌};
 ghost use Rattle.vdcp_frame.specs.Message.{content_of};
 ghost use Rattle.vdcp_port.specs.Asked.{asked_of};
@@ -6,18 +6,16 @@ ghost use Rattle.vdcp_port.specs.Asked.{asked_of};
 use vdcp_frame::Message;
 use vdcp_words::Command;
 
-/// What a message asks of a port.
 #[derive(Clone, Copy)]
 pub(crate) enum Asked {
-    /// It is ACK or NAK, or a framed message to another unit.
+    /// ACK or NAK, or a framed message to another unit.
     Nothing,
-    /// No command has its type and code, or its command has another number of data bytes.
+    /// No command has its type and code, or the command has another number of data bytes.
     NoCommand,
     Command(Command),
 }
 
 impl Asked {
-    /// What a message asks of the port at a unit address.
     pub(crate) fn of(message: &Message, unit: u8) -> Asked
         ensures { result ≡ asked_of unit (content_of message.now) }
     {

@@ -20,9 +20,7 @@ use vdcp_frame::{Ended, LIMIT, Message, Messages};
 use vdcp_value::Item;
 use vdcp_words::Reply;
 
-/// What a port answers to a burst's end, after its answers to the burst's messages: nothing if the
-/// burst ends after a whole message, NAK 80h if it ends inside one, and NAK 04h after a fault (this
-/// profile).
+/// Answers a burst's end: nothing after a whole message, NAK 80h inside one, NAK 04h after a fault (this profile).
 pub fn reply_at_end(ended: Ended) -> Option<Reply>
     ensures exact { result ≡ reply_at_end ended }
     ensures readable { IfSome result IsWritableReply }
@@ -38,20 +36,15 @@ impl<C: Catalogue> Port<C> {
     ghost use Rattle.vdcp_port.specs.Clock.{after_message, aired_by};
     ghost use Rattle.vdcp_port.specs.Answers.{bytes_for, bytes_for_all, sent_for, aired_for, after_burst};
 
-    /// Takes a whole burst. Appends the bytes of all answers to `out`, in order, and then a NAK if the
-    /// burst has a fault or ends inside a message; and the item that goes to air on the way, if one does,
-    /// to `aired`.
-    ///
-    /// All room is made first: three bytes for each byte that is read and two more, and one item if the
-    /// burst is long enough for a PLAY. If it is refused the answer is `AllocError`, and nothing has
-    /// changed.
+    /// Answers a whole burst: appends the bytes of all answers to `out`, with a NAK for a fault or a cut message at the
+    /// end, and the item that goes to air, if one does, to `aired`. Room is made first: three bytes for each byte that
+    /// is read and two more, and one item if the burst is long enough for a PLAY. `AllocError`: nothing has changed.
     pub fn burst_answer<A: Allocator, B: Allocator>(
         &mut self,
         burst: &[u8],
         out: &mut Vec<u8, A>,
         aired: &mut Vec<Item, B>,
     ) -> Result<(), AllocError>
-        // The burst reads as these messages and this end; the next three clauses speak of them.
         ensures read { OnOk result (Reads burst.now (messages_of burst.now) (end_of burst.now)) }
         ensures sent { OnOk result (out.new.items ≡ out.old.items ++ sent_for self.old burst.now) }
         ensures aired { OnOk result (aired.new.items ≡ aired.old.items ++ aired_for self.old burst.now) }
@@ -68,16 +61,14 @@ impl<C: Catalogue> Port<C> {
         Ok(())
     }
 
-    /// Takes a whole burst if there is room for all answers to it: three bytes for each byte that is
-    /// read, 4,096 at most, and two more. Appends the bytes of the answers to `out` as `burst_answer` does,
-    /// and gives the item that goes to air on the way, if one does: a burst airs one at most.
+    /// As `burst_answer`, but into room that is there: three bytes for each byte that is read, 4,096 at most, and two
+    /// more. It gives the item that goes to air, if one does: a burst airs one at most.
     pub fn answer_into<const N: usize>(
         &mut self,
         burst: &[u8],
         out: &mut ArrayVec<u8, N>,
     ) -> Option<Item>
         requires { array_vec_len out.old + most_sent burst.now ≤ N }
-        // The burst reads as these messages and this end; the next three clauses speak of them.
         ensures read { Reads burst.now (messages_of burst.now) (end_of burst.now) }
         ensures sent { out.new.items ≡ out.old.items ++ sent_for self.old burst.now }
         ensures aired { option_to_list result ≡ aired_for self.old burst.now }
@@ -86,7 +77,6 @@ impl<C: Catalogue> Port<C> {
         self.answer_all(burst, out)
     }
 
-    // Answers a burst, its end included, if there is room.
     fn answer_all<S: Sink>(&mut self, burst: &[u8], out: &mut S) -> Option<Item>
         requires { most_sent burst.now ≤ S.room out.old }
         ensures read { Reads burst.now (messages_of burst.now) (end_of burst.now) }
@@ -103,7 +93,6 @@ impl<C: Catalogue> Port<C> {
         aired
     }
 
-    // Answers the messages of a burst if there is room, and says how the burst ends.
     fn answer_messages<S: Sink>(&mut self, burst: &[u8], out: &mut S) -> (Option<Item>, Ended)
         requires { length (bytes_for_all self.old (messages_of burst.now)) ≤ S.room out.old }
         ensures sent { S.written out.new ≡ S.written out.old ++ bytes_for_all self.old (messages_of burst.now) }
@@ -121,7 +110,6 @@ impl<C: Catalogue> Port<C> {
         (aired, messages.end().ended())
     }
 
-    // Answers a message if there is room.
     fn answer_message<S: Sink>(&mut self, message: &Message, out: &mut S) -> Option<Item>
         requires { length (bytes_for self.old (content_of message.now)) ≤ S.room out.old }
         ensures sent { S.written out.new ≡ S.written out.old ++ bytes_for self.old (content_of message.now) }
@@ -138,7 +126,6 @@ impl<C: Catalogue> Port<C> {
     }
 }
 
-// Makes room for what a burst is answered with at most.
 fn make_room<A: Allocator, B: Allocator>(
     burst: &[u8],
     out: &mut Vec<u8, A>,
@@ -155,7 +142,6 @@ fn make_room<A: Allocator, B: Allocator>(
     aired.reserve((burst.len() / 5).min(1))
 }
 
-// Appends the item that goes to air, if one does, if there is room.
 fn tell<B: Allocator>(item: Option<Item>, aired: &mut Vec<Item, B>)
     requires { vec_len aired.old + length (option_to_list item) ≤ vec_capacity aired.old }
     ensures { aired.new.items ≡ aired.old.items ++ option_to_list item }
@@ -165,7 +151,6 @@ fn tell<B: Allocator>(item: Option<Item>, aired: &mut Vec<Item, B>)
     }
 }
 
-// Appends what is answered to a burst's end, if there is room.
 #[tactic(auto, using(crate::proofs::Answering::bytes_of_one))]
 fn append_end<S: Sink>(ended: Ended, unit: u8, out: &mut S)
     requires unit { unit ≤ 15 }
@@ -177,7 +162,6 @@ fn append_end<S: Sink>(ended: Ended, unit: u8, out: &mut S)
     }
 }
 
-// Appends the bytes of a reply if there is room.
 fn append_reply<S: Sink>(reply: &Reply, unit: u8, out: &mut S)
     requires unit { unit ≤ 15 }
     requires room { length (reply_bytes unit reply.now) ≤ S.room out.old }

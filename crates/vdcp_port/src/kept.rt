@@ -16,14 +16,13 @@ pub struct Kept {
     pub number: u8,
     pub cue_frames: u32,
     pub access: Access,
-    /// What airs next, and the frames until its cue is done.
+    /// What airs next; its frames are those until the cue is done.
     pub cued: Option<Clip>,
-    /// What is on the air, and the frames until it ends.
     pub playing: Option<Clip>,
 }
 
 impl Kept {
-    /// Whether a port over the catalogue can stand so.
+    /// Whether a port over the catalogue can be in this state.
     pub fn stands_over<C: Catalogue>(&self, catalogue: &C) -> bool
         ensures { IsTrue result ↔ CanKeep (C.clips catalogue.now) self.now }
     {
@@ -35,7 +34,6 @@ impl Kept {
     }
 }
 
-// Whether a catalogue has what is cued.
 fn can_cue<C: Catalogue>(catalogue: &C, kept: &Option<Clip>) -> bool
     ensures { IsTrue result ↔ CanCue (C.clips catalogue.now) kept.now }
 {
@@ -45,7 +43,6 @@ fn can_cue<C: Catalogue>(catalogue: &C, kept: &Option<Clip>) -> bool
     }
 }
 
-// The cue of a clip that a catalogue has.
 pub(crate) fn cue_of<C: Catalogue>(catalogue: &C, kept: &Option<Clip>) -> Option<Option<Cue>>
     ensures some { IfSome result (λ cue. IsCueOf (C.clips catalogue.now) kept.now cue) }
     ensures accepts { IsSome result ↔ CanCue (C.clips catalogue.now) kept.now }
@@ -63,7 +60,6 @@ pub(crate) fn cue_of<C: Catalogue>(catalogue: &C, kept: &Option<Clip>) -> Option
     }
 }
 
-// Whether a catalogue has what plays.
 fn can_air<C: Catalogue>(catalogue: &C, kept: &Option<Clip>) -> bool
     ensures { IsTrue result ↔ IsSoundClip (C.clips catalogue.now) kept.now }
 {
@@ -73,7 +69,6 @@ fn can_air<C: Catalogue>(catalogue: &C, kept: &Option<Clip>) -> bool
     }
 }
 
-// The cue's item with the frames until it is done.
 pub(crate) fn clip_of(cued: Option<Cue>) -> Option<Clip>
     ensures seen { cued_in result ≡ seen_cue cued }
     ensures left { clip_left result ≡ cue_left cued }

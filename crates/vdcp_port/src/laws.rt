@@ -1,4 +1,4 @@
-//! Laws of the port's table. Each holds for all that it names; the functions do nothing.
+//! Laws of the port's table: each function is there for its contract, which is the law.
 
 ghost use Rattle.std.specs.Prelude.{ℕ, ◌≡◌, ◌≢◌, ◌<◌, ◌≤◌, ◌*◌, ◌++◌, ◌==◌, ◌&&◌, ◌⊎◌, List, [], ◌∷◌, length, All, Contains, IsTrue, false, not, is_none, bit_and, Some, None};
 ghost use Rattle.vdcp_value.specs.declared.part.Item.{Item};
@@ -24,7 +24,6 @@ ghost use Rattle.vdcp_port.specs.Clock.{ClockedPort, new_port, row_at, answer_to
 ghost use Rattle.vdcp_port.specs.Answers.{answers_to, aired_on_way, after_messages, end_answers, reply_at_end, reply_bytes, answer_bytes, bytes_for, bytes_for_all, bytes_at_end, items_for, sent_for, aired_for, after_burst, most_sent, most_aired};
 ghost use Rattle.vdcp_port.specs.Kept.{HasSlotsOf, IsKept, cueing_from_now, counting_from_now};
 
-/// A message that comes again is answered as before, leaves what it left, and airs nothing.
 #[tactic(auto, using(crate::proofs::TableLaws::copy_answer, crate::proofs::TableLaws::copy_port, crate::proofs::TableLaws::copy_air))]
 pub fn a_copy_changes_nothing()
     ensures answer { (p : ClockedPort) (m : Content) → answer_to (after_message p m) m ≡ answer_to p m }
@@ -32,8 +31,7 @@ pub fn a_copy_changes_nothing()
     ensures air { (p : ClockedPort) (m : Content) → aired_by (after_message p m) m ≡ None }
 {}
 
-/// A cue that is accepted fills the cued slot, whatever was in it, and starts its count; all else stays.
-/// So an item that is cued once more while it is cueing only starts its count again.
+/// An item that is cued again while it is cueing only starts its count again.
 pub fn a_cue_fills_the_cued_slot()
     ensures fills { (p : ClockedPort) (m : Content) (item : Item) → (row_at p m).change ≡ cues item →
         after_message p m ≡ cueing_from_now p item }
@@ -41,7 +39,6 @@ pub fn a_cue_fills_the_cued_slot()
         p.state.cued ≡ cueing item → after_message p m ≡ counting_from_now p }
 {}
 
-/// What is refused, denied or not answered changes nothing.
 pub fn a_refusal_changes_nothing()
     ensures refused { (p : ClockedPort) (m : Content) → answer_to p m ≡ Some (reply.Nak 0x01) → after_message p m ≡ p }
     ensures denied { (p : ClockedPort) (m : Content) → answer_to p m ≡ Some (reply.Opened false) →
@@ -49,8 +46,6 @@ pub fn a_refusal_changes_nothing()
     ensures unanswered { (p : ClockedPort) (m : Content) → answer_to p m ≡ None → after_message p m ≡ p }
 {}
 
-/// An item goes to air only by a PLAY to a selected port whose cue is done with it, and then it plays
-/// and nothing is cued.
 pub fn only_play_airs()
     ensures play { (p : ClockedPort) (m : Content) (item : Item) → aired_by p m ≡ Some item →
         asked_of p.state.unit m ≡ asked.Command command.Play }
@@ -63,21 +58,18 @@ pub fn only_play_airs()
         (after_message p m).state.cued ≡ empty }
 {}
 
-/// A PLAY to a selected port whose cue is done airs the item that is cued.
 pub fn play_airs_what_is_cued()
     ensures { (p : ClockedPort) (m : Content) (item : Item) →
         asked_of p.state.unit m ≡ asked.Command command.Play → IsTrue (is_selected p.state) → p.state.cued ≡ done item →
         aired_by p m ≡ Some item }
 {}
 
-/// However many messages a burst has, at most one item airs on the way: the one that is cued before.
 #[tactic(auto, using(crate::proofs::Bursts::at_most_the_cued))]
 pub fn a_burst_airs_at_most_the_cued_item()
     ensures { (p : ClockedPort) (ms : List Content) →
         (aired_on_way p ms ≡ []) ⊎ ((item : Item) × (p.state.cued ≡ done item) × (aired_on_way p ms ≡ item ∷ [])) }
 {}
 
-/// The state byte is one of six, and each of its four bits says one thing.
 #[tactic(auto, using(crate::proofs::StateByte::one_of_six))]
 pub fn the_state_byte()
     ensures one_of { (p : PortState) → Contains (0x01 ∷ 0x02 ∷ 0x04 ∷ 0x06 ∷ 0x80 ∷ 0x84 ∷ []) (state_byte p) }
@@ -87,8 +79,7 @@ pub fn the_state_byte()
     ensures done { (p : PortState) → not (bit_and (state_byte p) 128 == 0) ≡ is_done p.cued }
 {}
 
-/// A port that answers with the idle state, 01h, has nothing cued and plays nothing, so bits 1 and 7 of its state byte
-/// are off, as a late line (`vdcp_world`) asks of it in confirm mode. OPEN, SELECT and STATUS change neither of its slots.
+/// A port that answers idle, 01h, holds nothing, as a late line (`vdcp_world`) needs in confirm mode.
 pub fn an_idle_port_is_empty()
     ensures empty { (p : ClockedPort) (m : Content) (groups : ℕ) →
         answer_to p m ≡ Some (reply.State groups (Some 0x01)) →
@@ -106,8 +97,6 @@ pub fn an_idle_port_is_empty()
         HasSlotsOf p.state (after_message p m).state }
 {}
 
-/// Each answer can be read back: its numbers are bytes, its time code four of them, and its bitmap says
-/// rightly whether it has a state byte.
 pub fn answers_are_read_back()
     ensures { (p : ClockedPort) (ms : List Content) (end : End) →
         All IsWritableReply (answers_to p ms ++ end_answers end) }
@@ -115,7 +104,6 @@ pub fn answers_are_read_back()
     vdcp_value::laws::a_time_code_has_lawful_bytes();
 }
 
-/// Each command has an answer, and it can be read back.
 pub fn a_command_is_answered()
     ensures { (clips : List (ClipId × Timecode)) (p : PortState) (c : Command) →
         (reply : Reply) × ((command_row clips p c).answer ≡ Some reply) × IsWritableReply reply }
@@ -134,7 +122,6 @@ pub fn what_a_port_holds()
     ensures frame { (p : ClockedPort) → IsKept p → IsKept (after_frame p) }
 {}
 
-/// The message of a command asks for that command at its own unit, and for nothing at another.
 pub fn a_command_asks_its_own_unit()
     ensures own { (unit : ℕ) (c : Command) → IsWritableCommand c →
         asked_of unit (command_message unit c) ≡ asked.Command c }
@@ -144,7 +131,6 @@ pub fn a_command_asks_its_own_unit()
     vdcp_words::laws::written_command_is_read();
 }
 
-/// The row of a command's message, at its own unit, is the command's.
 pub fn a_command_has_its_own_row()
     ensures { (p : ClockedPort) (c : Command) → IsWritableCommand c →
         row_at p (command_message p.state.unit c) ≡ command_row p.clips p.state c }
@@ -152,7 +138,6 @@ pub fn a_command_has_its_own_row()
     a_command_asks_its_own_unit();
 }
 
-/// Messages that follow others are answered from the port that those leave.
 #[tactic(auto, using(crate::proofs::Answering::answers_to_both, crate::proofs::Answering::bytes_for_both, crate::proofs::Answering::aired_by_both, crate::proofs::Answering::after_both))]
 pub fn messages_after_messages()
     ensures answers { (p : ClockedPort) (ms ns : List Content) →
@@ -165,7 +150,6 @@ pub fn messages_after_messages()
         after_messages p (ms ++ ns) ≡ after_messages (after_messages p ms) ns }
 {}
 
-/// The unit address stays, whatever comes.
 #[tactic(auto, using(crate::proofs::Units::unit_of_next, crate::proofs::Units::unit_of_after, crate::proofs::Units::unit_of_frame))]
 pub fn the_unit_stays()
     ensures message { (p : ClockedPort) (m : Content) → (after_message p m).state.unit ≡ p.state.unit }
@@ -176,7 +160,6 @@ pub fn the_unit_stays()
     ensures ended { (p : ClockedPort) → (after_ended p).state.unit ≡ p.state.unit }
 {}
 
-/// What one message gives, with none before or after it; and the bytes of one reply.
 #[tactic(auto, using(crate::proofs::Answering::bytes_for_alone, crate::proofs::Answering::aired_by_alone, crate::proofs::Answering::bytes_of_one))]
 pub fn one_alone()
     ensures sent { (p : ClockedPort) (m : Content) → bytes_for_all p (m ∷ []) ≡ bytes_for p m }
@@ -184,8 +167,6 @@ pub fn one_alone()
     ensures reply { (unit : ℕ) (reply : Reply) → answer_bytes unit (reply ∷ []) ≡ reply_bytes unit reply }
 {}
 
-/// A burst of bytes that reads as these messages and this end is answered as the messages are, one after
-/// another, and then as the end is.
 pub fn a_burst_is_answered_as_it_is_read()
     ensures sent { (p : ClockedPort) (burst : List ℕ) (ms : List Content) (end : End) → AreOctets burst →
         Reads burst ms end → sent_for p burst ≡ bytes_for_all p ms ++ answer_bytes p.state.unit (end_answers end) }
@@ -197,8 +178,7 @@ pub fn a_burst_is_answered_as_it_is_read()
     vdcp_frame::laws::one_reading();
 }
 
-/// A burst of which the streaming reader gave the messages, and said how it ended, is answered as they are:
-/// what is sent for it is what was sent for its messages, and after that the bytes of `reply_at_end`.
+/// The streaming reader's messages and its end are answered as those of the whole burst.
 pub fn a_burst_is_answered_as_it_ended()
     ensures sent { (p : ClockedPort) (burst : List ℕ) (ms : List Content) (ended : Ended) → AreOctets burst →
         ReadsAs burst ms ended → sent_for p burst ≡ bytes_for_all p ms ++ bytes_at_end p.state.unit ended }
@@ -210,7 +190,6 @@ pub fn a_burst_is_answered_as_it_ended()
     vdcp_frame::laws::one_reading();
 }
 
-/// The end of a reading is answered alike, whether a definition or the streaming reader says how it ended.
 pub fn one_answer_to_the_end()
     ensures { (burst : List ℕ) (ms ns : List Content) (end : End) (ended : Ended) → Reads burst ms end →
         ReadsAs burst ns ended → end_answers end ≡ option_to_list (reply_at_end ended) }
@@ -218,7 +197,6 @@ pub fn one_answer_to_the_end()
     vdcp_frame::laws::one_reading();
 }
 
-/// An answer has at most three bytes for each byte of its message.
 pub fn an_answer_is_short()
     ensures { (p : ClockedPort) (m : Content) (bytes : List ℕ) → Spells m bytes →
         length (bytes_for p m) ≤ 3 * length bytes }
@@ -228,7 +206,6 @@ pub fn an_answer_is_short()
     vdcp_value::laws::a_time_code_has_lawful_bytes();
 }
 
-/// What is sent for a burst of bytes, and what airs in it, fits the room that is made for it.
 pub fn what_a_burst_needs()
     ensures sent { (p : ClockedPort) (burst : List ℕ) → AreOctets burst → length (sent_for p burst) ≤ most_sent burst }
     ensures aired { (p : ClockedPort) (burst : List ℕ) → AreOctets burst →
@@ -238,8 +215,7 @@ pub fn what_a_burst_needs()
     vdcp_frame::laws::one_reading();
 }
 
-/// A burst without a message, empty or of whatever bytes, airs nothing and leaves the port as it was. It
-/// is not answered, or by one NAK for its end.
+/// Such a burst, of whatever bytes, is answered by one NAK at most.
 pub fn a_burst_without_a_message()
     ensures sent { (p : ClockedPort) (burst : List ℕ) → messages_of burst ≡ [] →
         (sent_for p burst ≡ []) ⊎ (sent_for p burst ≡ 0x05 ∷ 0x04 ∷ []) ⊎ (sent_for p burst ≡ 0x05 ∷ 0x80 ∷ []) }
@@ -247,8 +223,6 @@ pub fn a_burst_without_a_message()
     ensures next { (p : ClockedPort) (burst : List ℕ) → messages_of burst ≡ [] → after_burst p burst ≡ p }
 {}
 
-/// A burst with one message is answered as the message is, and then as its end is, whatever follows
-/// the message.
 #[tactic(auto, using(crate::proofs::FewMessages::sent_with_one, crate::proofs::FewMessages::aired_with_one, crate::proofs::FewMessages::after_with_one))]
 pub fn a_burst_with_one_message()
     ensures sent { (p : ClockedPort) (m : Content) (burst : List ℕ) → messages_of burst ≡ m ∷ [] →
@@ -259,7 +233,6 @@ pub fn a_burst_with_one_message()
         after_burst p burst ≡ after_message p m }
 {}
 
-/// A burst that is one message is answered as the message is.
 pub fn a_burst_of_one_message()
     ensures sent { (p : ClockedPort) (m : Content) → Fits m →
         sent_for p (spelling m) ≡ bytes_for p m }
@@ -269,7 +242,7 @@ pub fn a_burst_of_one_message()
     vdcp_frame::laws::a_spelling_is_its_message();
 }
 
-/// A cue is done with the last frame of its count, and not before. So it is with a clip that ends.
+/// A cue is done, and a clip ends, with the last frame of its count, and not before.
 #[tactic(auto, using(crate::proofs::Frames::cues_on, crate::proofs::Frames::cues_out, crate::proofs::Frames::plays_on, crate::proofs::Frames::plays_out))]
 pub fn counts_are_frames()
     ensures cueing { (p : ClockedPort) (n : ℕ) → n < p.counts.cue → (after_frames n p).state.cued ≡ p.state.cued }

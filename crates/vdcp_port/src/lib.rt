@@ -1,8 +1,5 @@
 //! The server's port of one playout channel, from bytes to bytes.
 //!
-//! The caller owns the bytes. It hands each burst over whole, or its messages one by one, sends what the
-//! port answers, and tells the port what its clips do:
-//!
 //! ```text
 //! let mut port = Port::with_clock(catalogue, unit, number, cue_frames);
 //! loop {
@@ -10,11 +7,9 @@
 //!     at a frame: let (is_done, has_ended) = port.frame();
 //! }
 //! ```
-//!
-//! What clips there are, and how long, a `Catalogue` says. Only `burst_answer` takes memory, for the two
-//! collections that it is lent; `answer_into` answers a burst into an array. A caller that has the messages
-//! one by one passes them to `answer`, and at the silence sends what `reply_at_end` gives.
-//!
+//! A `Catalogue` says what clips there are. Only `burst_answer` takes memory; `answer_into` answers a burst into an
+//! array. A caller that has single messages passes them to `answer`, and at the silence sends what `reply_at_end`
+//! gives.
 //! Files, in reading order: `port`, `burst`, `access`, `airing`, `asked`, `catalogue`, `sink`, `kept`, `laws`.
 #![tactic(auto)]
 

@@ -10,15 +10,11 @@ use vdcp_frame::Message;
 use vdcp_value::{ClipId, Item, Part};
 use vdcp_words::{Command, Reply};
 
-/// NAK 01h: the command is unknown or refused, or its data has a wrong length (this profile).
+/// The command is unknown or refused, or its data has a wrong length (this profile).
 const REFUSED: Reply = Reply::Nak(0x01);
 
-/// The server's end of one playout channel: a port that its controller opens, selects, and lets cue and
-/// play. It speaks only in answer.
-///
-/// `answer`, `burst_answer` and `answer_into` bring in what the controller sends. `ready` and `ended`, or
-/// `frame` at each frame, bring in what the clips do. `status_byte`, `unit` and `number` only look.
-///
+/// The server's end of one playout channel, which speaks only in answer. `answer`, `burst_answer` and `answer_into`
+/// take what the controller sends; `ready` and `ended`, or `frame` at each frame, take what the clips do.
 /// ```text
 ///        OPEN          SELECT
 /// closed ----> open ------------> selected: PLAY CUE and CUE WITH DATA fill the cued slot,
@@ -63,8 +59,7 @@ impl<C: Catalogue> Port<C> {
     ghost use Rattle.vdcp_port.specs.Port.{is_selected, state_byte};
     ghost use Rattle.vdcp_port.specs.Row.{command_row, cue_row};
 
-    /// A new port, closed and with empty slots, at which a cue takes one frame. It serves the clips of the
-    /// catalogue, answers what is sent to the unit address, 0 to 15, and has this port number.
+    /// Makes a closed port with empty slots, at which a cue takes one frame. It answers what is sent to `unit`.
     pub fn new(catalogue: C, unit: u8, number: u8) -> Port<C>
         requires { unit ≤ 15 }
         ensures { result ≡ new_port (C.clips catalogue) unit number 1 }
@@ -72,7 +67,7 @@ impl<C: Catalogue> Port<C> {
         Port::with_clock(catalogue, unit, number, 1)
     }
 
-    /// A port as `new` makes it, but for its cues, each of which takes 1 to 1,000 frames.
+    /// As `new`, but each cue takes `cue_frames`.
     pub fn with_clock(catalogue: C, unit: u8, number: u8, cue_frames: u32) -> Port<C>
         requires unit { unit ≤ 15 }
         requires some { 0 < cue_frames }
@@ -92,7 +87,7 @@ impl<C: Catalogue> Port<C> {
 
     ghost use Rattle.vdcp_port.specs.Held.{CanKeep, port_of};
 
-    /// All that the port knows, but for its catalogue. `of_kept` makes it again.
+    /// All that the port knows, but for its catalogue; `of_kept` makes the port again.
     pub fn kept(&self) -> Kept
         ensures seen { self.now ≡ port_of self.now.clips result }
         ensures again { CanKeep self.now.clips result }
@@ -107,7 +102,7 @@ impl<C: Catalogue> Port<C> {
         }
     }
 
-    /// The port over a catalogue that stands so: `Kept::stands_over` tests it.
+    /// `Kept::stands_over` tests what this requires.
     pub fn of_kept(catalogue: C, kept: &Kept) -> Port<C>
         requires { CanKeep (C.clips catalogue) kept.now }
         ensures { result ≡ port_of (C.clips catalogue) kept.now }
@@ -124,7 +119,6 @@ impl<C: Catalogue> Port<C> {
         }
     }
 
-    /// The unit address, 0 to 15: answers go out from it.
     pub fn unit(&self) -> u8
         ensures unit { result ≡ self.now.state.unit }
         ensures fits { result ≤ 15 }
@@ -132,15 +126,14 @@ impl<C: Catalogue> Port<C> {
         self.address
     }
 
-    /// Its port number.
     pub fn number(&self) -> u8
         ensures { result ≡ self.now.state.number }
     {
         self.number
     }
 
-    /// The state byte of VDCP's port status, of which this profile sets four bits. Bit 0 says that both slots
-    /// are empty, bit 1 that an item is cueing, bit 2 that one plays, and bit 7 that the cue is done.
+    /// The state byte of VDCP's port status, of which this profile sets four bits: 0, both slots are empty; 1, an item
+    /// is cueing; 2, one plays; 7, the cue is done.
     pub fn status_byte(&self) -> u8
         ensures { result ≡ state_byte self.now.state }
     {
@@ -154,22 +147,21 @@ impl<C: Catalogue> Port<C> {
         }
     }
 
-    /// What is cueing is done at once: PLAY airs it from now on. Otherwise nothing changes.
+    /// Completes the cue at once, so that PLAY airs its item; changes nothing if no item is cueing.
     pub fn ready(&mut self)
         ensures { self.new ≡ after_ready self.old }
     {
         self.cued = finish_cue(self.cued);
     }
 
-    /// What plays has ended: the playing slot is empty from now on.
+    /// Empties the playing slot, since what plays has ended.
     pub fn ended(&mut self)
         ensures { self.new ≡ after_ended self.old }
     {
         self.playing = None;
     }
 
-    /// One frame passes at both slots. The answer is whether it was the last of the cue, which is then
-    /// done as by `ready`, and whether it was the last of the clip, which then has ended as by `ended`.
+    /// One frame passes at both slots. Says whether the cue is done by it, and whether the clip has ended.
     pub fn frame(&mut self) -> (bool, bool)
         ensures cue { result.0 ≡ completes_cue self.old }
         ensures clip { result.1 ≡ ends_clip self.old }
@@ -182,9 +174,8 @@ impl<C: Catalogue> Port<C> {
         (is_done, has_ended)
     }
 
-    /// Takes a message, and gives the answer to it and the item that goes to air by it. ACK, NAK and what
-    /// is for another unit have no answer. The rows of the answers are this profile's, over VDCP's
-    /// commands; `docs/PROTOCOL.md` has their table.
+    /// Takes a message, and gives its answer and the item that goes to air by it. ACK, NAK and what is for another unit
+    /// have no answer. `docs/PROTOCOL.md` has the table, which is this profile's.
     pub fn answer(&mut self, message: &Message) -> (Option<Reply>, Option<Item>)
         ensures answer { result.0 ≡ answer_to self.old (content_of message.now) }
         ensures aired { result.1 ≡ aired_by self.old (content_of message.now) }

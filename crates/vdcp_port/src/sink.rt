@@ -2,17 +2,13 @@
 use arrayvec::ArrayVec;
 use std::alloc::Allocator;
 
-/// Where answers go as long as there is room.
 pub(crate) trait Sink {
     ghost use Rattle.std.specs.Prelude.{ℕ, ◌≡◌, ◌+◌, ◌≤◌, ◌++◌, List, length};
 
-    /// The bytes that it holds.
     ghost written: { Self → List ℕ };
 
-    /// How many more bytes it has room for.
     ghost room: { Self → ℕ };
 
-    /// Appends bytes if there is room for them.
     fn append(&mut self, bytes: &[u8])
         requires { length bytes.now ≤ room self.old }
         ensures written { written self.new ≡ written self.old ++ bytes.now }
@@ -41,7 +37,7 @@ impl<const N: usize> Sink for ArrayVec<u8, N> {
     ghost room = { λ v. N - array_vec_len v };
 
     fn append(&mut self, bytes: &[u8]) {
-        // It holds N bytes at most.
+        // So the prover knows that it holds N bytes at most.
         let _ = self.len();
         self.try_extend_from_slice(bytes).unwrap();
     }

@@ -14,13 +14,11 @@ use crate::phase::{Mode, Phase, Position, Transition};
 use crate::source::Source;
 use vdcp_words::{Command, Reply};
 
-/// The lock byte of OPEN PORT.
 const LOCK: u8 = 0x01;
 /// The bitmap of PORT STATUS REQUEST that asks for the state byte.
 const STATE: u8 = 0x01;
 
 impl<S: Source> Controller<S> {
-    /// What the phase sends.
     pub(super) fn command_in(&self, phase: Phase) -> Command
         requires { IsPhaseIn S.items self.now phase }
         ensures { table.command_in (S.items self.now.source) self.now.port phase ≡ Some result }
@@ -42,7 +40,6 @@ impl<S: Source> Controller<S> {
         }
     }
 
-    /// Ends the awaited exchange.
     pub(super) fn end(&mut self, phase: Phase, exchange: &Exchange)
         requires { self.old.state.stage ≡ Awaiting phase }
         ensures { self.new ≡ record self.old {
@@ -77,8 +74,7 @@ impl<S: Source> Controller<S> {
         }
     }
 
-    /// Where an exchange leads that this reply answers, if one does. The limit of unanswered exchanges
-    /// in a row goes before what the phase does.
+    /// The limit of unanswered exchanges in a row goes before what the phase does.
     fn transition_on(&self, phase: Phase, counts: bool, answer: Option<Reply>) -> Transition
         requires within { IsPhaseIn S.items self.now phase }
         requires few { self.now.state.unanswered < 1000 }
@@ -94,7 +90,6 @@ impl<S: Source> Controller<S> {
         }
     }
 
-    /// Where a reply leads that fits the phase's command.
     fn on_reply(&self, phase: Phase, reply: &Reply) -> Transition
         requires { IsPhaseIn S.items self.now phase }
         ensures transition { result ≡ table.on_reply self.now.mode (S.items self.now.source)
@@ -125,7 +120,6 @@ impl<S: Source> Controller<S> {
         }
     }
 
-    /// Where NAK 01 leads.
     fn on_refusal(&self, phase: Phase) -> Transition
         requires { IsPhaseIn S.items self.now phase }
         ensures transition { result ≡ table.on_refusal (length (S.items self.now.source)) phase }
@@ -146,7 +140,6 @@ impl<S: Source> Controller<S> {
         }
     }
 
-    /// Where an unanswered exchange leads, short of the limit.
     fn on_no_answer(&self, phase: Phase) -> Transition
         requires { IsPhaseIn S.items self.now phase }
         ensures transition { result ≡ table.on_no_answer self.now.mode phase }
@@ -158,7 +151,6 @@ impl<S: Source> Controller<S> {
         }
     }
 
-    /// Where a state leads in Wait(k).
     fn on_state_in_wait(&self, k: usize, reply: &Reply) -> Transition
         requires { k < length (S.items self.now.source) }
         ensures transition { result ≡ table.on_reply self.now.mode (S.items self.now.source)
@@ -174,7 +166,6 @@ impl<S: Source> Controller<S> {
         }
     }
 
-    /// Where a state with nothing cued leads in Wait(k).
     fn on_lost_cue(&self, k: usize) -> Transition
         requires { k < length (S.items self.now.source) }
         ensures transition { result
@@ -188,7 +179,6 @@ impl<S: Source> Controller<S> {
         }
     }
 
-    /// Where a state leads in Drain.
     fn on_state_in_drain(&self, reply: &Reply) -> Transition
         ensures transition { result ≡ table.on_reply self.now.mode (S.items self.now.source)
             self.now.limit self.now.state.take self.now.state.tries Phase.Drain reply.now }
@@ -203,7 +193,6 @@ impl<S: Source> Controller<S> {
         }
     }
 
-    /// The phase for event k, or Drain if there is none.
     fn next(&self, k: usize) -> Phase
         ensures next { result ≡ table.next (S.items self.now.source) k }
         ensures within { IsPhaseIn S.items self.now result }
@@ -216,7 +205,6 @@ impl<S: Source> Controller<S> {
     }
 }
 
-/// Where an unanswered exchange leads in plain mode, short of the limit.
 fn on_no_answer_in_plain(phase: Phase) -> Transition
     ensures { result ≡ table.on_no_answer Mode.Plain phase }
 {
@@ -237,8 +225,7 @@ fn on_no_answer_in_plain(phase: Phase) -> Transition
     }
 }
 
-/// Where an unanswered exchange leads in confirm mode, short of the limit. A command that only a
-/// receipt answers ends by its time-out.
+/// A command that only a receipt answers ends by its time-out.
 fn on_no_answer_in_confirming(phase: Phase) -> Transition
     ensures { result ≡ table.on_no_answer Mode.Confirming phase }
 {
