@@ -18,11 +18,9 @@ pub struct vdcp_airing {
     pub duration: [u8; 4],
     /// 0: there is none; 1: a whole clip; 2: a part.
     pub what: u32,
-    /// The frames left.
     pub left: u32,
 }
 
-/// What the struct says, if it says something.
 pub(crate) fn clip_in(a: &vdcp_airing) -> Option<Option<Clip>>
     ensures some { IfSome result (IsAiring a.now) }
     ensures accepts { (clip : Option Clip) → IsAiring a.now clip → result ≡ Some clip }
@@ -41,7 +39,6 @@ pub(crate) fn clip_in(a: &vdcp_airing) -> Option<Option<Clip>>
     }))
 }
 
-// The part of the clip that it names, or none for a whole one.
 fn part_in(a: &vdcp_airing) -> Option<Option<Part>>
     ensures some { IfSome result (IsPartOf a.now) }
     ensures accepts { (part : Option Part) → IsPartOf a.now part → IsSome result }
@@ -56,7 +53,6 @@ fn part_in(a: &vdcp_airing) -> Option<Option<Part>>
     }
 }
 
-/// Writes what airs into the struct.
 pub(crate) fn put_clip(clip: &Option<Clip>, a: &mut vdcp_airing)
     ensures { IsAiring a.new clip.now }
 {
@@ -80,7 +76,6 @@ pub(crate) fn put_clip(clip: &Option<Clip>, a: &mut vdcp_airing)
     }
 }
 
-/// Writes what went to air into the struct.
 pub(crate) fn put_aired(item: &Option<Item>, a: &mut vdcp_airing)
     ensures { IsAired a.new item.now }
 {

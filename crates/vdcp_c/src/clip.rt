@@ -1,6 +1,6 @@
 //! A row of the clip table that C code hands over.
 
-/// A clip of a server, and how long it is: a packed BCD time code.
+/// A clip of a server, and its length in packed BCD.
 #[repr(C)]
 #[derive(Clone, Copy)]
 pub struct vdcp_clip {

@@ -11,7 +11,7 @@ use vdcp_port::Catalogue;
 use vdcp_value::laws::an_id_is_its_bytes;
 use vdcp_value::{ClipId, Rate, Timecode};
 
-/// The clips that the caller lends for a call, at a rate. Rows whose length is no time code don't count.
+/// Rows whose length is no time code at the rate don't count.
 #[derive(Clone, Copy)]
 pub(crate) struct LentClips<'a> {
     pub(crate) rate: Rate,
@@ -37,7 +37,6 @@ fn length_in(rate: Rate, rows: &[vdcp_clip], id: &ClipId) -> Option<Timecode>
     }
 }
 
-// Where a search for the ID ends.
 #[tactic(auto, unfolding(crate::specs::Clips::place_of))]
 fn place_of(rows: &[vdcp_clip], id: &ClipId) -> usize
     ensures { result ≡ place_of (keys_of rows.now) (key_of id.now) }
@@ -46,7 +45,6 @@ fn place_of(rows: &[vdcp_clip], id: &ClipId) -> usize
     end_of(rows, key_of(id), bits, 0)
 }
 
-// As `place_of`, among the `2 ^ bits` rows that begin at row `at`.
 fn end_of(rows: &[vdcp_clip], key: u64, bits: u32, at: usize) -> usize
     requires bits { bits ≤ 64 }
     requires within { at + 2 ^ bits ≤ 2 ^ 64 }
@@ -71,7 +69,6 @@ fn power_of_two(k: u32) -> usize
     1 << k
 }
 
-// Whether a row stands there, and comes before a key.
 #[tactic(auto, using(crate::proofs::Places::key_count))]
 fn is_before(rows: &[vdcp_clip], key: u64, at: usize) -> bool
     ensures { result ≡ is_before (keys_of rows.now) key at }
@@ -94,7 +91,6 @@ fn key_of(id: &ClipId) -> u64
     u64::from_be_bytes(id.bytes())
 }
 
-/// Whether each row has a greater ID than the one before.
 #[tactic(auto, using(crate::proofs::Places::not_ascending))]
 pub(crate) fn ascends(rows: &[vdcp_clip]) -> bool
     ensures { IsTrue result ↔ Ascends rows.now }
@@ -107,7 +103,6 @@ pub(crate) fn ascends(rows: &[vdcp_clip]) -> bool
     true
 }
 
-// A search finds all rows of a table that ascends.
 #[tactic(auto, using(crate::proofs::Places::all_are_found))]
 pub(crate) fn every_row_is_found(rows: &[vdcp_clip])
     ensures { Ascends rows.now → (rate : Rate) → clips_of rate rows.now ≡ every_clip rate rows.now }
@@ -115,7 +110,6 @@ pub(crate) fn every_row_is_found(rows: &[vdcp_clip])
     let _count = rows.len();
 }
 
-// The length that the row has for an ID.
 fn own_of_row(rate: Rate, row: &vdcp_clip, id: &ClipId) -> Option<Timecode>
     ensures { result ≡ own_length rate row.now id.now }
 {

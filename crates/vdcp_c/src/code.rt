@@ -1,10 +1,9 @@
 //! The codes that calls answer with.
 
-/// All went well.
 pub(crate) const OK: i32 = 0;
 /// The struct is none that a call has made, or not over this list or these clips. Nothing has changed.
 pub(crate) const BAD_STATE: i32 = 100;
-/// The struct of the message is none.
+/// The message's struct is none.
 pub(crate) const BAD_MESSAGE: i32 = 101;
 /// The struct, the message or the text is no command, or no reply, of this profile.
 pub(crate) const BAD_COMMAND: i32 = 102;

@@ -18,7 +18,6 @@ use vdcp_value::ClipId;
 use vdcp_value::laws::an_id_is_its_bytes;
 use vdcp_words::Command;
 
-/// A command: which it is, and what it carries.
 #[repr(C)]
 #[derive(Clone, Copy)]
 pub struct vdcp_command {
@@ -27,7 +26,6 @@ pub struct vdcp_command {
     pub word: u8,
     /// The port, or the bitmap.
     pub byte: u8,
-    /// The lock byte.
     pub lock: u8,
     pub unused: u8,
     pub id: [u8; 8],
@@ -35,7 +33,6 @@ pub struct vdcp_command {
     pub duration: [u8; 4],
 }
 
-/// The command that the struct is.
 pub(crate) fn command_in(c: &vdcp_command) -> Option<Command>
     ensures some { IfSome result (IsCommand c.now) }
     ensures accepts { (command : Command) → IsCommand c.now command → IsSome result }
@@ -57,7 +54,6 @@ pub(crate) fn command_in(c: &vdcp_command) -> Option<Command>
     }
 }
 
-/// Writes the struct of a command.
 pub(crate) fn put_command(command: &Command, out: &mut vdcp_command)
     ensures { IsCommand out.new command.now }
 {
@@ -103,7 +99,6 @@ pub(crate) fn put_command(command: &Command, out: &mut vdcp_command)
     }
 }
 
-/// Writes the bytes that carry a command to a unit.
 #[unsafe(no_mangle)]
 pub extern "C" fn vdcp_command_bytes(
     command: &vdcp_command,
@@ -126,7 +121,6 @@ pub extern "C" fn vdcp_command_bytes(
     put_bytes(c.encode(unit).as_slice(), out, written)
 }
 
-/// Reads the command that a message carries, to whatever unit.
 #[unsafe(no_mangle)]
 pub extern "C" fn vdcp_command_of_message(message: &vdcp_message, command: &mut vdcp_command) -> i32
     ensures read { result ≢ bad_message → (m : Content) × IsContent message.now m
@@ -146,7 +140,6 @@ pub extern "C" fn vdcp_command_of_message(message: &vdcp_message, command: &mut 
     }
 }
 
-/// Writes the text of a command.
 #[unsafe(no_mangle)]
 pub extern "C" fn vdcp_command_text(
     command: &vdcp_command,
@@ -167,7 +160,6 @@ pub extern "C" fn vdcp_command_text(
     put_bytes(text.as_str().as_bytes(), out, written)
 }
 
-/// Reads the command whose text this is.
 #[unsafe(no_mangle)]
 pub extern "C" fn vdcp_command_of_text(text: &[u8], command: &mut vdcp_command) -> i32
     ensures read { result ≢ bad_command → (result ≡ pos 0)

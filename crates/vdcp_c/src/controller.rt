@@ -141,7 +141,6 @@ fn standing_of(c: &vdcp_controller) -> Option<Standing>
     }
 }
 
-// The controller that the struct stands for, over a list of `count` events; none if no call can have made the struct.
 fn snapshot_of(c: &vdcp_controller, count: usize) -> Option<Snapshot>
     ensures some { IfSome result (StandsAs c.now) }
     ensures can { IfSome result (CanStand count) }
@@ -167,7 +166,6 @@ fn snapshot_of(c: &vdcp_controller, count: usize) -> Option<Snapshot>
     Some(snapshot)
 }
 
-// Writes what a controller knows into the struct.
 fn put_snapshot(s: &Snapshot, c: &mut vdcp_controller)
     ensures { StandsAs c.new s.now }
 {
@@ -189,7 +187,6 @@ fn put_snapshot(s: &Snapshot, c: &mut vdcp_controller)
     c.settled = s.settled as u64;
 }
 
-// The controller over a list that the struct is.
 fn controller_in<'a>(c: &vdcp_controller, list: &'a [vdcp_item]) -> Option<Controller<LentList<'a>>>
     ensures some { IfSome result (λ v. IsController c.now list.now (plan_of (λ s. items_of s.rows.now) v) v.state) }
     ensures list { IfSome result (λ v. v.source.rows.now ≡ list.now) }
@@ -199,7 +196,6 @@ fn controller_in<'a>(c: &vdcp_controller, list: &'a [vdcp_item]) -> Option<Contr
     Some(Controller::of_snapshot(LentList::of(list), &snapshot))
 }
 
-// Writes a controller into the struct.
 fn put(controller: &Controller<LentList>, c: &mut vdcp_controller)
     ensures { IsController c.new controller.now.source.rows.now
         (plan_of (λ s. items_of s.rows.now) controller.now) controller.now.state }
@@ -207,7 +203,6 @@ fn put(controller: &Controller<LentList>, c: &mut vdcp_controller)
     put_snapshot(&controller.snapshot(), c);
 }
 
-/// A new controller.
 #[unsafe(no_mangle)]
 pub extern "C" fn vdcp_controller_new(
     c: &mut vdcp_controller,
@@ -250,7 +245,7 @@ pub fn code_of_mode(mode: Mode) -> u8
     }
 }
 
-/// Gives the next command, and awaits its answer: 1 if one is given, 0 if there is nothing to send.
+/// 1: a command is given; 0: there is nothing to send.
 #[unsafe(no_mangle)]
 pub extern "C" fn vdcp_controller_tick(
     c: &mut vdcp_controller,
@@ -277,7 +272,7 @@ pub extern "C" fn vdcp_controller_tick(
     }
 }
 
-/// Takes a message that came from the asked unit.
+/// `unit` is the one that was asked.
 #[unsafe(no_mangle)]
 pub extern "C" fn vdcp_controller_hear(
     c: &mut vdcp_controller,
@@ -303,7 +298,6 @@ pub extern "C" fn vdcp_controller_hear(
     OK
 }
 
-/// Nothing came in time.
 #[unsafe(no_mangle)]
 pub extern "C" fn vdcp_controller_timeout(c: &mut vdcp_controller, list: &[vdcp_item]) -> i32
     ensures timed_out { result ≢ bad_state → (plan : Plan) × (state : State) × IsController c.old list.now plan state
@@ -319,7 +313,6 @@ pub extern "C" fn vdcp_controller_timeout(c: &mut vdcp_controller, list: &[vdcp_
     OK
 }
 
-/// The operator wants the next event though the last one still plays.
 #[unsafe(no_mangle)]
 pub extern "C" fn vdcp_controller_take(c: &mut vdcp_controller, list: &[vdcp_item]) -> i32
     ensures taken { result ≢ bad_state → (plan : Plan) × (state : State) × IsController c.old list.now plan state
@@ -335,7 +328,6 @@ pub extern "C" fn vdcp_controller_take(c: &mut vdcp_controller, list: &[vdcp_ite
     OK
 }
 
-/// The operator wants to stop.
 #[unsafe(no_mangle)]
 pub extern "C" fn vdcp_controller_stop(c: &mut vdcp_controller, list: &[vdcp_item]) -> i32
     ensures stopped { result ≢ bad_state → (plan : Plan) × (state : State) × IsController c.old list.now plan state

@@ -1,7 +1,6 @@
 //! The struct of a playlist's event.
 ghost use Rattle.vdcp_value.specs.Bytes.{AreBytes};
 
-/// An event of a playlist: a clip, or a part of it.
 #[repr(C)]
 #[derive(Clone, Copy)]
 pub struct vdcp_item {

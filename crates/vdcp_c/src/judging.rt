@@ -36,11 +36,9 @@ pub struct vdcp_judging {
     /// 0 void, 1 stands, 2 done.
     pub last_cue: u8,
     pub unused: u8,
-    /// How many events the exchanges settle.
     pub settled: u64,
 }
 
-// What the struct says, if it says something.
 fn notes_in(j: &vdcp_judging) -> Option<Notes>
     ensures some { IfSome result (IsNotes j.now) }
     ensures accepts { (n : Notes) → IsNotes j.now n → IsSome result }
@@ -66,7 +64,6 @@ fn notes_in(j: &vdcp_judging) -> Option<Notes>
     })
 }
 
-// Each flag is 0 or 1.
 fn are_flags(j: &vdcp_judging) -> bool
     ensures { IsTrue result ↔ ((j.now.has_open_play ≤ 1) × (j.now.may_have_aired ≤ 1) × (j.now.stopped ≤ 1)
         × (j.now.closed ≤ 1) × (j.now.granted ≤ 1)) }
@@ -78,7 +75,6 @@ fn are_flags(j: &vdcp_judging) -> bool
         && j.granted <= 1
 }
 
-// Writes the struct.
 fn put(notes: &Notes, j: &mut vdcp_judging)
     ensures { IsNotes j.new notes.now }
 {
@@ -96,7 +92,6 @@ fn put(notes: &Notes, j: &mut vdcp_judging)
     };
 }
 
-/// A new judge, which has no exchange yet.
 #[unsafe(no_mangle)]
 pub extern "C" fn vdcp_judging_new(j: &mut vdcp_judging, mode: u8) -> i32
     ensures new { result ≡ pos 0 → (n : Notes) × IsNotes j.new n × (mode_code n.mode ≡ mode)
@@ -111,7 +106,6 @@ pub extern "C" fn vdcp_judging_new(j: &mut vdcp_judging, mode: u8) -> i32
     OK
 }
 
-// What a new judge knows.
 fn new_notes(mode: Mode) -> Notes
     ensures mode { result.mode ≡ mode }
     ensures knows { (list : List Item) → KnowsOf list [] result }
@@ -128,7 +122,6 @@ fn new_notes(mode: Mode) -> Notes
     }
 }
 
-/// Whether the rule book lets the command follow the exchanges so far.
 #[unsafe(no_mangle)]
 pub extern "C" fn vdcp_judging_allows(
     j: &vdcp_judging,
@@ -160,7 +153,6 @@ fn allows(notes: &Notes, list: &[vdcp_item], c: &Command) -> bool
     Judge::of_notes(LentList::of(list), notes).allows(c)
 }
 
-// What the judge knows after one exchange more.
 fn after(notes: &Notes, list: &[vdcp_item], exchange: &Exchange) -> Notes
     ensures { IsAdded (items_of list.now) notes.now exchange.now result }
 {
@@ -169,7 +161,6 @@ fn after(notes: &Notes, list: &[vdcp_item], exchange: &Exchange) -> Notes
     judge.notes()
 }
 
-/// Adds an exchange that a message ended.
 #[unsafe(no_mangle)]
 pub extern "C" fn vdcp_judging_add(
     j: &mut vdcp_judging,
@@ -199,7 +190,6 @@ pub extern "C" fn vdcp_judging_add(
     OK
 }
 
-/// Adds an exchange for which nothing came in time.
 #[unsafe(no_mangle)]
 pub extern "C" fn vdcp_judging_add_silence(
     j: &mut vdcp_judging,

@@ -6,7 +6,6 @@ use crate::row::item_in;
 use vdcp_auto::Source;
 use vdcp_value::Item;
 
-/// A list that the caller lends for a call.
 #[derive(Clone, Copy)]
 pub(crate) struct LentList<'a> {
     rows: &'a [vdcp_item],

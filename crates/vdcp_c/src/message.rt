@@ -9,7 +9,6 @@ use crate::room::put_bytes;
 use arrayvec::ArrayVec;
 use vdcp_frame::{Message, write};
 
-/// A message: its kind, and of a framed one its type, unit, code and data.
 #[repr(C)]
 #[derive(Clone, Copy)]
 pub struct vdcp_message {
@@ -26,7 +25,6 @@ pub struct vdcp_message {
     pub data: [u8; 256],
 }
 
-/// Writes the message into the struct.
 pub(crate) fn put_message(message: &Message, out: &mut vdcp_message)
     requires { IsWritable (content_of message.now) }
     ensures { IsContent out.new (content_of message.now) }
@@ -50,7 +48,6 @@ pub(crate) fn put_message(message: &Message, out: &mut vdcp_message)
     }
 }
 
-// Writes a message that isn't framed: its kind, and the error byte.
 fn put_byte(kind: u8, byte: u8, out: &mut vdcp_message)
     ensures { (out.new.kind ≡ kind) × (out.new.code ≡ byte) }
 {
@@ -61,7 +58,6 @@ fn put_byte(kind: u8, byte: u8, out: &mut vdcp_message)
     out.count = 0;
 }
 
-/// The message that the struct has, if it has one.
 pub(crate) fn message_in(m: &vdcp_message) -> Option<Message<'_>>
     ensures some { IfSome result (λ message. IsContent m.now (content_of message)) }
     ensures writable { IfSome result (λ message. IsWritable (content_of message)) }
@@ -80,7 +76,6 @@ pub(crate) fn message_in(m: &vdcp_message) -> Option<Message<'_>>
     }
 }
 
-/// Writes the bytes that spell a message.
 #[tactic(auto, using(crate::proofs::Contents::short_spelling))]
 #[unsafe(no_mangle)]
 pub extern "C" fn vdcp_message_bytes(

@@ -13,7 +13,6 @@ use vdcp_frame::{Fault, Got, LIMIT, can_hold, fill, read_front};
 /// What stands in `taken` after a fault.
 const FAILED: u16 = 65535;
 
-/// No bytes are left.
 const MORE: i32 = 0;
 /// A message has come.
 const MESSAGE: i32 = 1;
@@ -56,7 +55,6 @@ pub extern "C" fn vdcp_reader_feed(
     go_on(reader, piece, taken, message)
 }
 
-// Whether the struct is a reader's that had no fault.
 fn can_go_on(reader: &vdcp_reader) -> bool
     ensures is { IsTrue result → IsAt reader.now (reading reader.now.taken (take reader.now.held reader.now.bytes)) }
     ensures accepts { (taken : ℕ) (held : List ℕ) → IsAt reader.now (reading taken held) → IsTrue result }
@@ -65,7 +63,6 @@ fn can_go_on(reader: &vdcp_reader) -> bool
     held <= 258 && can_hold(reader.taken as usize, &reader.bytes[..held])
 }
 
-// Reads on from between two messages.
 fn begin(
     reader: &mut vdcp_reader,
     piece: &[u8],
@@ -88,7 +85,7 @@ fn begin(
     code
 }
 
-// Reads on from inside a message. Mostly all of a short piece is only held.
+// Inside a message a short piece is mostly only held, and nothing has to be read.
 fn go_on(
     reader: &mut vdcp_reader,
     piece: &[u8],
@@ -106,7 +103,6 @@ fn go_on(
     read_on(reader, piece, taken, message)
 }
 
-// Holds all of the piece, if no message or fault ends in it.
 fn hold(reader: &mut vdcp_reader, piece: &[u8]) -> bool
     requires { IsAt reader.old (reading reader.old.taken (take reader.old.held reader.old.bytes)) }
     ensures fed { IsTrue result → (m : vdcp_message) →
@@ -130,7 +126,6 @@ fn hold(reader: &mut vdcp_reader, piece: &[u8]) -> bool
     true
 }
 
-// Copies the piece to a place of the buffer.
 fn append(bytes: &mut [u8], at: usize, piece: &[u8])
     requires { at + length piece.now ≤ length bytes.old }
     ensures joined { take (at + length piece.now) bytes.new ≡ take at bytes.old ++ piece.now }
@@ -139,7 +134,6 @@ fn append(bytes: &mut [u8], at: usize, piece: &[u8])
     bytes[at..at + piece.len()].copy_from_slice(piece);
 }
 
-// Reads on with the bytes that are held.
 fn read_on(
     reader: &mut vdcp_reader,
     piece: &[u8],
@@ -159,7 +153,6 @@ fn read_on(
     code
 }
 
-// Writes what came into the struct of the message, and gives its code.
 fn tell(got: &Got, message: &mut vdcp_message) -> i32
     requires { IsWritableAnswer (answer_of got.now) }
     ensures code { result ≡ code_of (answer_of got.now) }
@@ -189,7 +182,6 @@ fn fault_in(fault: Fault) -> i32
     }
 }
 
-// Takes n bytes more, which had this code.
 fn move_on(reader: &mut vdcp_reader, at: usize, held: usize, n: usize, code: i32)
     requires at { at + n ≤ 4097 }
     requires held { held ≤ 258 }
@@ -225,7 +217,6 @@ pub extern "C" fn vdcp_reader_silence(reader: &mut vdcp_reader) -> i32
     ended
 }
 
-// How a burst ends here.
 fn end_in(reader: &vdcp_reader) -> i32
     ensures ended { result ≢ bad_state → (p : Progress) × IsAt reader.now p × (result ≡ end_code (ended_of p)) }
     ensures accepts { (p : Progress) → IsAt reader.now p → result ≢ bad_state }

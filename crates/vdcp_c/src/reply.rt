@@ -17,7 +17,6 @@ use vdcp_value::ClipId;
 use vdcp_value::laws::an_id_is_its_bytes;
 use vdcp_words::Reply;
 
-/// A reply: which it is, and what it carries.
 #[repr(C)]
 #[derive(Clone, Copy)]
 pub struct vdcp_reply {
@@ -28,14 +27,12 @@ pub struct vdcp_reply {
     pub yes: u8,
     /// The error byte of a NAK, or the bitmap of a status.
     pub byte: u8,
-    /// The state byte.
     pub state: u8,
     pub id: [u8; 8],
     /// The length, packed BCD: frames, seconds, minutes, hours.
     pub time: [u8; 4],
 }
 
-/// The reply that the struct is.
 pub(crate) fn reply_in(r: &vdcp_reply) -> Option<Reply>
     ensures some { IfSome result (IsReply r.now) }
     ensures accepts { (reply : Reply) → IsReply r.now reply → IsSome result }
@@ -57,7 +54,6 @@ pub(crate) fn reply_in(r: &vdcp_reply) -> Option<Reply>
     }
 }
 
-// Writes the struct of a reply.
 fn put_reply(reply: &Reply, out: &mut vdcp_reply)
     ensures { IsReply out.new reply.now }
 {
@@ -103,7 +99,6 @@ fn put_reply(reply: &Reply, out: &mut vdcp_reply)
     }
 }
 
-/// Writes the bytes that carry a reply from a unit.
 #[unsafe(no_mangle)]
 pub extern "C" fn vdcp_reply_bytes(
     reply: &vdcp_reply,
@@ -126,7 +121,6 @@ pub extern "C" fn vdcp_reply_bytes(
     put_bytes(r.encode(unit).as_slice(), out, written)
 }
 
-/// Reads the reply that a message carries, from whatever unit.
 #[unsafe(no_mangle)]
 pub extern "C" fn vdcp_reply_of_message(message: &vdcp_message, reply: &mut vdcp_reply) -> i32
     ensures read { result ≢ bad_message → (m : Content) × IsContent message.now m
@@ -146,7 +140,6 @@ pub extern "C" fn vdcp_reply_of_message(message: &vdcp_message, reply: &mut vdcp
     }
 }
 
-/// Writes the text of a reply.
 #[unsafe(no_mangle)]
 pub extern "C" fn vdcp_reply_text(reply: &vdcp_reply, out: &mut [u8], written: &mut usize) -> i32
     ensures put { result ≢ bad_command → (r : Reply) × IsReply reply.now r

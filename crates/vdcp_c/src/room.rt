@@ -4,7 +4,6 @@ ghost use Rattle.vdcp_c.specs.Rooms.{Fits, IsPut};
 
 use crate::code::{OK, SHORT_ROOM};
 
-/// Writes the bytes to the front of the room, and how many they are; nothing if it is too small.
 pub(crate) fn put_bytes(bytes: &[u8], out: &mut [u8], written: &mut usize) -> i32
     ensures { IsPut bytes.now out.old result written.new out.new }
 {
@@ -16,7 +15,6 @@ pub(crate) fn put_bytes(bytes: &[u8], out: &mut [u8], written: &mut usize) -> i3
     OK
 }
 
-/// The same if there is room.
 pub(crate) fn put_all(bytes: &[u8], out: &mut [u8], written: &mut usize)
     requires { length bytes.now ≤ length out.old }
     ensures { Fits bytes.now written.new out.new }

@@ -7,7 +7,6 @@ use crate::item::vdcp_item;
 use vdcp_value::laws::an_id_is_its_bytes;
 use vdcp_value::{ClipId, Item, Part};
 
-/// The item of a row.
 pub(crate) fn item_in(row: &vdcp_item) -> Item
     ensures { result ≡ item_of row.now }
 {
@@ -17,7 +16,6 @@ pub(crate) fn item_in(row: &vdcp_item) -> Item
     }
 }
 
-/// The ID of eight bytes.
 pub(crate) fn id_in(bytes: &[u8; 8]) -> ClipId
     ensures { result ≡ id_of bytes.now }
 {
@@ -25,7 +23,6 @@ pub(crate) fn id_in(bytes: &[u8; 8]) -> ClipId
     ClipId::new(*bytes)
 }
 
-// Its part.
 fn part_in(row: &vdcp_item) -> Option<Part>
     ensures { result ≡ (item_of row.now).part }
 {

@@ -99,7 +99,6 @@ fn put_kept(kept: &Kept, p: &mut vdcp_server)
     put_clip(&kept.playing, &mut p.playing);
 }
 
-// The port over the clips that the struct is.
 fn port_in<'a>(p: &vdcp_server, clips: &'a [vdcp_clip]) -> Option<Port<LentClips<'a>>>
     ensures some { IfSome result (IsPort p.now clips.now) }
     ensures accepts { (port : ClockedPort) → IsPort p.now clips.now port → IsSome result }
@@ -115,7 +114,6 @@ fn port_in<'a>(p: &vdcp_server, clips: &'a [vdcp_clip]) -> Option<Port<LentClips
     Some(Port::of_kept(lent, &kept))
 }
 
-// Writes a port into the struct of the one that it was.
 fn put(port: &Port<LentClips>, p: &mut vdcp_server)
     ensures { (rows : List vdcp_clip) (was : ClockedPort) → IsPort p.old rows was → port.now.clips ≡ was.clips →
         IsPort p.new rows port.now }
@@ -123,7 +121,7 @@ fn put(port: &Port<LentClips>, p: &mut vdcp_server)
     put_kept(&port.kept(), p);
 }
 
-/// A new port over a table of clips, whose IDs have to ascend.
+/// The IDs of the clips have to ascend.
 #[unsafe(no_mangle)]
 pub extern "C" fn vdcp_server_new(
     p: &mut vdcp_server,
@@ -156,7 +154,6 @@ pub extern "C" fn vdcp_server_new(
     OK
 }
 
-// What a new port knows.
 fn new_kept(unit: u8, number: u8, cue_frames: u32) -> Kept
     requires unit { unit ≤ 15 }
     requires some { 0 < cue_frames }
@@ -174,7 +171,6 @@ fn new_kept(unit: u8, number: u8, cue_frames: u32) -> Kept
     }
 }
 
-/// Answers a message.
 #[unsafe(no_mangle)]
 pub extern "C" fn vdcp_server_answer(
     p: &mut vdcp_server,
@@ -212,7 +208,6 @@ pub extern "C" fn vdcp_server_answer(
     }
 }
 
-/// Answers a whole burst, its end included.
 #[unsafe(no_mangle)]
 pub extern "C" fn vdcp_server_answer_burst(
     p: &mut vdcp_server,
@@ -245,7 +240,7 @@ pub extern "C" fn vdcp_server_answer_burst(
     OK
 }
 
-/// What a port answers to a silence, of which `vdcp_reader_silence` said how the burst ended.
+/// `ended` is what `vdcp_reader_silence` gave.
 #[unsafe(no_mangle)]
 pub extern "C" fn vdcp_silence_answer(ended: u8, out: &mut [u8], written: &mut usize) -> i32
     ensures put { (unit : ℕ) (e : Ended) → pos ended ≡ end_code e → IsPut (bytes_at_end unit e) out.old result written.new out.new }
@@ -294,7 +289,6 @@ fn flag(it: bool) -> u8
     u8::from(it)
 }
 
-// A frame passes at the port.
 #[tactic(auto, using(crate::proofs::Aired::frame_clips))]
 fn pass(port: &mut Port<LentClips>) -> (bool, bool)
     ensures cue { result.0 ≡ completes_cue port.old }
@@ -305,7 +299,6 @@ fn pass(port: &mut Port<LentClips>) -> (bool, bool)
     port.frame()
 }
 
-/// The state byte.
 #[unsafe(no_mangle)]
 pub extern "C" fn vdcp_server_state(p: &vdcp_server, clips: &[vdcp_clip], state: &mut u8) -> i32
     ensures is { result ≢ bad_state → (port : ClockedPort) × IsPort p.now clips.now port × (result ≡ pos 0)
