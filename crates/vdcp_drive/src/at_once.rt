@@ -8,8 +8,8 @@ use std::marker::Model;
 use vdcp_auto::Heard;
 use vdcp_frame::{Got, Reader};
 
-/// Hears each message as soon as it is whole; a silence or the close is a time-out. A message that a silence has torn is
-/// read on; only after a fault is all passed over until the next silence. Nothing that waits is dropped.
+/// Hears each message once it is whole, also if a silence has torn it; a silence or the close is a time-out. After a
+/// fault all is passed over until the next silence. Nothing that waits is dropped.
 #[derive(Drop)]
 pub struct AtOnce {
     reader: Reader,
@@ -26,7 +26,6 @@ impl Model for AtOnce {
 }
 
 impl AtOnce {
-    /// An ear that has heard nothing.
     pub fn new() -> Self
         ensures { result ≡ holds [] }
     {

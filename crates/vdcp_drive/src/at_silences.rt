@@ -4,8 +4,8 @@ use crate::ear::Ear;
 use std::marker::Model;
 use vdcp_auto::Heard;
 
-/// Hears the first message of a burst once a silence or the close ends it, or, if there is none in it, a time-out.
-/// What waits is dropped before a command goes out.
+/// Hears the first message of a burst that a silence or the close ends, or a time-out; drops what waits before each
+/// command.
 #[derive(Drop)]
 pub struct AtSilences {
     at_once: AtOnce,
@@ -25,7 +25,6 @@ impl AtSilences {
     ghost use Rattle.vdcp_drive.specs.Hearing.{begun};
     ghost use Rattle.vdcp_drive.specs.Reading.{holds};
 
-    /// An ear that has heard nothing.
     pub fn new() -> Self
         ensures { result ≡ begun (holds []) }
     {

@@ -17,14 +17,13 @@ use crate::line::{DriveFault, Ran};
 use vdcp_auto::{Controller, Source};
 use vdcp_wire::Wire;
 
-/// An automation that hears the first message of each burst, once a silence or the close ends it.
+/// An automation that hears the first message of each burst, once a silence or the close has ended the burst.
 pub type AutoDriver<S, W> = Driver<S, AtSilences, W>;
 
-/// An automation that hears each message at once, over a wire that keeps order.
+/// An automation that hears each message at once, over a line that keeps order.
 pub type PromptDriver<S, W> = Driver<S, AtOnce, W>;
 
 impl<S: Source, W: Wire> Driver<S, AtSilences, W> {
-    /// A driver of this controller, which talks to the server at this unit address, 0 to 15.
     pub fn new(controller: Controller<S>, unit: u8, wire: W) -> Self
         requires unit { unit ≤ 15 }
         requires works { W.failures wire ≡ 0 }
@@ -35,7 +34,6 @@ impl<S: Source, W: Wire> Driver<S, AtSilences, W> {
 
     /// As `run_with`, but without hooks.
     pub fn run(&mut self, listens: u64) -> Result<Ran, DriveFault>
-        // a new automation over a fresh wire: the course of what came, also if the wire failed
         ensures course { IfOk result (λ _. self.old.controller.state ≡ start → self.old.ear ≡ begun (holds []) →
             W.told self.old.wire ≡ Some nothing_told → IfTold (W.told self.new.wire) (λ u.
             HasCourse (plan_of S.items self.old.controller) self.old.unit u self.new.controller.state)) }
@@ -43,7 +41,6 @@ impl<S: Source, W: Wire> Driver<S, AtSilences, W> {
             self.old.ear ≡ begun (holds []) → W.told self.old.wire ≡ Some nothing_told →
             IfTold (W.told self.new.wire) (λ u.
             HasCourseBroken (plan_of S.items self.old.controller) self.old.unit u self.new.controller.state)) }
-        // any automation: what it adds
         ensures tells { IfOk result (λ r. (t : Told) → W.told self.old.wire ≡ Some t → has_closed t.came ≡ false →
             IfTold (W.told self.new.wire) (λ u. RunsOn at_silences (plan_of S.items self.old.controller) self.old.unit
             listens (auto_of self.old) (auto_of self.new) r t u)) }
@@ -66,7 +63,6 @@ impl<S: Source, W: Wire> Driver<S, AtSilences, W> {
 }
 
 impl<S: Source, W: Wire> Driver<S, AtOnce, W> {
-    /// A driver of this controller, which talks to the server at this unit address, 0 to 15.
     pub fn new(controller: Controller<S>, unit: u8, wire: W) -> Self
         requires unit { unit ≤ 15 }
         requires works { W.failures wire ≡ 0 }

@@ -19,10 +19,8 @@ use std::marker::Model;
 use vdcp_auto::{Controller, Heard, Source};
 use vdcp_wire::{Came, PIECE, Wire, WireFault};
 
-/// The automation's end of one playout channel, over a wire, with an ear.
-///
-/// `send` sends the next command, `listen` brings in what came for it, and `run` does both in turn.
-/// `take` and `stop` are the operator's. `controller` and `wire` only look.
+/// The automation's end of one playout channel: `send` sends a command, `listen` hears what came, `run` does both in
+/// turn.
 #[derive(Drop)]
 pub struct Driver<S: Source, E: Ear, W: Wire> {
     controller: Controller<S>,
@@ -44,7 +42,6 @@ impl<S: Source, E: Ear, W: Wire> Model for Driver<S, E, W> {
 }
 
 impl<S: Source, E: Ear, W: Wire> Driver<S, E, W> {
-    /// A driver of this controller with this ear, which talks to the server at this unit address, 0 to 15.
     pub fn with_ear(controller: Controller<S>, unit: u8, ear: E, wire: W) -> Self
         requires unit { unit ≤ 15 }
         requires works { W.failures wire ≡ 0 }
@@ -59,21 +56,19 @@ impl<S: Source, E: Ear, W: Wire> Driver<S, E, W> {
         }
     }
 
-    /// Its controller.
     pub fn controller(&self) -> &Controller<S>
         ensures { result.now ≡ self.now.controller }
     {
         &self.controller
     }
 
-    /// Its wire.
     pub fn wire(&self) -> &W
         ensures { result.now ≡ self.now.wire }
     {
         &self.wire
     }
 
-    /// The operator wants the next event though the last one still plays.
+    /// As `Controller::take`.
     pub fn take(&mut self)
         ensures { self.new ≡ record self.old {
           controller = record
@@ -83,7 +78,7 @@ impl<S: Source, E: Ear, W: Wire> Driver<S, E, W> {
         self.controller.take();
     }
 
-    /// The operator wants to stop.
+    /// As `Controller::stop`.
     pub fn stop(&mut self)
         ensures { self.new ≡ record self.old {
           controller = record
@@ -93,8 +88,7 @@ impl<S: Source, E: Ear, W: Wire> Driver<S, E, W> {
         self.controller.stop();
     }
 
-    /// Sends the next command. It answers whether there was one to send: while an answer is awaited, and once the
-    /// controller has ended, there is none, and nothing changes. `Device` if the wire fails or has failed before.
+    /// Sends the next command, and says whether there was one: none while an answer is awaited and after the end.
     pub fn send(&mut self) -> Result<bool, DriveFault>
         ensures sends { W.failures self.old.wire ≡ 0 → HasSent W.does E.fold.drops
             (plan_of S.items self.old.controller) self.old.unit
@@ -125,7 +119,7 @@ impl<S: Source, E: Ear, W: Wire> Driver<S, E, W> {
         }
     }
 
-    /// Listens once on the wire, and hears what came. `Device` if the wire fails or has failed before.
+    /// Listens once on the wire, and hears what came.
     pub fn listen(&mut self) -> Result<Line, DriveFault>
         ensures hears { W.failures self.old.wire ≡ 0 → HasListened W.does E.fold (plan_of S.items self.old.controller)
             self.old.unit (λ _. ⊤) self.old.controller.state self.old.ear self.old.wire
@@ -154,7 +148,6 @@ impl<S: Source, E: Ear, W: Wire> Driver<S, E, W> {
         }
     }
 
-    /// As `run_with`, but without hooks.
     pub(crate) fn run_on(&mut self, listens: u64) -> Result<Ran, DriveFault>
         ensures tells { IfOk result (λ r. (t : Told) → W.told self.old.wire ≡ Some t → has_closed t.came ≡ false →
             IfTold (W.told self.new.wire) (λ u. RunsOn E.fold (plan_of S.items self.old.controller) self.old.unit
@@ -180,11 +173,9 @@ impl<S: Source, E: Ear, W: Wire> Driver<S, E, W> {
         }
     }
 
-    /// Runs an automation until the controller has ended, the other end has closed or this many turns were made. Each turn
-    /// the hooks are asked first what comes next. Mostly the automation goes on: it sends the next command, unless it awaits
-    /// an answer, and listens. Or a call is given. Each command is kept before it goes out, and each call before it is given.
-    /// `Device` if the wire fails or has failed before. `Unkept` if a command or a call can't be kept: none of it is
-    /// sent, or it isn't given, and a later run tries again. `Left` if the hooks left.
+    /// Runs an automation until the controller has ended, the other end has closed or this many turns were made. At
+    /// each turn the hooks say what comes next. Each command and each call is kept before it goes out or is given; if
+    /// it can't be, a later run tries again.
     pub fn run_with<H: Hooks<S>>(&mut self, turns: u64, hooks: &mut H) -> Result<Ran, BrokenOff>
         ensures leaves { RunLeaves S.items (record {
           does = W.does;
@@ -219,7 +210,6 @@ impl<S: Source, E: Ear, W: Wire> Driver<S, E, W> {
 }
 
 impl<S: Source + Drop, E: Ear, W: Wire> Driver<S, E, W> {
-    /// Its ear and its wire, for another driver.
     pub fn into_parts(self) -> (E, W)
         ensures { result ≡ (self.ear, self.wire) }
     {
@@ -227,7 +217,6 @@ impl<S: Source + Drop, E: Ear, W: Wire> Driver<S, E, W> {
     }
 }
 
-// Runs an automation for one turn.
 fn run_turn<S: Source, E: Ear, W: Wire, H: Hooks<S>>(
     controller: &mut Controller<S>,
     unit: u8,
@@ -270,7 +259,6 @@ fn run_turn<S: Source, E: Ear, W: Wire, H: Hooks<S>>(
     }
 }
 
-// Gives a controller this call.
 fn give<S: Source>(controller: &mut Controller<S>, call: Call)
     ensures { controller.new ≡ record controller.old { state = called call controller.old.state } }
 {
@@ -280,7 +268,7 @@ fn give<S: Source>(controller: &mut Controller<S>, call: Call)
     }
 }
 
-// What a listen makes of a run, of which it was the last. That the controller has ended goes before any other answer.
+// That the controller has ended goes before any other answer.
 fn ran_of<S: Source>(controller: &Controller<S>, line: Line) -> Ran
     ensures { result ≡ ran_unless_ended (turns.outcome_of controller.now.state.stage) (ran_of line) }
 {
@@ -291,7 +279,6 @@ fn ran_of<S: Source>(controller: &Controller<S>, line: Line) -> Ran
     }
 }
 
-/// All turns of a run were made.
 pub(crate) fn is_spent(ran: Result<Ran, BrokenOff>) -> bool
     ensures spent { IsTrue result → ran ≡ Ok Ran.Spent }
     ensures not { IsFalse result → ran ≢ Ok Ran.Spent }
@@ -299,14 +286,12 @@ pub(crate) fn is_spent(ran: Result<Ran, BrokenOff>) -> bool
     matches!(ran, Ok(Ran::Spent))
 }
 
-// The wire failed in a run.
 fn is_broken(ran: Result<Ran, BrokenOff>) -> bool
     ensures { result ≡ is_broken ran }
 {
     matches!(ran, Err(BrokenOff::Device))
 }
 
-// Has the next command kept, and sends it, if there is one. Answers whether there was one.
 fn send_next<S: Source, E: Ear, W: Wire, H: Hooks<S>>(
     controller: &mut Controller<S>,
     unit: u8,
@@ -340,7 +325,6 @@ fn send_next<S: Source, E: Ear, W: Wire, H: Hooks<S>>(
     }
 }
 
-// Listens once, hears what came, and has the end of each exchange noted.
 fn hear<S: Source, E: Ear, W: Wire, H: Hooks<S>>(
     controller: &mut Controller<S>,
     unit: u8,
@@ -375,7 +359,6 @@ fn hear<S: Source, E: Ear, W: Wire, H: Hooks<S>>(
     }
 }
 
-// Hears each message that is heard at once in these bytes.
 fn hear_piece<S: Source, E: Ear, H: Hooks<S>>(
     controller: &mut Controller<S>,
     unit: u8,
@@ -399,7 +382,6 @@ fn hear_piece<S: Source, E: Ear, H: Hooks<S>>(
     }
 }
 
-// The controller receives what came, or that nothing came in time, and the exchange that this ended is noted.
 fn receive<S: Source, H: Hooks<S>>(
     controller: &mut Controller<S>,
     came: Option<Heard>,

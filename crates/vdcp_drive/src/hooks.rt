@@ -1,14 +1,12 @@
-//! What takes part in an automation's run beside its wire: what keeps its exchanges, makes calls and looks on.
+//! What takes part in an automation's run beside its wire: it keeps exchanges, makes calls and looks on.
 use thiserror::Error;
 use vdcp_auto::{Controller, Heard, Source};
 use vdcp_words::Command;
 
-/// A call of an operator.
+/// An operator's call, as `Controller::take` and `Controller::stop` have it.
 #[derive(Clone, Copy, Debug, PartialEq, Eq)]
 pub enum Call {
-    /// The next event goes to air though the last one still plays.
     Take,
-    /// What plays ends, and nothing comes after it.
     Stop,
 }
 
@@ -17,26 +15,20 @@ pub enum Call {
 pub enum Next {
     /// It sends its next command, unless it awaits an answer, and listens.
     GoOn,
-    /// It is given this call.
     Call(Call),
     /// It leaves the line as it is.
     Leave,
 }
 
-/// What is kept of a run.
+/// What is kept of a run: each command before it goes out, each call before it is given, and what ended an exchange.
 #[derive(Clone, Copy, Debug, PartialEq, Eq)]
 pub enum Kept {
-    /// A command, before it goes out.
     Sent(Command),
-    /// What was heard, which ended an exchange.
     Heard(Heard),
-    /// That nothing came in time, which ended an exchange.
     Silence,
-    /// A call, before it is given.
     Called(Call),
 }
 
-/// A command or a call isn't kept.
 #[derive(Clone, Copy, Debug, PartialEq, Eq, Error)]
 #[error("it isn't kept")]
 pub struct KeepFault;
@@ -47,10 +39,9 @@ pub enum BrokenOff {
     /// The wire failed, in this call or an earlier one: the driver sends nothing any more.
     #[error("the line failed")]
     Device,
-    /// The next command couldn't be kept, and nothing of it was sent; or a call couldn't, and it wasn't given.
+    /// The next command couldn't be kept, and none of it was sent; or a call couldn't, and it wasn't given.
     #[error("it isn't kept")]
     Unkept,
-    /// The hooks left it.
     #[error("it was left")]
     Left,
 }
@@ -67,44 +58,40 @@ pub trait Hooks<S: Source> {
     ghost use Rattle.vdcp_drive.specs.declared.hooks.Kept.TheVariants as kept;
     ghost use Rattle.vdcp_drive.specs.declared.hooks.Next.{Next};
 
-    /// Its journal.
     ghost Journal: { Type 0 };
 
     ghost journal: { Self → Journal };
 
-    /// `asks plan state next a b`: going from `a` to `b`, it was lent a controller of this plan in this state, and answered
-    /// that this comes next.
+    /// `asks plan state next a b`: from `a` to `b` it answered `next` to a controller of this plan in this state.
     ghost asks: { Plan → State → Next → Journal → Journal → Type 0 };
 
-    /// `adds note a b`: going from `a` to `b`, the journal kept this.
+    /// `adds note a b`: from `a` to `b` the journal kept this.
     ghost adds: { Kept → Journal → Journal → Type 0 };
 
-    /// `loses note a b`: going from `a` to `b`, it failed to keep this.
+    /// `loses note a b`: from `a` to `b` it failed to keep this.
     ghost loses: { Kept → Journal → Journal → Type 0 };
 
-    /// It is lent the controller at the beginning of each turn, unless that has ended, and answers what comes next. It
-    /// may wait before.
+    /// Says what comes next at the beginning of each turn, unless the controller has ended. It may wait before.
     fn due(&mut self, controller: &Controller<S>) -> Next
         ensures { asks (plan_of S.items controller.now) controller.now.state result (journal self.old) (journal self.new) };
 
-    /// It is given a call before the controller is, and makes it safe, with all that it noted before.
+    /// Makes a call safe, with all that was noted before, before the controller is given it.
     fn keep_call(&mut self, call: Call) -> Result<(), KeepFault>
         ensures called { OnOk result (adds (kept.Called call) (journal self.old) (journal self.new)) }
         ensures missed { OnErr result (loses (kept.Called call) (journal self.old) (journal self.new)) };
 
-    /// It is given a command to this unit, and its bytes, before the first of them goes out, and makes it safe, with all
-    /// that it noted before. If it fails, the command may be missing, and the end of the exchange before it.
+    /// Makes a command safe, with all that was noted before, before the first of its bytes goes out to this unit. If it
+    /// fails, the command may be missing, and the end of the exchange before it.
     fn keep_sent(&mut self, unit: u8, command: &Command, bytes: &[u8]) -> Result<(), KeepFault>
         requires { bytes.now ≡ spelling (command_message unit command.now) }
         ensures kept { OnOk result (adds (kept.Sent command.now) (journal self.old) (journal self.new)) }
         ensures lost { OnErr result (loses (kept.Sent command.now) (journal self.old) (journal self.new)) };
 
-    /// It notes what ended an exchange: what was heard, or that nothing came in time. This is safe once the next
-    /// command is.
+    /// Notes what ended an exchange; `None` is for silence. This is safe once the next command is.
     fn note_end(&mut self, heard: Option<Heard>)
         ensures { adds (end_of heard) (journal self.old) (journal self.new) };
 
-    /// It is lent the controller before each listen, once the next command is out.
+    /// Looks on before each listen, once the next command is out.
     fn see(&mut self, _controller: &Controller<S>)
         ensures { journal self.new ≡ journal self.old }
     {}
@@ -143,7 +130,6 @@ impl<S: Source> Hooks<S> for Unhooked {
     fn note_end(&mut self, _heard: Option<Heard>) {}
 }
 
-/// These hooks, if there are any.
 impl<S: Source, H: Hooks<S>> Hooks<S> for Option<H> {
     ghost use Rattle.std.specs.Option.{option_map};
     ghost use Rattle.std.specs.Prelude.{Option};

@@ -1,4 +1,4 @@
-//! The laws of the definitions that the contracts of this crate cite. The functions do nothing.
+//! Laws of the definitions that the contracts cite: each function is there for its contract, which is the law.
 ghost use Rattle.std.specs.Option.{option_to_list};
 ghost use Rattle.std.specs.Prelude.{◌≡◌, ◌≤◌, ◌+◌, ℕ, Bool, All, List, [], ◌∷◌, ◌++◌, Result, Ok, Err, false, None, Some, map};
 ghost use Rattle.std.specs.Io.KnownBytes.{Appends};
@@ -46,7 +46,6 @@ use vdcp_frame::laws as bursts;
 use vdcp_port::{Catalogue, laws as answers};
 use vdcp_wire::Wire;
 
-/// The laws of the crates below that proofs of this one take.
 pub(crate) fn laws_below()
     ensures { Below }
 {
@@ -63,21 +62,17 @@ pub(crate) fn laws_below()
     answers::a_burst_airs_at_most_the_cued_item();
 }
 
-/// What a run of a new automation that hears at silences adds to a fresh wire is the course of its bursts: the commands
-/// that were sent are those of the exchanges of the course, and then the one that is awaited, each after a drop.
+/// A new run sends the commands of its bursts' exchanges, and then the awaited one, each after a drop.
 pub fn a_new_run_is_a_course()
     ensures run { (plan : Plan) (unit count : ℕ) (a' : Auto Burst) (r : Ran) (u : Told) →
         RunsOn at_silences plan unit count new_auto a' r nothing_told u → HasCourse plan unit u a'.state }
-    // also if the wire failed
     ensures broken { (plan : Plan) (unit : ℕ) (a' : Auto Burst) (u : Told) →
         BreaksOn at_silences plan unit new_auto a' nothing_told u → HasCourseBroken plan unit u a'.state }
 {
     laws_below();
 }
 
-/// What holds of every controller and its log holds of the controller that such a run leaves and of the course of what
-/// came: its count of settled events is what the course shows to be settled, the rule book allows each command that was
-/// sent, and the rest; also if the wire failed. (Of other automations: `a_run_is_reached`.)
+/// What holds of every controller and its log holds after such a run; `a_run_is_reached` is of other automations.
 pub fn a_run_is_lawful()
     ensures run { (plan : Plan) (unit : ℕ) (told : Told) (state : State) → 1 ≤ plan.limit → plan.limit ≤ 1000 →
         HasCourse plan unit told state → IsLawful plan state (course plan (inputs_of unit told.came)) }
@@ -88,15 +83,14 @@ pub fn a_run_is_lawful()
     courses::reached_is_lawful();
 }
 
-/// At each moment of a run, also in a send, what went out is commands whose row was safe before, and a beginning of one.
+/// At each moment, also in a send, what went out is commands whose row was safe before, and a beginning of one.
 pub fn what_goes_out_is_kept<E: Ear>()
     ensures { (plan : Plan) (unit count : ℕ) (a a' : Auto E) (answer : Result Ran BrokenOff) →
         (run : IsRun E.fold plan unit count a a' answer) → (some : List Step) → IsCut some (steps_in run) →
         AreSafe unit None some }
 {}
 
-/// What a run keeps, whatever its automation, its answer and the state of its wire were, if to be asked changes nothing in
-/// what keeps it.
+/// What a run keeps, whatever its answer was, if being asked changes nothing in what keeps it.
 pub fn what_a_run_keeps<S: Source, E: Ear, W: Wire, H: Hooks<S>>()
     ensures { (plan : Plan) (unit count : ℕ) (a a' : Auto E) (old new : World W H.Journal) (answer : Result Ran BrokenOff) →
         (h : HasRun (record { does = W.does; asks = λ _ _ before after. after ≡ before; adds = H.adds; loses = H.loses })
@@ -105,7 +99,7 @@ pub fn what_a_run_keeps<S: Source, E: Ear, W: Wire, H: Hooks<S>>()
         h.run.events (kept_in (steps_in h.run)) }
 {}
 
-/// A run has moments: between any two of its steps all that it runs on was in some state, to which its first steps led.
+/// Between any two steps all that a run works on was in some state, to which its first steps led.
 pub fn a_run_has_moments<S: Source, E: Ear, W: Wire, H: Hooks<S>>()
     ensures { (plan : Plan) (unit count : ℕ) (a a' : Auto E) (old new : World W H.Journal) (answer : Result Ran BrokenOff) →
         (h : HasRun (record { does = W.does; asks = H.asks plan; adds = H.adds; loses = H.loses }) E.fold plan unit
@@ -115,10 +109,8 @@ pub fn a_run_has_moments<S: Source, E: Ear, W: Wire, H: Hooks<S>>()
         × Happens (record { does = W.does; asks = H.asks plan; adds = H.adds; loses = H.loses }) later moment new }
 {}
 
-/// What the steps of a run come to, from any automation. Take the row of the command that was awaited before the run, if
-/// there was one, and then the rows of the run: these are the rows of the exchanges that ended in the run and of the
-/// command that is awaited after it. The bytes that went out are those of the commands in the run's rows, and what came
-/// is what the steps brought.
+/// The row that was awaited before a run, and then the run's rows, are those of the exchanges that ended in it and of
+/// the command that is awaited after it. The bytes that went out are those of the run's commands.
 pub fn steps_are_exchanges<E: Ear>()
     ensures rows { (plan : Plan) (unit : ℕ) (a : Auto E) (events : List Event) →
         awaited_notes plan a.state ++ exchanged (kept_in (steps_of E.fold plan unit a events))
@@ -134,15 +126,13 @@ pub fn steps_are_exchanges<E: Ear>()
         came_in (acts_in (steps_of E.fold plan unit a events)) ≡ arrivals events }
 {}
 
-/// A run leads where calls of a controller lead, and its exchanges go on with the log; so all that holds of a controller
-/// and its log holds after each run.
+/// So what holds of every controller and its log holds after each run.
 pub fn a_run_is_reached<E: Ear>()
     ensures { (plan : Plan) (unit : ℕ) (a : Auto E) (events : List Event) (log : List Exchange) →
         Reached plan a.state log →
         Reached plan (after E.fold plan unit a events).state (log ++ log_of E.fold plan unit a events) }
 {}
 
-/// What happens after what happened before is one.
 pub fn runs_go_on<E: Ear>()
     ensures after { (plan : Plan) (unit : ℕ) (a : Auto E) (xs ys : List Event) →
         after E.fold plan unit a (xs ++ ys) ≡ after E.fold plan unit (after E.fold plan unit a xs) ys }
@@ -151,7 +141,6 @@ pub fn runs_go_on<E: Ear>()
         ≡ steps_of E.fold plan unit a xs ++ steps_of E.fold plan unit (after E.fold plan unit a xs) ys }
 {}
 
-/// A run of which all turns were made, and then another from there on, are one run, whose steps are those of both.
 pub fn a_run_goes_on<E: Ear>()
     ensures { (plan : Plan) (unit m n : ℕ) (a b a' : Auto E) (answer : Result Ran BrokenOff) →
         (first : IsRun E.fold plan unit m a b (Ok Ran.Spent)) →
@@ -159,7 +148,6 @@ pub fn a_run_goes_on<E: Ear>()
         × (steps_in run ≡ steps_in first ++ steps_in next) }
 {}
 
-/// What a wire tells after a run, whatever its answer, is what happened on it.
 pub fn a_wire_tells_what_happened<S: Source, E: Ear, W: Wire, H: Hooks<S>>()
     ensures { (plan : Plan) (unit count : ℕ) (a a' : Auto E) (old new : World W H.Journal) (answer : Result Ran BrokenOff) →
         (h : HasRun (record { does = W.does; asks = H.asks plan; adds = H.adds; loses = H.loses }) E.fold plan unit
@@ -167,8 +155,7 @@ pub fn a_wire_tells_what_happened<S: Source, E: Ear, W: Wire, H: Hooks<S>>()
         W.told new.wire ≡ Some (told_after_all (acts_in (steps_in h.run)) t) }
 {}
 
-/// A stream whose bytes are known has gained, after a run that came to an answer, just the bytes of the commands that the
-/// journal has.
+/// After a run that came to an answer the stream has gained just the bytes of the commands in the journal.
 pub fn a_stream_carries_a_run<S: Source, E: Ear, H: Hooks<S>>()
     ensures { (plan : Plan) (unit count : ℕ) (a a' : Auto E) (old new : World Streamed H.Journal) (r : Ran) →
         (h : HasRun (record { does = StreamDoes; asks = H.asks plan; adds = H.adds; loses = H.loses }) E.fold plan
@@ -176,8 +163,7 @@ pub fn a_stream_carries_a_run<S: Source, E: Ear, H: Hooks<S>>()
         (bytes_of unit (commands_kept (kept_in (steps_of E.fold plan unit a h.run.events)))) }
 {}
 
-/// An end that hears at once completes just the messages that the bytes spell, and holds what has begun
-/// since; and it doesn't matter into which pieces the bytes are cut.
+/// Into whatever pieces the bytes are cut, an end that hears at once completes the messages that they spell.
 pub fn what_is_spelt_is_completed()
     ensures messages { (ms : List Content) (bytes rest : List ℕ) → SpellsAll ms bytes → IsUnfinished rest →
         completed (holds []) (bytes ++ rest) ≡ ms }
@@ -191,8 +177,6 @@ pub fn what_is_spelt_is_completed()
     laws_below();
 }
 
-/// What one arrival more makes of the bursts that came: bytes are added to the open one, a silence ends it, and a close
-/// ends none.
 pub fn bursts_grow()
     ensures bytes { (came : List Arrival) (piece : List ℕ) → has_closed came ≡ false →
         (ended_bursts (came ++ bytes piece ∷ []) ≡ ended_bursts came)
@@ -205,14 +189,12 @@ pub fn bursts_grow()
         × (open_burst (came ++ close ∷ []) ≡ open_burst came) }
 {}
 
-/// Where no frame passes but at a silence, all that happened is what came.
 pub fn without_frames_all_comes()
     ensures { (turns : List Turn) → All (IsMade false) turns → All AreOctetsAt turns → until_closed turns ≡ turns →
         AreOnly turns }
 {}
 
-/// What the turns of a server come to that hears at silences and has served what came before, if no other frame passes:
-/// the bytes that go out and the items that go to air are those that are served for all that came, and this leaves it so.
+/// If no other frame passes, a server that hears at silences sends and airs what is served for all that came.
 pub fn turns_are_served()
     ensures sent { (p : ClockedPort) (before came : List Arrival) → IsOpen before → All AreOctetsIn came →
         until_close came ≡ came →
@@ -227,8 +209,7 @@ pub fn turns_are_served()
     laws_below();
 }
 
-/// At each moment of such turns, also in an answer that the wire cuts short, what went out is a beginning of what is
-/// served for what had come by then; and the items that its hooks were lent are a beginning of those that went to air.
+/// At each moment, also in an answer cut short, what went out is a beginning of what is served for what had come.
 pub fn what_goes_out_is_served()
     ensures sent { (p : ClockedPort) (before came : List Arrival) (can : Bool) (count : ℕ) (hearing : Hearing)
         (answer : Result TurnsEnd DriveFault) (done : List Act) (last : List HookStep) (port : ClockedPort) (reader : Progress) →
@@ -247,7 +228,6 @@ pub fn what_goes_out_is_served()
     laws_below();
 }
 
-/// Turns that go on where others left a server are one.
 pub fn servers_go_on()
     ensures left { (s : Service) (xs ys : List Turn) → left_by s (xs ++ ys) ≡ left_by (left_by s xs) ys }
     ensures acts { (s : Service) (xs ys : List Turn) →
@@ -256,28 +236,24 @@ pub fn servers_go_on()
         hook_steps s (xs ++ ys) ≡ hook_steps s xs ++ hook_steps (left_by s xs) ys }
 {}
 
-/// What a wire tells after some acts is what happened; and what hooks tell, if with each item that they are lent they tell
-/// one more, are the items that went to air.
 pub fn what_happened_is_told<C: Catalogue, W: Wire, H: ServerHooks<C>>()
     ensures wire { (acts : List Act) (old new : W) (t : Told) → Chain W.does acts old new → W.told old ≡ Some t →
         W.told new ≡ Some (told_after_all acts t) }
     ensures hooks { (tell : H → List Item) (steps : List HookStep) (old new : H) →
         ((step : HookStep) (a b : H) → H.does step a b → tell b ≡ tell a ++ items_in (step ∷ [])) →
         Chain H.does steps old new → tell new ≡ tell old ++ items_in steps }
-    // A stream whose bytes are known has gained just the bytes that went out.
     ensures stream { (acts : List Act) (old new : Streamed) → Chain StreamDoes acts old new →
         Appends old.written new.written (sent_in acts) }
 {}
 
-/// What one turn more makes of what a server has sent, aired and is left with.
+/// What one turn more adds to what a server has sent, aired and is left with.
 pub fn one_event_more()
     ensures { (s : Service) (turns : List Turn) (what : Turn) → HasMore s turns what }
 {
     laws_below();
 }
 
-/// At each moment of a server's turns, however it hears and wherever frames pass, also in an answer that the wire cuts
-/// short, what went out is a beginning of what it answers to what had happened by then.
+/// At each moment, also in an answer cut short, what went out is a beginning of the answer to what had happened.
 pub fn what_goes_out_is_answered()
     ensures { (s : Service) (turns : List Turn) (can : Bool) (count : ℕ) (hearing : Hearing) (answer : Result TurnsEnd DriveFault)
         (done : List Act) (last : List HookStep) (port : ClockedPort) (reader : Progress) →

@@ -23,10 +23,7 @@ use vdcp_value::Item;
 use vdcp_wire::{Came, PIECE, Wire, WireFault};
 use vdcp_words::Reply;
 
-/// The server's end of one playout channel, over a wire.
-///
-/// `turn` and `serve` listen and answer; `pass_frame` lets a frame pass; `wire`, `port` and `aired` only look. An answer
-/// goes out as soon as its message is read.
+/// The server's end of one playout channel. It answers each message as soon as that is read.
 #[derive(Drop)]
 pub struct Server<C: Catalogue, W: Wire> {
     listener: Listener<C>,
@@ -34,7 +31,6 @@ pub struct Server<C: Catalogue, W: Wire> {
     failed: bool,
 }
 
-// What a server is but for its wire.
 #[derive(Drop)]
 struct Listener<C: Catalogue> {
     port: Port<C>,
@@ -61,7 +57,7 @@ impl<C: Catalogue, W: Wire> Model for Server<C, W> {
 }
 
 impl<C: Catalogue, W: Wire> Server<C, W> {
-    /// A server with this port, which hears at silences, and to which nothing has come.
+    /// Makes a server that hears at silences.
     pub fn new(port: Port<C>, wire: W) -> Self
         requires { W.failures wire ≡ 0 }
         ensures port { result.port ≡ port }
@@ -73,7 +69,6 @@ impl<C: Catalogue, W: Wire> Server<C, W> {
         Server::with_hearing(port, Hearing::AtSilences, wire)
     }
 
-    /// A server with this port, which hears so, and to which nothing has come.
     pub fn with_hearing(port: Port<C>, hearing: Hearing, wire: W) -> Self
         requires { W.failures wire ≡ 0 }
         ensures port { result.port ≡ port }
@@ -94,21 +89,19 @@ impl<C: Catalogue, W: Wire> Server<C, W> {
         }
     }
 
-    /// Its wire.
     pub fn wire(&self) -> &W
         ensures { result.now ≡ self.now.wire }
     {
         &self.wire
     }
 
-    /// Its port.
     pub fn port(&self) -> &Port<C>
         ensures { result.now ≡ self.now.port }
     {
         &self.listener.port
     }
 
-    /// Its port and its wire; the port is as its turns have left it, for another server.
+    /// The port is as the turns have left it.
     pub fn into_parts(self) -> (Port<C>, W)
         ensures port { result.0 ≡ self.port }
         ensures wire { result.1 ≡ self.wire }
@@ -116,16 +109,15 @@ impl<C: Catalogue, W: Wire> Server<C, W> {
         (self.listener.port, self.wire)
     }
 
-    /// The item that the last turn put to air, if it put one there.
+    /// The item that the last turn put to air.
     pub fn aired(&self) -> Option<Item>
         ensures { result ≡ self.now.aired }
     {
         self.listener.aired
     }
 
-    /// Takes this many turns, or fewer if the other end closes or the hooks give the line up. At each these are asked what
-    /// is due: it listens, or a frame passes. After each they are lent the port, with the item that the turn put to air.
-    /// `Device` if the wire fails or has failed before.
+    /// Takes this many turns, or fewer if the other end closes or the hooks give the line up. The hooks say what is due
+    /// at each turn, and are lent the port after it.
     pub fn serve<H: ServerHooks<C>>(
         &mut self,
         turns: u64,
@@ -151,7 +143,6 @@ impl<C: Catalogue, W: Wire> Server<C, W> {
         Ok(TurnsEnd::Spent)
     }
 
-    // What is due is done: gives what this was, or none if the line is given up.
     fn turn_due<H: ServerHooks<C>>(&mut self, hooks: &mut H) -> Option<Result<Turned, DriveFault>>
         requires { W.failures self.old.wire ≡ 0 }
         ensures serves { (ear : ServerEar) → HasRead self.old.hearing ear self.old.reader →
@@ -176,7 +167,7 @@ impl<C: Catalogue, W: Wire> Server<C, W> {
         }
     }
 
-    /// A frame passes at the port. This tells the reader nothing.
+    /// A frame passes at the port; the reader isn't told.
     pub fn pass_frame(&mut self)
         ensures { self.new ≡ record self.old { port = after_frame self.old.port; aired = None } }
     {
@@ -184,7 +175,7 @@ impl<C: Catalogue, W: Wire> Server<C, W> {
         self.listener.port.frame();
     }
 
-    /// Listens once on the wire, and answers what came. `Device` if the wire fails or has failed before.
+    /// Listens once on the wire, and answers what came.
     pub fn turn(&mut self) -> Result<Came, DriveFault>
         ensures serves { W.failures self.old.wire ≡ 0 → (can : Bool) (ear : ServerEar) →
             HasRead self.old.hearing ear self.old.reader →
@@ -209,7 +200,6 @@ impl<C: Catalogue, W: Wire> Server<C, W> {
 }
 
 impl<C: Catalogue> Listener<C> {
-    // Listens once, and answers what came.
     fn hear<W: Wire>(&mut self, wire: &mut W) -> Result<Came, WireFault>
         requires { W.failures wire.old ≡ 0 }
         ensures serves { (can : Bool) (ear : ServerEar) → HasRead self.old.hearing ear self.old.reader →
@@ -233,7 +223,6 @@ impl<C: Catalogue> Listener<C> {
         Ok(came)
     }
 
-    // Takes bytes, and answers each message once it is whole.
     fn take_piece<W: Wire>(&mut self, wire: &mut W, piece: &[u8]) -> Result<(), WireFault>
         requires { W.failures wire.old ≡ 0 }
         ensures taken { (ear : ServerEar) → HasRead self.old.hearing ear self.old.reader → OnOk result (HasTaken W.does
@@ -265,7 +254,6 @@ impl<C: Catalogue> Listener<C> {
     }
 }
 
-// Answers a message.
 fn answer<C: Catalogue, W: Wire>(
     port: &mut Port<C>,
     aired: &mut Option<Item>,
@@ -293,7 +281,7 @@ fn answer<C: Catalogue, W: Wire>(
     }
 }
 
-// The line is silent: gives what is answered. A burst ends there, and in a stream only a fault does.
+// A silence ends a burst; in a stream it is answered only after a fault.
 fn rest(hearing: Hearing, reader: &mut Reader) -> Option<Reply>
     ensures says { (ear : ServerEar) → HasRead hearing ear reader.old → option_to_list result ≡ says ear }
     ensures rests { (ear : ServerEar) → HasRead hearing ear reader.old → HasRead hearing (rests ear) reader.new }
@@ -309,7 +297,6 @@ fn rest(hearing: Hearing, reader: &mut Reader) -> Option<Reply>
     reply_at_end(reader.silence())
 }
 
-// Answers a silence, and if it ends a burst, a frame passes at the port.
 fn end_burst<C: Catalogue, W: Wire>(
     hearing: Hearing,
     reply: Option<Reply>,

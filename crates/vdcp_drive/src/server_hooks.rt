@@ -1,4 +1,4 @@
-//! What takes part in a server's turns beside its wire: what says what is due, and looks on.
+//! What takes part in a server's turns beside its wire: it says what is due, and looks on.
 ghost use Rattle.std.specs.Prelude.{◌≡◌};
 ghost use Rattle.vdcp_drive.specs.Turns.{closes};
 
@@ -10,25 +10,20 @@ use vdcp_wire::Came;
 /// What a server does next.
 #[derive(Clone, Copy, Debug, PartialEq, Eq)]
 pub enum Due {
-    /// It listens.
     Listen,
     /// A frame is over, and passes at the port.
     Frame,
-    /// The line is given up.
     GiveUp,
 }
 
 /// What a turn of a server was.
 #[derive(Clone, Copy, Debug, PartialEq, Eq)]
 pub enum Turned {
-    /// It listened, and this came.
     Listen(Came),
-    /// A frame passed.
     Frame,
 }
 
 impl Turned {
-    /// Whether the other end has closed.
     pub fn closes(self) -> bool
         ensures { result ≡ closes self }
     {
@@ -36,7 +31,6 @@ impl Turned {
     }
 }
 
-/// Takes part in a server's turns.
 pub trait ServerHooks<C: Catalogue> {
     ghost use Rattle.std.specs.Prelude.{◌≡◌, ◌≢◌, Bool, true};
     ghost use Rattle.vdcp_drive.specs.Serving.{HookStep, asked, lent};
@@ -48,13 +42,12 @@ pub trait ServerHooks<C: Catalogue> {
     /// Whether it can make frames pass, or give the line up.
     ghost can_act: { Bool } = { true };
 
-    /// It is asked at the beginning of each turn, and may wait before it answers.
+    /// Says what is due at the beginning of each turn. It may wait before.
     fn due(&mut self) -> Due
         ensures answers { does (asked result) self.old self.new }
         ensures acts { result ≢ due.Listen → can_act ≡ true };
 
-    /// It is lent the port after each turn, with the item that the turn put to air, if it put one there, and is told what
-    /// the turn was, or that the wire failed in it.
+    /// Looks on after each turn. `turned` says what the turn was, or that the wire failed in it.
     fn look(&mut self, port: &Port<C>, aired: Option<Item>, turned: Result<Turned, DriveFault>)
         ensures { does (lent (record { port = port.now; aired = aired; turned = turned })) self.old self.new };
 }

@@ -7,19 +7,16 @@ use std::io;
 use std::net::{Net, OpenListener, SocketAddr, SocketAddrV4};
 use thiserror::Error;
 
-/// Why no connection is taken.
 #[derive(Clone, Copy, Debug, PartialEq, Eq, Error)]
 pub enum AcceptFault {
     /// The address can't be listened at, or no connection came there.
     #[error("can't listen at the address")]
     Bind,
-    /// The writer failed.
     #[error("the writer failed")]
     Writer,
 }
 
-/// Listens at an address; for TCP port 0 the system chooses one. Once it listens, `out` gets a line with the address,
-/// and is flushed.
+/// Listens at an address (for TCP port 0 the system chooses one), writes a line with it to `out`, and flushes that.
 pub fn listen_at<R: Net, W: io::Write>(
     rt: &R,
     address: SocketAddrV4,
@@ -41,7 +38,7 @@ pub fn listen_at<R: Net, W: io::Write>(
     }
 }
 
-/// Listens at an address as `listen_at`, and takes the first connection; the others are refused from then on.
+/// As `listen_at`, and takes the first connection; others are refused from then on.
 pub fn accept_one<R: Net, W: io::Write>(
     rt: &R,
     address: SocketAddrV4,
@@ -58,7 +55,6 @@ pub fn accept_one<R: Net, W: io::Write>(
     }
 }
 
-// Writes the line of the address that is listened at.
 fn write_listening<W: io::Write>(address: SocketAddr, out: &mut W) -> io::Result<()>
     ensures { OnOk result (Appends (W.contents out.old) (W.contents out.new) (listening_line address)) }
 {

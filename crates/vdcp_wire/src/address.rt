@@ -6,12 +6,11 @@ ghost use Rattle.vdcp_wire.specs.Address.{IsAddress};
 use std::net::SocketAddrV4;
 use thiserror::Error;
 
-/// A text is no address.
 #[derive(Clone, Copy, Debug, PartialEq, Eq, Error)]
 #[error("not an IPv4 address, a colon and a port number")]
 pub struct AddressFault;
 
-/// The address that a text writes: an IPv4 address, a colon and a TCP port, with no spaces. No name is looked up.
+/// Reads an IPv4 address, a colon and a TCP port, with no spaces. No name is looked up.
 pub fn address_of(text: &str) -> Result<SocketAddrV4, AddressFault>
     ensures address { IfOk result (IsSocketV4Text text.now) }
     ensures no_address { OnErr result (¬ IsAddress text.now) }

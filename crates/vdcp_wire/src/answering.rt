@@ -15,7 +15,7 @@ enum Since {
     Bytes,
 }
 
-/// How long an answer may go on: bytes that keep coming after that don't count.
+/// Says when an answer has gone on for too long: bytes that still come then don't count.
 #[derive(Drop)]
 pub struct Answering<C: Clock> {
     stopwatch: Stopwatch<C>,
@@ -27,7 +27,6 @@ pub struct Answering<C: Clock> {
 }
 
 impl<C: Clock> Answering<C> {
-    /// Nothing has been sent yet.
     pub fn new(clock: C, most: Duration) -> Self
         ensures most { result.most ≡ min (as_nanos most) (2 ^ 64 - 1) }
         ensures since { result.since ≡ Since.Nothing }
@@ -40,7 +39,6 @@ impl<C: Clock> Answering<C> {
         }
     }
 
-    /// A command has gone out.
     pub fn note_sent(&mut self)
         ensures sent { self.new.sent ≡ self.new.stopwatch.now }
         ensures keeps { self.new ≡ record self.old { stopwatch = self.new.stopwatch; sent = self.new.sent; since = Since.Nothing } }
@@ -49,7 +47,7 @@ impl<C: Clock> Answering<C> {
         self.since = Since::Nothing;
     }
 
-    /// Whether it has gone on for too long. (While nothing has come the clock isn't read.)
+    /// While nothing has come the clock isn't read.
     pub fn is_over(&mut self) -> bool
         ensures over { result ≡ goes_on_for self.old.since self.old.most (self.new.stopwatch.now - self.old.sent) }
         ensures keeps { self.new ≡ record self.old { stopwatch = self.new.stopwatch } }
@@ -60,7 +58,6 @@ impl<C: Clock> Answering<C> {
         }
     }
 
-    /// This came.
     pub fn note(&mut self, came: Came)
         ensures { self.new ≡ record self.old { since = since_with came self.old.since } }
     {

@@ -1,10 +1,5 @@
 //! A wire carries bytes to the other end of a line and back, and tells bursts from silences.
 //!
-//! `StreamWire` is one over a connection; `with_limit` makes one on which each answer ends at last. `ScriptWire` is
-//! one in memory, which gives what a script of `Entry`s says and tells its bytes. Whoever drives a wire calls `send`,
-//! `listen` and `drop_waiting` of `Wire`, and none of them again once one has failed. `address_of` reads the address of
-//! a TCP connection, `accept_one` takes one connection there, and `listen_at` gives what takes one after another.
-//!
 //! ```text
 //! let stream = accept_one(rt, address_of(text)?, out)?;
 //! let mut wire = StreamWire::new(stream, silence)?;
@@ -13,7 +8,7 @@
 //! let mut buffer = [0; PIECE];
 //! match wire.listen(&mut buffer)? { Came::Bytes(n) => .., Came::Silence => .., Came::Closed => .. }
 //! ```
-//!
+//! `with_limit` makes a wire on which each answer ends at last, and a `ScriptWire` is one in memory.
 //! Files, in reading order: `wire`, `script`, `stopwatch`, `answering`, `stream`, `duplex`, `address`, `accept`.
 #![tactic(auto)]
 

@@ -12,26 +12,20 @@ use std::marker::Model;
 pub enum Entry<A: Allocator> {
     /// These bytes come, in pieces of `PIECE` at most.
     Came(Vec<u8, A>),
-    /// A silence.
     Silence,
-    /// The other end closes.
     Closed,
     /// These bytes come, unless they are dropped before they are listened to.
     Stale(Vec<u8, A>),
 }
 
-/// The call that is to fail, counted from 1, and how much of its bytes a send sends before that.
 #[derive(Clone, Copy)]
 struct Failure {
     call: u64,
     part: usize,
 }
 
-/// A wire in memory, which gives what a script says and tells its bytes. If memory is refused, the
-/// wire fails.
-///
-/// `listen` gives the entries in order, and after the last one that the other end has closed.
-/// `drop_waiting` takes the `Stale` entries that stand next.
+/// A wire in memory: `listen` gives the entries of a script in order, and then that the other end has closed;
+/// `drop_waiting` takes the `Stale` entries that stand next. If memory is refused, the wire fails.
 #[derive(Drop)]
 pub struct ScriptWire<A: Allocator + Copy> {
     alloc: A,
@@ -40,7 +34,7 @@ pub struct ScriptWire<A: Allocator + Copy> {
     next: usize,
     given: usize,
     sent: Vec<u8, A>,
-    /// What each `listen` gave until a close, which is the last of it, and all bytes of these, one after another.
+    /// What each `listen` gave up to the first close, and all bytes of these, one after another.
     came: Vec<Came, A>,
     bytes: Vec<u8, A>,
     drops: Vec<usize, A>,
@@ -69,7 +63,6 @@ impl<A: Allocator + Copy> Model for ScriptWire<A> {
 impl<A: Allocator + Copy> ScriptWire<A> {
     ghost use Rattle.vdcp_wire.specs.Wires.{nothing_told};
 
-    /// A fresh wire of this script. It takes memory by `alloc`, and none now.
     pub fn new(alloc: A, entries: Vec<Entry<A>, A>) -> Self
         ensures told { result.told ≡ nothing_told }
         ensures works { result.failed ≡ false }
@@ -90,7 +83,6 @@ impl<A: Allocator + Copy> ScriptWire<A> {
         }
     }
 
-    /// All bytes that were sent.
     pub fn sent(&self) -> &[u8]
         ensures { result.now ≡ self.now.told.sent }
     {
@@ -104,15 +96,13 @@ impl<A: Allocator + Copy> ScriptWire<A> {
         self.drops.as_slice()
     }
 
-    /// The `call`-th call of the wire, counted from 1, is to fail. A send sends the first `part` of its
-    /// bytes before that, or all if it has fewer; any other call takes nothing.
+    /// Makes the `call`-th call, from 1, fail. A send sends the first `part` of its bytes before that, or all.
     pub fn fail_at(&mut self, call: u64, part: usize)
         ensures { self.new ≡ self.old }
     {
         self.failure = Some(Failure { call, part });
     }
 
-    // Counts a call, and tells whether it is to fail, and with how much of a send's bytes sent before.
     fn count_call(&mut self) -> Option<usize>
         ensures { self.new ≡ self.old }
     {
@@ -123,7 +113,6 @@ impl<A: Allocator + Copy> ScriptWire<A> {
         }
     }
 
-    // What comes next. Its bytes, if it has some, are put into the buffer.
     fn peek(&self, buffer: &mut [u8; PIECE]) -> Came
         ensures { FitsBuffer result }
     {
@@ -136,7 +125,6 @@ impl<A: Allocator + Copy> ScriptWire<A> {
         }
     }
 
-    // Moves past what was given.
     fn advance(&mut self, came: Came)
         ensures { self.new ≡ self.old }
     {
@@ -154,7 +142,6 @@ impl<A: Allocator + Copy> ScriptWire<A> {
         }
     }
 
-    // Moves past the stale entries that stand next.
     fn pass_stale(&mut self)
         ensures { self.new ≡ self.old }
     {
@@ -165,7 +152,6 @@ impl<A: Allocator + Copy> ScriptWire<A> {
         }
     }
 
-    // Keeps what came, if no close came before.
     fn keep(&mut self, came: Came, buffer: &[u8; PIECE]) -> Result<(), AllocError>
         requires fits { FitsBuffer came }
         requires open { has_closed self.old.told.came ≡ false }
@@ -180,7 +166,6 @@ impl<A: Allocator + Copy> ScriptWire<A> {
         Ok(())
     }
 
-    // Gives what comes next.
     fn give(&mut self, buffer: &mut [u8; PIECE]) -> Result<Came, AllocError>
         ensures fits { IfOk result FitsBuffer }
         ensures came { IfOk result (λ c. Some self.new.told ≡ adds_came (arrival_of c buffer.new)
@@ -205,7 +190,6 @@ impl<A: Allocator + Copy> ScriptWire<A> {
     }
 }
 
-// The bytes that came.
 fn piece_of(came: Came, buffer: &[u8; PIECE]) -> &[u8]
     requires { FitsBuffer came }
     ensures bytes { result.now ≡ take (brought came) buffer.now }
@@ -226,7 +210,6 @@ fn is_close(came: Came) -> bool
     }
 }
 
-// Puts the next piece of some bytes into the buffer; the first `given` of them went before.
 fn put(bytes: &[u8], given: usize, buffer: &mut [u8; PIECE]) -> Came
     ensures { FitsBuffer result }
 {
@@ -282,7 +265,6 @@ impl<A: Allocator + Copy> Wire for ScriptWire<A> {
     ghost tells = { λ _ _ _ told. told };
 }
 
-// The first place from this one on that has no stale entry.
 fn behind_stale<A: Allocator>(entries: &Vec<Entry<A>, A>, from: usize) -> usize {
     let mut next = from;
     'stale: while let Some(Entry::Stale(_)) = entries.get(next) {

@@ -4,7 +4,7 @@ ghost use Rattle.std.specs.Prelude.{◌≡◌, ◌+◌, ◌-◌, ◌^◌, ◌≤
 use std::rt::Clock;
 use std::time::Duration;
 
-/// Reads a clock in nanoseconds, which never go back. A clock that can't be read stands still.
+/// A clock in nanoseconds that never goes back. One that can't be read stands still.
 #[derive(Drop)]
 pub struct Stopwatch<C: Clock> {
     clock: C,
@@ -13,14 +13,12 @@ pub struct Stopwatch<C: Clock> {
 }
 
 impl<C: Clock> Stopwatch<C> {
-    /// Of this clock, which isn't read yet.
     pub fn new(clock: C) -> Self
         ensures { result.now ≡ 0 }
     {
         Stopwatch { clock, now: 0 }
     }
 
-    /// The time.
     pub fn read(&mut self) -> u64
         ensures now { result ≡ self.new.now }
         ensures later { self.old.now ≤ self.new.now }
@@ -33,7 +31,7 @@ impl<C: Clock> Stopwatch<C> {
         self.now
     }
 
-    /// Sleeps for this many nanoseconds, and is that much later then, also by a clock that stands still.
+    /// Sleeps, and is that much later then, also if the clock stands still.
     pub fn sleep(&mut self, nanoseconds: u64)
         ensures { self.new ≡ record self.old { now = min (self.old.now + nanoseconds) (2 ^ 64 - 1) } }
     {
@@ -41,7 +39,6 @@ impl<C: Clock> Stopwatch<C> {
         self.now = self.now.saturating_add(nanoseconds);
     }
 
-    /// Sleeps until this time. It is that time then, also by a clock that stands still.
     pub fn sleep_until(&mut self, time: u64)
         ensures over { time ≤ self.new.now }
         ensures later { self.old.now ≤ self.new.now }

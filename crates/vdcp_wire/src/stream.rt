@@ -21,45 +21,36 @@ use std::time::Duration;
 /// Read limit of `drop_waiting`, so that a peer that goes on sending can't hold it up.
 const MOST_READS: u32 = 128;
 
-/// For how many seconds a send waits if the other end takes nothing, unless another number is set.
+/// How many seconds a send waits if the other end takes nothing, unless another time is set.
 const SENDING: u64 = 10;
 
-/// How long a wire waits for the other end.
 #[derive(Clone, Copy, Debug, PartialEq, Eq)]
 pub struct Waits {
-    /// For how long a read waits, 1 millisecond or more.
+    /// How long a read waits, 1 millisecond or more.
     pub read: Duration,
-    /// How many reads in a row wait in vain before it is a silence. One is the least.
+    /// How many reads in a row wait in vain before it is a silence, 1 or more.
     pub reads: u32,
-    /// For how long a send waits for each part of its bytes, 1 microsecond or more.
+    /// How long a send waits for each part of its bytes, 1 microsecond or more.
     pub send: Duration,
 }
 
-/// What a wire knows of its connection.
 #[derive(Clone, Copy, Debug, PartialEq, Eq)]
 enum Connection {
-    /// Both ends use it.
     Open,
-    /// The other end has closed: nothing will come any more.
     Closed,
-    /// A call failed.
     Failed,
 }
 
-/// A wire over a connection. `send` and `listen` may wait for the other end: `listen` for the time of a silence, and
-/// `send` for its own, after which the wire has failed, for each part of the bytes that the connection takes at once.
+/// A wire over a connection. `listen` waits for the time of a silence; `send` waits for its own for each part of its
+/// bytes, and then the wire has failed.
 ///
-/// What it carried from its start it doesn't tell. But if the connection's bytes are known, `send` appends exactly
-/// its bytes, or a beginning of them if it fails; what `listen` gives is exactly what came next; and `drop_waiting`
-/// takes some of that.
+/// If the connection's bytes are known, `send` appends exactly its bytes, or a beginning of them if it fails, and
+/// `listen` gives exactly what comes next. `drop_waiting` doesn't wait: it drops what at most 128 reads take.
 ///
-/// A read that waited in vain is a silence if it is the last of as many in a row as `Waits` says, and else brings no
-/// bytes, as an interrupted read does. Bytes that come begin the count anew. A connection that the system gives up,
-/// since nothing is acknowledged any more, has failed. `drop_waiting` doesn't wait. It drops what at most 128 reads
-/// take; the rest stays.
-///
-/// With a limit an answer ends at last, whatever comes: if bytes have come since the last send, and the limit has passed
-/// since that, `listen` is silent and takes nothing, until the next send.
+/// A read in vain is a silence if it is the last of as many in a row as `Waits` says, and else brings no bytes, as an
+/// interrupted read does. A connection that the system gives up, since nothing is acknowledged any more, has failed.
+/// With a limit an answer ends at last: once it has passed since the last send, and bytes have come since, `listen` is
+/// silent and takes nothing until the next send.
 #[derive(Drop)]
 pub struct StreamWire<S: Duplex + Drop = TcpStream, C: Clock + Drop = Unclocked> {
     stream: S,
@@ -101,9 +92,8 @@ impl<S: Duplex + Drop, C: Clock + Drop> Model for StreamWire<S, C> {
 }
 
 impl<S: Duplex + Drop> StreamWire<S> {
-    /// A wire over this connection, on which nothing comes for `silence` at the end of a burst, 1
-    /// millisecond or more. If the other end takes nothing, a send waits for ten seconds. Err if the connection
-    /// refuses this.
+    /// Makes a wire on which a silence of `silence`, 1 millisecond or more, ends a burst, and a send waits for ten
+    /// seconds.
     pub fn new(stream: S, silence: Duration) -> io::Result<Self>
         ensures open { IfOk result (λ wire. wire.connection ≡ Connection.Open) }
         ensures ahead { IfOk result (λ wire. wire.ahead ≡ S.ahead stream) }
@@ -112,7 +102,7 @@ impl<S: Duplex + Drop> StreamWire<S> {
         StreamWire::with_waits(stream, waits_for(silence))
     }
 
-    /// Likewise, but its calls wait as `waits` says. What is sent goes out at once.
+    /// As `new`, but it waits as `waits` says. What is sent goes out at once.
     pub fn with_waits(stream: S, waits: Waits) -> io::Result<Self>
         ensures open { IfOk result (λ wire. wire.connection ≡ Connection.Open) }
         ensures ahead { IfOk result (λ wire. wire.ahead ≡ S.ahead stream) }
@@ -125,7 +115,7 @@ impl<S: Duplex + Drop> StreamWire<S> {
 }
 
 impl<S: Duplex + Drop, C: Clock + Drop> StreamWire<S, C> {
-    /// As `new`, but an answer may go on for no longer than `limit`, by this clock.
+    /// As `new`, but an answer goes on for `limit` at most, by this clock.
     pub fn with_limit(stream: S, silence: Duration, limit: Duration, clock: C) -> io::Result<Self>
         ensures open { IfOk result (λ wire. wire.connection ≡ Connection.Open) }
         ensures ahead { IfOk result (λ wire. wire.ahead ≡ S.ahead stream) }
@@ -139,7 +129,6 @@ impl<S: Duplex + Drop, C: Clock + Drop> StreamWire<S, C> {
         )
     }
 
-    // Over this connection, which may refuse that.
     fn over(stream: S, waits: Waits, answering: Option<Answering<C>>) -> io::Result<Self>
         ensures open { IfOk result (λ wire. wire.connection ≡ Connection.Open) }
         ensures ahead { IfOk result (λ wire. wire.ahead ≡ S.ahead stream) }
@@ -159,7 +148,6 @@ impl<S: Duplex + Drop, C: Clock + Drop> StreamWire<S, C> {
         })
     }
 
-    // Drops what waits. After a close nothing is read.
     fn drop_reads(&mut self) -> io::Result<()>
         requires { failures_of self.old.connection ≡ 0 }
         ensures taken { Takes self.old.ahead self.new.ahead }
@@ -180,7 +168,6 @@ impl<S: Duplex + Drop, C: Clock + Drop> StreamWire<S, C> {
         Ok(())
     }
 
-    // Reads once, and counts the reads in vain.
     fn read(&mut self, buffer: &mut [u8; PIECE]) -> Result<Came, WireFault>
         requires { self.old.connection ≡ Connection.Open }
         ensures fits { IfOk result FitsBuffer }
@@ -203,7 +190,6 @@ impl<S: Duplex + Drop, C: Clock + Drop> StreamWire<S, C> {
         Ok(came)
     }
 
-    // What a listen tells of a read, whose reads in vain are counted.
     fn count_read(&mut self, read: Came) -> Came
         ensures told { result ≡ heard_of read self.old.left }
         ensures left { self.new ≡ record self.old { left = left_behind read self.old.reads self.old.left } }
@@ -219,7 +205,6 @@ impl<S: Duplex + Drop, C: Clock + Drop> StreamWire<S, C> {
         read
     }
 
-    // A command has gone out.
     fn note_sent(&mut self)
         ensures noted { IsSent self.old.answer self.new.answer }
         ensures rest { self.new ≡ record self.old { answer = self.new.answer } }
@@ -229,7 +214,6 @@ impl<S: Duplex + Drop, C: Clock + Drop> StreamWire<S, C> {
         }
     }
 
-    // Whether an answer has gone on for too long.
     fn is_over(&mut self) -> bool
         ensures over { result ≡ lapses self.old.answer self.new.answer }
         ensures read { IsRead self.old.answer self.new.answer }
@@ -241,7 +225,6 @@ impl<S: Duplex + Drop, C: Clock + Drop> StreamWire<S, C> {
         }
     }
 
-    // This came.
     fn note(&mut self, came: Came)
         ensures { self.new ≡ record self.old { answer = heard came self.old.answer } }
     {
@@ -250,7 +233,6 @@ impl<S: Duplex + Drop, C: Clock + Drop> StreamWire<S, C> {
         }
     }
 
-    // The fault of a call that failed. None is made again.
     fn fail(&mut self) -> WireFault
         ensures { self.new ≡ record self.old { connection = Connection.Failed } }
     {
@@ -346,7 +328,6 @@ impl<S: Duplex + Drop, C: Clock + Drop> Wire for StreamWire<S, C> {
     ghost tells = { λ _ _ _ _. refl };
 }
 
-// The waits of a line that is silent for this long at the end of a burst.
 fn waits_for(silence: Duration) -> Waits {
     Waits {
         read: silence,
@@ -355,7 +336,6 @@ fn waits_for(silence: Duration) -> Waits {
     }
 }
 
-// Reads what waits on a connection that doesn't wait, and says whether the other end has closed.
 fn read_waiting<S: Duplex>(stream: &mut S) -> io::Result<Connection>
     ensures taken { Takes (S.ahead stream.old) (S.ahead stream.new) }
     ensures apart { Keeps (S.written stream.old) (S.written stream.new) }
@@ -372,7 +352,6 @@ fn read_waiting<S: Duplex>(stream: &mut S) -> io::Result<Connection>
     Ok(Connection::Open)
 }
 
-// What a read brought.
 fn came_of(read: io::Result<usize>) -> io::Result<Came>
     ensures { result ≡ came_of read }
 {

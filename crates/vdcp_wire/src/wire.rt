@@ -1,34 +1,28 @@
 //! The wire as a trait, and what a listen brings.
 use thiserror::Error;
 
-/// Most bytes one `listen` returns.
+/// How many bytes one `listen` gives at most.
 pub const PIECE: usize = 512;
 
-/// A wire failed.
 #[derive(Clone, Copy, Debug, PartialEq, Eq, Error)]
 #[error("the line failed")]
 pub struct WireFault;
 
-/// What one `listen` brings.
 #[derive(Clone, Copy, Debug, PartialEq, Eq)]
 pub enum Came {
     /// This many bytes, 0 to `PIECE`, at the front of the buffer.
     Bytes(usize),
     /// Nothing came for the time that ends a burst.
     Silence,
-    /// The other end has closed: nothing will come any more.
     Closed,
 }
 
-/// What carries bytes to the other end and back.
-///
-/// A wire that fails once isn't called again: each call requires that it never failed.
+/// Carries bytes to the other end and back. A wire that has failed isn't called again.
 pub trait Wire {
     ghost use Rattle.std.specs.Prelude.{◌≡◌, ◌≤◌, ℕ, OnOk, OnErr, IfOk, Option};
     ghost use Rattle.vdcp_wire.specs.Acts.{Act, sends, brings, drops, fails, OfFront, Tells};
     ghost use Rattle.vdcp_wire.specs.Wires.{Told, arrival_of, adds_sent, adds_came, adds_drop, MayCome, SendsFront, FitsBuffer};
 
-    /// From one of its states to the next it does this.
     ghost does: { Act → Self → Self → Type 0 };
 
     /// What went out, what came, and where waiting bytes were dropped, if the wire tells it.
@@ -37,7 +31,7 @@ pub trait Wire {
     /// How often it failed: 0 or 1.
     ghost failures: { Self → ℕ };
 
-    /// Sends the bytes. If it fails, a beginning of them was sent.
+    /// If it fails, a beginning of the bytes was sent.
     fn send(&mut self, bytes: &[u8]) -> Result<(), WireFault>
         requires { failures self.old ≡ 0 }
         ensures sends { OnOk result (does (sends bytes.now) self.old self.new) }
@@ -47,8 +41,7 @@ pub trait Wire {
         ensures works { OnOk result (failures self.new ≡ 0) }
         ensures failed { OnErr result (failures self.new ≡ 1) };
 
-    /// Waits for bytes, a silence or the close. After a close it answers only that. If it fails,
-    /// nothing is taken.
+    /// Waits for bytes, a silence or the close, after which it gives only that. If it fails, nothing is taken.
     fn listen(&mut self, buffer: &mut [u8; PIECE]) -> Result<Came, WireFault>
         requires { failures self.old ≡ 0 }
         ensures fits { IfOk result FitsBuffer }
@@ -60,8 +53,7 @@ pub trait Wire {
         ensures works { OnOk result (failures self.new ≡ 0) }
         ensures failed { OnErr result (failures self.new ≡ 1) };
 
-    /// Drops the bytes that wait to be listened to. A call that fails counts as no drop, though some of these
-    /// bytes may be gone.
+    /// Drops the bytes that wait. A call that fails counts as no drop, though some of them may be gone.
     fn drop_waiting(&mut self) -> Result<(), WireFault>
         requires { failures self.old ≡ 0 }
         ensures drops { OnOk result (does drops self.old self.new) }
@@ -71,9 +63,7 @@ pub trait Wire {
         ensures works { OnOk result (failures self.new ≡ 0) }
         ensures failed { OnErr result (failures self.new ≡ 1) };
 
-    /// A failure is counted once.
     ghost fails_once: { (wire : Self) → failures wire ≤ 1 };
 
-    /// What it tells is what it does.
     ghost tells: { (act : Act) (old new : Self) → does act old new → Tells act (told old) (told new) };
 }
