@@ -4,7 +4,7 @@ use std::io::{self, ErrorKind};
 use std::os::unix::fs::MetadataExt;
 use std::rt::Files;
 
-/// Both names are those of one file, by another path or a link.
+/// Whether both names are of one file, by another path or a link.
 pub fn is_same_file<R: Files>(rt: &R, name: &str, other: &str) -> bool {
     let (Ok(file), Ok(other)) = (fs::metadata(rt, name), fs::metadata(rt, other)) else {
         return false;
@@ -12,8 +12,7 @@ pub fn is_same_file<R: Files>(rt: &R, name: &str, other: &str) -> bool {
     file.is_file() && file.dev() == other.dev() && file.ino() == other.ino()
 }
 
-/// Keeps a file as `NAME.~N~`, too, by the first N from 1 that no file has, and gives that name; None if it has no
-/// other name now.
+/// Names a file `NAME.~N~`, too, with the first free N from 1, and says so; `None` if it has no other name now.
 pub fn keep_older<R: Files + AllocGlobal>(rt: &R, name: &str) -> io::Result<Option<String>> {
     for number in 1..u32::MAX {
         let kept = format!(in rt.alloc(); "{name}.~{number}~")?;
@@ -21,7 +20,7 @@ pub fn keep_older<R: Files + AllocGlobal>(rt: &R, name: &str) -> io::Result<Opti
             Ok(()) => return Ok(Some(kept)),
             Err(error) if error.kind() == ErrorKind::AlreadyExists => {}
             Err(_) => {
-                // (if a file can't have two names it changes its own, which for a moment no file has)
+                // If a file can't have two names it changes its own, which for a moment no file has.
                 fs::rename(rt, name, kept.as_str())?;
                 return Ok(None);
             }

@@ -1,9 +1,7 @@
 //! Named files: read as lists, as catalogues or line by line, over any readers and writers.
 //!
-//! A file to read is a `NamedFile`, which gives its list or its catalogue, or else the failure. `lines_in` and
-//! `next_line` read a file's lines one after another. `write_findings` writes which events of a list can't be played
-//! with a catalogue's clips. `keep_older` keeps a file that is about to be written anew.
-//!
+//! A `NamedFile` gives its list or its catalogue, `lines_in` and `next_line` its lines. `write_findings` says which
+//! events can't be played with a catalogue's clips. `keep_older` keeps a file that is about to be written anew.
 //! Files, in reading order: `lines`, `named_file`, `playable`, `beside`.
 #![tactic(auto)]
 

@@ -8,14 +8,12 @@ use std::alloc::Global;
 use std::io::{self, BufRead, BufReader, ErrorKind, Lines, Read};
 use vdcp_text::{Failure, ScriptLineFault};
 
-/// How many bytes a line has at most, without its line feed.
 pub(crate) const LONGEST_LINE: usize = 65_536;
 
-/// A reader that ends with an error at the first line that is too long.
+/// Ends with an error at the first line that is too long.
 #[derive(Drop)]
 pub struct Lined<R> {
     reader: R,
-    // How many bytes a line has at most.
     most: usize,
     // The line that is read, from 1, and how many bytes of it there are.
     number: usize,
@@ -38,7 +36,6 @@ impl<R> Lined<R> {
         self.number
     }
 
-    // Goes over the bytes that come next, to the first line that is too long.
     fn go_over(&mut self, bytes: &[u8])
         ensures { self.new.reader ≡ self.old.reader }
     {
@@ -69,20 +66,18 @@ impl<R: Read> Read for Lined<R> {
     }
 }
 
-/// The lines of a file, which `next_line` reads one after another.
 pub type FileLines<R> = Lines<BufReader<Lined<R>>>;
 
-/// The lines that a reader gives. It fails only for want of memory.
+/// It fails only for want of memory.
 pub fn lines_in<R: Read + Drop>(alloc: Global, reader: R) -> io::Result<FileLines<R>>
     ensures { IfOk result (λ lines. text_left R.remaining lines ≡ R.remaining reader) }
 {
-    // (a carriage return before the line feed isn't of the line)
+    // A carriage return before the line feed isn't of the line.
     let reader = BufReader::new(alloc, Lined::new(reader, LONGEST_LINE + 1))?;
     Ok(reader.lines(alloc))
 }
 
-/// The next line, of this number, of the file of this name, without its end. `ScriptLine` if it has more than 64 KiB, `NotText`,
-/// `Read` or `Memory`: then no more is read.
+/// The next line, without its end. `ScriptLine` (over 64 KiB), `NotText`, `Read` and `Memory` end the reading.
 pub fn next_line<'a, R: Read + Drop>(
     lines: &mut FileLines<R>,
     name: &'a str,
@@ -102,7 +97,6 @@ pub fn next_line<'a, R: Read + Drop>(
     }
 }
 
-/// Why the line of this number isn't read, of the file of this name.
 pub(crate) fn line_failure<'a>(name: &'a str, number: usize, error: &io::Error) -> Failure<'a>
     ensures { IsUnread name.entry result }
 {

@@ -13,17 +13,14 @@ use vdcp_list::{List, ListFault, Table, read_catalogue, read_list};
 use vdcp_text::Failure;
 use vdcp_value::Rate;
 
-/// A file to read, with its name.
 #[derive(Drop)]
 pub struct NamedFile<'a, R> {
-    /// Its name, as it was given.
     pub name: &'a str,
     pub reader: R,
 }
 
 impl<'a, R: io::Read + Drop> NamedFile<'a, R> {
-    /// Reads the playlist in the file, with time codes at this rate. `Row` if a row is refused, `Read` if
-    /// the file can't be read, and `Memory`.
+    /// Reads a playlist, at this rate. `Row`: a row is refused; `Read`: the file can't be read; `Memory`.
     pub fn read_list(self, alloc: Global, rate: Rate) -> Result<List, Failure<'a>>
         ensures events { IfOk result (λ events. IsListOf rate (R.remaining self.entry.reader) (items_of events)) }
         ensures refused { IfErr result (RefusesList rate (file self.entry.name (R.remaining self.entry.reader))) }
@@ -35,8 +32,7 @@ impl<'a, R: io::Read + Drop> NamedFile<'a, R> {
         }
     }
 
-    /// Reads the catalogue in the file, with time codes at this rate. `Row` if a row is refused, `Read` if
-    /// the file can't be read, and `Memory`.
+    /// Reads a catalogue, at this rate. `Row`: a row is refused; `Read`: the file can't be read; `Memory`.
     pub fn read_catalogue(self, alloc: Global, rate: Rate) -> Result<Table, Failure<'a>>
         ensures clips { IfOk result (IsCatalogueOf rate (R.remaining self.entry.reader)) }
         ensures refused { IfErr result (RefusesCatalogue rate (file self.entry.name (R.remaining self.entry.reader))) }
@@ -48,8 +44,7 @@ impl<'a, R: io::Read + Drop> NamedFile<'a, R> {
         }
     }
 
-    /// Reads the file, whose lines have 64 KiB each at most. `ScriptLine` if a line has more, which isn't read to its
-    /// end; `Read` if the file can't be read, and `Memory`.
+    /// Reads lines of at most 64 KiB. `ScriptLine`: one has more; `Read`: the file can't be read; `Memory`.
     pub fn read_lines(self, alloc: Global) -> Result<Vec<u8>, Failure<'a>>
         ensures bytes { IfOk result (λ bytes. IfSome (R.remaining self.entry.reader) (λ known. known ≡ bytes.items)) }
         ensures refused { IfErr result (IsUnread self.entry.name) }
@@ -64,7 +59,6 @@ impl<'a, R: io::Read + Drop> NamedFile<'a, R> {
     }
 }
 
-/// Why the list or the catalogue of this name isn't read.
 pub fn file_failure<'a>(name: &'a str, fault: ListFault) -> Failure<'a>
     ensures { result ≡ file_failure name.entry fault }
 {

@@ -10,7 +10,7 @@ use vdcp_port::Catalogue;
 use vdcp_value::{ClipId, Item};
 
 /// Writes how many events and how many clips there are, and a line for each event that can't be played with these
-/// clips; then flushes, and says whether each can.
+/// clips. Then it flushes, and says whether each event can.
 pub fn write_findings<S: Source, C: Catalogue, W: io::Write>(
     events: &S,
     clips: &C,
@@ -30,7 +30,6 @@ pub fn write_findings<S: Source, C: Catalogue, W: io::Write>(
     Ok(playable)
 }
 
-// Writes the lines of the events that can't be played, and says whether there are none.
 fn write_events<S: Source, C: Catalogue, W: io::Write>(
     events: &S,
     clips: &C,
@@ -50,7 +49,6 @@ fn write_events<S: Source, C: Catalogue, W: io::Write>(
     Ok(playable)
 }
 
-// Writes the line of an event, if it can't be played.
 fn write_event<W: io::Write>(
     k: usize,
     id: ClipId,
@@ -68,12 +66,9 @@ fn write_event<W: io::Write>(
     writeln!(out, "{fault} {k} {id}")
 }
 
-/// Why an event can't be played.
 #[derive(Clone, Copy)]
 enum EventFault {
-    /// The catalogue doesn't have its clip.
     Missing,
-    /// Its part doesn't fit its clip.
     Outside,
 }
 
@@ -91,7 +86,6 @@ impl fmt::Display for EventFault {
     }
 }
 
-// Why an event can't be played with these clips, if it can't.
 fn fault_of<C: Catalogue>(clips: &C, item: &Item) -> Option<EventFault>
     ensures { result ≡ fault_of (C.clips clips.now) item.now }
 {

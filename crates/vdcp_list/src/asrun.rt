@@ -16,15 +16,12 @@ use vdcp_auto::Source;
 use vdcp_value::laws::a_time_code_has_lawful_bytes;
 use vdcp_value::{Item, Part, Rate, Timecode};
 
-/// Writes the as-run list of the first `reported` events of a source: a row each, of the event's
-/// number from 0 and its ID; and, if any event of the source has a part, of start and duration at
-/// this rate too, both empty for a whole clip. It is CSV with commas, quotes only if needed, and
-/// line feeds.
+/// Writes the as-run list of the first `reported` events: a row each, of the event's number from 0 and its ID. If any
+/// event of the source has a part, start and duration follow at this rate, both empty for a whole clip. It is CSV with
+/// commas, quotes only if needed, and line feeds.
 ///
-/// The parts of these events are tested first: `Time` is the first that isn't lawful at the rate, and
-/// no list that was read at this rate has one. The text is made whole before it is written, so that
-/// only `Device` may leave a beginning of it. The writer is flushed at the end; a write that was
-/// interrupted is made again.
+/// `Time` is for the first part that isn't lawful at the rate, which no list that was read at it has. Only `Device` may
+/// leave a beginning of the text. An interrupted write is made again, and at the end the writer is flushed.
 pub fn write_asrun<S: Source, W: Write, A: Allocator>(
     alloc: A,
     source: &S,
@@ -44,8 +41,8 @@ pub fn write_asrun<S: Source, W: Write, A: Allocator>(
     write_events(alloc, source, rate, 0, reported, writer)
 }
 
-/// Writes the rows that the as-run list of a source has of `count` events from event `from` on, as `write_asrun` does:
-/// numbers and columns are those of the whole list. The parts of the events before them are tested, too.
+/// As `write_asrun`, but of the rows of `count` events from event `from` on. Numbers and columns are those of the whole
+/// list, and the parts of the events before are tested, too.
 pub fn write_events<S: Source, W: Write, A: Allocator>(
     alloc: A,
     source: &S,
@@ -70,7 +67,6 @@ pub fn write_events<S: Source, W: Write, A: Allocator>(
     write_out(writer, text.as_slice())
 }
 
-/// Writes a text and flushes the writer.
 pub(crate) fn write_out<W: Write>(writer: &mut W, text: &[u8]) -> Result<(), WriteFault>
     ensures ok { OnOk result (Appends (W.contents writer.old) (W.contents writer.new) text.now) }
     ensures device { IfErr result (λ fault. fault ≡ Device) }
@@ -83,7 +79,7 @@ pub(crate) fn write_out<W: Write>(writer: &mut W, text: &[u8]) -> Result<(), Wri
     }
 }
 
-/// Writes a text. `write` alone says what a failure leaves; `write_all` doesn't.
+/// `write` alone says what a failure leaves; `write_all` doesn't.
 fn write_text<W: Write>(writer: &mut W, text: &[u8]) -> Result<(), WriteFault>
     ensures ok { OnOk result (Appends (W.contents writer.old) (W.contents writer.new) text.now) }
     ensures device { IfErr result (λ fault. fault ≡ Device) }
@@ -104,8 +100,6 @@ fn write_text<W: Write>(writer: &mut W, text: &[u8]) -> Result<(), WriteFault>
     Err(WriteFault::Device)
 }
 
-/// Refuses the first of these events whose part isn't lawful at the rate, and tells whether one of them
-/// has a part.
 pub(crate) fn check_parts<S: Source>(
     source: &S,
     rate: Rate,
@@ -128,7 +122,6 @@ pub(crate) fn check_parts<S: Source>(
     Ok(with_parts)
 }
 
-/// Whether an event has a part, if `among` says so of those before this one.
 pub(crate) fn has_part<S: Source>(source: &S, from: usize, among: bool) -> bool
     requires within { from ≤ length (S.items source.now) }
     requires among { among ≡ has_part (take from (S.items source.now)) }
@@ -145,7 +138,6 @@ pub(crate) fn has_part<S: Source>(source: &S, from: usize, among: bool) -> bool
     false
 }
 
-/// Whether the part of an event, if it has one, is lawful at a rate.
 fn is_lawful_event(rate: Rate, item: &Item) -> bool
     ensures { result ≡ is_lawful_event rate item.now.part }
 {
@@ -155,14 +147,13 @@ fn is_lawful_event(rate: Rate, item: &Item) -> bool
     }
 }
 
-/// Whether four bytes are a lawful time code at a rate.
 fn is_lawful(rate: Rate, bytes: [u8; 4]) -> bool
     ensures { result ≡ is_time rate bytes }
 {
     Timecode::from_bcd(rate, bytes).is_ok()
 }
 
-/// The rows' text. It is written to memory, so that only want of memory can refuse it.
+/// It is written to memory, so that only want of memory can refuse it.
 fn events_text<'a, S: Source, A: Allocator>(
     alloc: &'a A,
     source: &S,
@@ -191,7 +182,6 @@ fn events_text<'a, S: Source, A: Allocator>(
     text_in(rows, is_written)
 }
 
-/// Writes the rows of these events, each number in place of a text, unless memory is refused.
 fn write_rows<S: Source, A: Allocator>(
     source: &S,
     rate: Rate,
@@ -222,7 +212,6 @@ fn write_rows<S: Source, A: Allocator>(
     true
 }
 
-/// The text that was written to memory, if it was.
 pub(crate) fn text_in<A: Allocator>(
     rows: Writer<Vec<u8, A>>,
     is_written: bool,
@@ -240,7 +229,6 @@ pub(crate) fn text_in<A: Allocator>(
     }
 }
 
-/// Writes a number in decimal in place of the text.
 pub(crate) fn show_number<A: Allocator>(
     number: usize,
     text: &mut String<A>,
@@ -251,7 +239,6 @@ pub(crate) fn show_number<A: Allocator>(
     write!(text, "{number}")
 }
 
-/// Writes the row of an event.
 fn write_event<W: Write + Drop>(
     rows: &mut Writer<W>,
     number: &str,
@@ -285,7 +272,6 @@ fn write_event<W: Write + Drop>(
     ])
 }
 
-/// Writes the fields of a lawful part in place of the buffers' texts.
 pub(crate) fn show_part(
     rate: Rate,
     part: Option<Part>,
@@ -307,7 +293,6 @@ pub(crate) fn show_part(
     }
 }
 
-/// Writes the text of a lawful time code in place of the buffer's.
 fn show_time(rate: Rate, bytes: [u8; 4], text: &mut ArrayString<11>)
     requires { IsTrue (is_time rate bytes) }
     ensures { text.new.bytes ≡ time_text rate bytes }

@@ -5,10 +5,10 @@ use std::cell::Cell;
 use std::io;
 use std::io::Read;
 
-/// How many bytes a row has at most, counted from the end of the row before it to its own.
+/// How many bytes a row has at most, from the end of the row before it.
 pub const LONGEST_ROW: usize = 65_536;
 
-/// The source of a file's rows. It gives what it owns gives, but fails if a row is longer than it may be.
+/// The source of a file's rows, which fails if a row is longer than it may be.
 #[derive(Drop)]
 pub struct Bounded<R> {
     source: R,
@@ -26,12 +26,10 @@ impl<R> Bounded<R> {
         }
     }
 
-    // The next row begins.
     pub(crate) fn begin_row(&self) {
         self.left.set(LONGEST_ROW + 1);
     }
 
-    // The row is longer than it may be.
     pub(crate) fn is_spent(&self) -> bool {
         self.left.get() == 0
     }

@@ -17,7 +17,6 @@ use std::io::Read;
 use vdcp_value::laws::{a_time_code_is_one, an_id_is_its_bytes};
 use vdcp_value::{ClipId, Rate, RowFault, Timecode};
 
-/// The clip of a catalogue's row.
 fn clip_in(row: &ByteRecord, rate: Rate, place: usize) -> Result<(ClipId, Timecode), ListFault>
     ensures row { IfOk result (λ clip. clip_row clip ≡ fields_of row.now) }
     ensures can_last { IfOk result (λ clip. CanLast rate clip.1) }
@@ -35,7 +34,6 @@ fn clip_in(row: &ByteRecord, rate: Rate, place: usize) -> Result<(ClipId, Timeco
     Ok((id, length))
 }
 
-/// The length that the second of two fields gives.
 fn last_length(row: &ByteRecord, rate: Rate) -> Option<Timecode>
     requires { length (fields_of row.now) ≡ 2 }
     ensures some { IfSome result (λ length. drop 1 (fields_of row.now) ≡ text_of length ∷ []) }
@@ -56,13 +54,11 @@ fn last_length(row: &ByteRecord, rate: Rate) -> Option<Timecode>
     Some(length)
 }
 
-/// Reads a catalogue. A row is two fields: a clip's ID, and its length, a time code at this rate. It is
-/// CSV with commas and double quotes, without a header row, and blank lines are left out.
+/// Reads a catalogue: CSV with commas and double quotes, without a header row; blank lines are left out. A row is two
+/// fields: a clip's ID, and its length, a time code at this rate.
 ///
-/// The first row that is refused is reported as `TooMany` if 10,000 stand before it, else as `Columns`,
-/// `Id` (also if the field isn't UTF-8), `Time`: a text that is no lawful time code, or one of
-/// frame 0; or `Twice`, if an earlier row has its ID. `Read`: the reader failed; `Memory`:
-/// memory was refused.
+/// `TooMany`: 10,000 rows come before. `Id`: also a field that isn't UTF-8. `Time`: no lawful time code, or one of
+/// frame 0. `Twice`: an earlier row has its ID.
 pub fn read_catalogue<R: Read + Drop>(
     alloc: Global,
     reader: R,

@@ -2,15 +2,14 @@
 use thiserror::Error;
 use vdcp_value::RowFault;
 
-/// Why a playlist or a catalogue is refused. Rows are tested one after another, and the first refusal is given.
+/// Why a playlist or a catalogue is refused. The first refusal is given, row by row.
 #[derive(Clone, Copy, Debug, PartialEq, Eq, Error)]
 pub enum ListFault {
-    /// A row, counted from 1, is refused.
+    /// The number of the row is counted from 1.
     #[error("row {0} {1}")]
     Row(usize, RowFault),
     #[error("out of memory")]
     Memory,
-    /// The reader failed.
     #[error("the reader failed")]
     Read,
 }
@@ -18,7 +17,6 @@ pub enum ListFault {
 /// Why a clip isn't added to `Slots`.
 #[derive(Clone, Copy, Debug, PartialEq, Eq, Error)]
 pub enum SlotFault {
-    /// A clip of that ID is there.
     #[error("the clip is there already")]
     Twice,
     /// There is no room, and no clip of that ID.
@@ -29,7 +27,7 @@ pub enum SlotFault {
 /// Why an as-run list isn't written.
 #[derive(Clone, Copy, Debug, PartialEq, Eq, Error)]
 pub enum WriteFault {
-    /// The writer failed. A beginning of the text may have been written.
+    /// A beginning of the text may have been written.
     #[error("the writer failed")]
     Device,
     /// Nothing was written.

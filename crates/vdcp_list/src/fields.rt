@@ -16,14 +16,12 @@ use vdcp_value::laws::{
 };
 use vdcp_value::{ClipId, Rate, Timecode};
 
-/// The field at a place of a row.
 pub(crate) fn field_at(row: &ByteRecord, place: usize) -> Option<&[u8]>
     ensures { option_copied result ≡ slice_get (fields_of row.now) place }
 {
     row.get(place)
 }
 
-/// The ID in a row's first field.
 pub(crate) fn first_id(row: &ByteRecord) -> Option<ClipId>
     ensures some { IfSome result (λ id. slice_get (fields_of row.now) 0 ≡ Some (text_of_id id)) }
     ensures none { IfNone result (¬ HasId (fields_of row.now)) }
@@ -39,7 +37,6 @@ pub(crate) fn first_id(row: &ByteRecord) -> Option<ClipId>
     }
 }
 
-/// The text of the ID in a row's first field.
 pub(crate) fn id_text(row: &ByteRecord) -> &[u8]
     requires { HasId (fields_of row.now) }
     ensures { slice_get (fields_of row.now) 0 ≡ Some result.now }
@@ -47,7 +44,6 @@ pub(crate) fn id_text(row: &ByteRecord) -> &[u8]
     field_at(row, 0).unwrap()
 }
 
-/// The time code whose text a field is.
 pub(crate) fn time_in(field: &[u8], rate: Rate) -> Option<Timecode>
     ensures same_rate { IfSome result (λ time. rate_of time ≡ rate) }
     ensures some { IfSome result (λ time. field.now ≡ text_of time) }
@@ -59,7 +55,6 @@ pub(crate) fn time_in(field: &[u8], rate: Rate) -> Option<Timecode>
     }
 }
 
-/// What the laws of vdcp_value say of the fields' texts.
 pub(crate) fn fields_say_values()
     ensures { FieldLaws }
 {

@@ -1,5 +1,4 @@
-//! The laws of the definitions in `specs/`. What a law says is the contract of its function, whose
-//! body does nothing, or calls the laws that it stands on.
+//! Laws of the definitions in `specs/`: each function is there for its contract, which is the law.
 
 ghost use Rattle.std.specs.Prelude.{◌≡◌, ◌⊎◌, ◌++◌, ◌∷◌, [], IsTrue, List, Option, false, option_map, true, ℕ};
 ghost use Rattle.vdcp_list.specs.Asrun.{IsUnlawful, are_lawful};
@@ -16,8 +15,6 @@ ghost use Rattle.vdcp_value.specs.declared.timecode.Timecode.{Timecode};
 use crate::fields::fields_say_values;
 use vdcp_value::laws::an_id_is_its_bytes;
 
-/// The rows that were read of a file are its first, in order: none before the first read, one more
-/// with each row that is taken, and all of them if none is left.
 #[tactic(auto, using(crate::proofs::Steps::front_all, crate::proofs::Steps::front_begins, crate::proofs::Steps::front_first, crate::proofs::Steps::front_next))]
 pub fn rows_are_read_in_order()
     ensures none { (all : Option (List FileRow)) → IsFront all all [] }
@@ -30,8 +27,7 @@ pub fn rows_are_read_in_order()
         (λ rows. (more : List FileRow) × (rows ≡ front ++ more)) }
 {}
 
-/// What is read of a playlist at a rate can be written at it: each part is lawful, so no event is one
-/// that `write_asrun` refuses.
+/// No event of a playlist that was read at a rate is one that `write_asrun` refuses at it.
 pub fn what_is_read_can_be_written()
     ensures lawful { (rate : Rate) (rows : List FileRow) (items : List Item) → IsPlaylist rate rows items
         → IsTrue (are_lawful rate items) }
@@ -39,8 +35,7 @@ pub fn what_is_read_can_be_written()
         (reported k : ℕ) → ¬ IsUnlawful rate items reported k }
 {}
 
-/// Rows have one reading: they are a playlist of one list of items, or have one fault, and not both.
-/// Of the reader and of memory rows say nothing.
+/// Rows are a playlist of one list or have one fault. They don't say whether the reader or memory fails.
 pub fn rows_have_one_reading()
     ensures one_of_both { (rate : Rate) (rows : List FileRow) → ((items : List Item) × IsPlaylist rate rows items)
         ⊎ ((fault : ListFault) × IsPlaylistFault rate rows fault × ¬ IsReadFault fault) }
@@ -56,8 +51,6 @@ pub fn rows_have_one_reading()
     fields_say_values();
 }
 
-/// Rows have a reading as a catalogue: of some clips, or a fault, which isn't one of the reader or of
-/// memory.
 pub fn rows_are_a_catalogue_or_have_a_fault()
     ensures { (rate : Rate) (rows : List FileRow) → ((clips : List (ClipId × Timecode)) × IsCatalogue rate rows clips)
         ⊎ ((fault : ListFault) × IsCatalogueFault rate rows fault × ¬ IsReadFault fault) }

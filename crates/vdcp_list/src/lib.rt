@@ -1,13 +1,11 @@
 //! Playlists, catalogues and as-run lists: CSV files of clips, read and written.
 //!
-//! `read_list` and `read_catalogue` read a file of at most 10,000 rows to its end and keep nothing of
-//! the reader. The `List` made of a playlist is the controller's source, and the `Table` made of
-//! a catalogue is the port's catalogue; `Slots` is a catalogue of fixed room, which takes no
-//! memory. `Rest` is a source that begins with a later event of another.
+//! `read_list` reads a playlist into a `List`, the controller's source; `read_catalogue` reads a catalogue into a
+//! `Table`, the port's clips. A file has 10,000 rows at most. `Slots` is a catalogue of fixed room, which takes no
+//! memory, and `Rest` a source that begins with a later event of another.
 //!
-//! `write_asrun` writes which events of a source were reported as aired to a writer that it is lent, and `write_events`
-//! does so for events from a later one on. `write_timed_heading` and `write_timed_events` write when each of them aired,
-//! too. `rows_in` and `next_row` read the rows of any other file of this kind, one after another.
+//! `write_asrun` writes which events aired, and `write_events` those from a later one on; `write_timed_heading` and
+//! `write_timed_events` write when, too. `rows_in` and `next_row` read any other file of this kind row by row.
 #![tactic(auto)]
 
 mod asrun;

@@ -10,7 +10,7 @@ use vdcp_auto::Source;
 use vdcp_value::Item;
 use vdcp_value::laws::the_text_of_an_id_is_short;
 
-/// A playlist: the events to play, in order, and beside them the texts of their IDs.
+/// A playlist: the events to play, in order, and the texts of their IDs.
 #[derive(Debug, Drop)]
 pub struct List {
     items: Vec<Item>,
@@ -26,7 +26,6 @@ pub struct List {
 impl List {
     ghost use Rattle.vdcp_list.specs.List.{items_of};
 
-    /// A playlist of no event.
     pub(crate) fn new(alloc: Global) -> List
         ensures { items_of result ≡ [] }
     {
@@ -37,7 +36,6 @@ impl List {
         }
     }
 
-    /// Adds an event, with the text of its ID.
     pub(crate) fn push(&mut self, item: Item, text: &[u8]) -> Result<(), AllocError>
         requires text { text.now ≡ text_of_id item.id }
         requires of_bytes { IsTrue (is_of_bytes item) }
@@ -53,7 +51,7 @@ impl List {
         Ok(())
     }
 
-    /// The texts of all IDs, one after another. All of it is looked through.
+    /// The texts of all IDs, one after another. The call goes through all of it.
     pub fn text(&self) -> &str
         ensures { result.now ≡ ids_text (items_of self.now) }
     {

@@ -16,7 +16,6 @@ use std::alloc::Global;
 use std::io::Read;
 use vdcp_value::{Item, Part, Rate, RowFault};
 
-/// The item of a playlist's row.
 fn item_in(row: &ByteRecord, columns: usize, rate: Rate, place: usize) -> Result<Item, ListFault>
     ensures row { IfOk result (λ item. item_row rate (has_parts columns) item ≡ fields_of row.now) }
     ensures can_name { IfOk result (λ item. CanName rate (has_parts columns) item.part) }
@@ -38,7 +37,6 @@ fn item_in(row: &ByteRecord, columns: usize, rate: Rate, place: usize) -> Result
     }
 }
 
-/// The part that the second and the third of three fields name.
 fn last_part(row: &ByteRecord, rate: Rate) -> Option<Option<Part>>
     requires { length (fields_of row.now) ≡ 3 }
     ensures some { IfSome result (λ part. (part_fields rate part ≡ drop 1 (fields_of row.now)) × CanName rate true part) }
@@ -48,7 +46,6 @@ fn last_part(row: &ByteRecord, rate: Rate) -> Option<Option<Part>>
     part_in(field_at(row, 1)?, field_at(row, 2)?, rate)
 }
 
-/// The part that two fields name; None, of a whole clip, if both are empty.
 fn part_in(start: &[u8], duration: &[u8], rate: Rate) -> Option<Option<Part>>
     ensures some { IfSome result (λ part. (part_fields rate part ≡ start.now ∷ duration.now ∷ [])
         × CanName rate true part) }
@@ -74,14 +71,11 @@ fn part_in(start: &[u8], duration: &[u8], rate: Rate) -> Option<Option<Part>>
     }))
 }
 
-/// Reads a playlist. A row is one field, an ID, or three: the ID, and a part's start and duration at this
-/// rate, which a whole clip leaves empty. The first row sets the number of fields. It is CSV with commas
-/// and double quotes, without a header row, and blank lines are left out.
+/// Reads a playlist: CSV with commas and double quotes, without a header row; blank lines are left out. A row is an ID,
+/// or an ID and a part's start and duration at this rate, both empty for a whole clip; the first row says which.
 ///
-/// The first row that is refused is reported as `TooMany` if 10,000 stand before it, else as
-/// `Columns`, `Id` (also if the field isn't UTF-8), or `Time`: a text that is no lawful time code,
-/// one of the two fields empty, or a duration of frame 0. `Read`: the reader failed; `Memory`: memory was
-/// refused.
+/// `TooMany`: 10,000 rows come before. `Id`: also a field that isn't UTF-8. `Time`: no lawful time code, one of the two
+/// fields is empty, or the duration is of frame 0.
 pub fn read_list<R: Read + Drop>(alloc: Global, reader: R, rate: Rate) -> Result<List, ListFault>
     ensures items { IfOk result (λ list. IsListOf rate (R.remaining reader) (items_of list)) }
     ensures refused { IfErr result (IsListFaultOf rate (R.remaining reader)) }
@@ -93,7 +87,6 @@ pub fn read_list<R: Read + Drop>(alloc: Global, reader: R, rate: Rate) -> Result
     }
 }
 
-// The list so far, and how many fields its rows have.
 #[derive(Drop)]
 struct Playlist {
     list: List,

@@ -5,7 +5,7 @@ use std::marker::Model;
 use vdcp_auto::Source;
 use vdcp_value::Item;
 
-/// A list from an event on: a source of the events that are left.
+/// The events of a list from one of them on.
 #[derive(Drop)]
 pub struct Rest<S: Source> {
     source: S,
@@ -27,7 +27,7 @@ impl<S: Source> Model for Rest<S> {
 }
 
 impl<S: Source> Rest<S> {
-    /// The events of a list from this one on, counted from 0.
+    /// The events from this one on, counted from 0.
     pub fn new(source: S, from: usize) -> Self
         requires { from ≤ length (S.items source) }
         ensures { result ≡ record {
@@ -38,14 +38,12 @@ impl<S: Source> Rest<S> {
         Rest { source, from }
     }
 
-    /// The whole list.
     pub fn whole(&self) -> &S
         ensures { result.now ≡ self.now.source }
     {
         &self.source
     }
 
-    /// The event with which it begins.
     pub fn from(&self) -> usize
         ensures from { result ≡ self.now.from }
         ensures within { result ≤ length (S.items self.now.source) }

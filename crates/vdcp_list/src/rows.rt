@@ -12,12 +12,10 @@ use std::alloc::Global;
 use std::io::Read;
 use vdcp_value::{Rate, RowFault};
 
-/// How many rows a file has at most.
 pub const MAX_ROWS: usize = 10_000;
 
-/// A reader of a file's rows: CSV with commas and double quotes, without a header row. Rows may have
-/// any number of fields, and blank lines are left out. It owns `source`, and reads nothing before the
-/// first call of `next_row`.
+/// A reader of a file's rows: CSV with commas and double quotes, without a header row. Rows may have any number of
+/// fields, and blank lines are left out. Nothing is read before the first `next_row`.
 pub fn rows_in<R: Read>(alloc: Global, source: R) -> Reader<Bounded<R>>
     ensures set { IsSet result }
     ensures rows { rows_left R.remaining result ≡ option_map rows_of (R.remaining source) }
@@ -28,11 +26,10 @@ pub fn rows_in<R: Read>(alloc: Global, source: R) -> Reader<Bounded<R>>
         .from_reader(alloc, Bounded::new(source))
 }
 
-/// Takes the next row into `row`, in place of the one that was there, and says whether there was one.
-/// Only `row` takes memory: it grows to the longest row that it held, and no row has more than 64 KiB.
+/// Takes the next row into `row`, and says whether there was one. Only `row` takes memory: it grows to its longest row.
 ///
-/// A row that has more is reported as `Long`; `Memory` if such a growth was refused, and `Read` if
-/// the source failed. After each of these, and if there was no row, the reader isn't read again.
+/// `Long`: the row has more than 64 KiB. `Memory`: a growth of `row` was refused. `Read`: the source failed. After each
+/// of these, and if there was no row, the reader isn't read again.
 pub fn next_row<R: Read>(
     reader: &mut Reader<Bounded<R>>,
     row: &mut ByteRecord,
@@ -60,16 +57,12 @@ pub(crate) trait MadeOfRows {
     ghost use Rattle.vdcp_value.specs.declared.faults.RowFault.{RowFault};
     ghost use Rattle.vdcp_value.specs.declared.rate.Rate.{Rate};
 
-    /// These rows make this, at a rate.
     ghost makes: { Rate → List FileRow → Self → Type 0 };
 
-    /// These rows make something.
     ghost make_some: { Rate → List FileRow → Type 0 };
 
-    /// The row is refused after these ones.
     ghost refuses: { Rate → List FileRow → FileRow → RowFault → Type 0 };
 
-    /// Adds what the row of this number, from 1, makes.
     fn add_row(&mut self, row: &ByteRecord, rate: Rate, place: usize) -> Result<(), ListFault>
         ensures made { (before : List FileRow) → makes rate before self.old → place ≡ length before + 1
             → OnOk result (makes rate (before ++ fields_of row.now ∷ []) self.new) }
@@ -79,7 +72,7 @@ pub(crate) trait MadeOfRows {
     ghost makes_some: { (rate : Rate) (rows : List FileRow) (made : Self) → makes rate rows made → make_some rate rows };
 }
 
-/// What a file's rows make at this rate. `none` is what no rows make.
+/// `none` is what no rows make.
 pub(crate) fn made_of<R: Read + Drop, M: MadeOfRows + Drop>(
     alloc: Global,
     source: R,
@@ -100,8 +93,7 @@ pub(crate) fn made_of<R: Read + Drop, M: MadeOfRows + Drop>(
     }
 }
 
-/// Adds the rows that are left to what was made of none. (It owns nothing, since the proof of each
-/// way out takes much longer if it does.)
+/// It owns nothing, since the proof of each way out takes much longer if it does.
 fn add_rows<R: Read, M: MadeOfRows>(
     rows: &mut Reader<Bounded<R>>,
     row: &mut ByteRecord,
@@ -127,19 +119,16 @@ fn add_rows<R: Read, M: MadeOfRows>(
     Ok(())
 }
 
-// A row that begins and ends there is longer than it may be.
 fn is_long(start: Position, end: Position) -> bool {
     end.byte().saturating_sub(start.byte()) > LONGEST_ROW as u64
 }
 
-// The row that begins there is too long. Rows are counted from 1.
 fn long_row(place: Position) -> ListFault
     ensures { IsReadFault result }
 {
     ListFault::Row((place.record() as usize).saturating_add(1), RowFault::Long)
 }
 
-// Maps a `csv` error to a `ListFault`.
 fn fault_of(error: Error) -> ListFault
     ensures { result ≡ fault_of_kind (error_kind error) }
 {

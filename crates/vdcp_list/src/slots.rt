@@ -43,7 +43,6 @@ impl<const N: usize> Model for Slots<N> {
 }
 
 impl<const N: usize> Slots<N> {
-    /// A catalogue of no clip.
     pub fn new() -> Self
         ensures { result ≡ [] }
     {
@@ -52,8 +51,7 @@ impl<const N: usize> Slots<N> {
         }
     }
 
-    /// Adds a clip. It is refused, and nothing changes, as `Twice` if one of its ID is there, and
-    /// as `Full` if `N` others are.
+    /// Adds a clip. `Twice`: one of its ID is there. `Full`: `N` others are. Then nothing changes.
     pub fn add(&mut self, id: ClipId, duration: Timecode) -> Result<(), SlotFault>
         ensures ok { OnOk result (self.new ≡ self.old ++ (id, duration) ∷ []) }
         ensures twice { (result ≡ Err Twice) ↔ IsSome (length_of self.old id) }

@@ -12,7 +12,7 @@ use vdcp_port::Catalogue;
 use vdcp_value::laws::{an_id_is_its_bytes, bytes_are_counted};
 use vdcp_value::{ClipId, Timecode};
 
-/// Clips in order, as those of a catalogue file's rows.
+/// The clips of a catalogue's rows, in their order.
 #[derive(Debug, Drop)]
 pub struct Table {
     clips: Vec<(ClipId, Timecode)>,
@@ -35,7 +35,6 @@ impl Model for Table {
 }
 
 impl Table {
-    /// A table of no clip.
     pub fn new(alloc: Global) -> Table
         ensures { result ≡ [] }
     {
@@ -45,14 +44,13 @@ impl Table {
         }
     }
 
-    /// How many clips there are.
     pub fn len(&self) -> usize
         ensures { result ≡ length self.now }
     {
         self.clips.len()
     }
 
-    /// The ID in the row of this place, counted from 0; None if there is no such row.
+    /// The ID in the row of this place, counted from 0.
     pub fn id_at(&self, place: usize) -> Option<ClipId>
         ensures { result ≡ option_map (λ clip. clip.0) (slice_get self.now place) }
     {
@@ -94,14 +92,12 @@ impl Catalogue for Table {
     }
 }
 
-/// An ID's bytes as one number.
 fn key_of(id: &ClipId) -> u64
     ensures { result ≡ key_of id.now }
 {
     u64::from_be_bytes(id.bytes())
 }
 
-/// IDs of one number are one ID.
 fn an_id_is_its_number()
     ensures { (a b : ClipId) → key_of a ≡ key_of b → a ≡ b }
 {

@@ -42,8 +42,7 @@ pub trait Timed {
         ensures { result.now ≡ end self.now };
 }
 
-/// Writes the row that goes before a timed as-run list of a source: what the columns are. They are those of `write_asrun`,
-/// and four more.
+/// Writes the heading of a timed as-run list: the columns of `write_asrun`, and four more.
 pub fn write_timed_heading<S: Source, W: Write, A: Allocator>(
     alloc: A,
     source: &S,
@@ -61,8 +60,7 @@ pub fn write_timed_heading<S: Source, W: Write, A: Allocator>(
     write_out(writer, text.as_slice())
 }
 
-/// Writes the rows that `write_events` writes of as many events from event `from` on as there are `times`, with four
-/// columns more: the event's times, and what its end was.
+/// Writes the rows of `write_events`, one for each of `times`, and in each the event's times and what its end was.
 pub fn write_timed_events<S: Source, T: Timed, W: Write, A: Allocator>(
     alloc: A,
     source: &S,
@@ -88,7 +86,7 @@ pub fn write_timed_events<S: Source, T: Timed, W: Write, A: Allocator>(
     write_out(writer, text.as_slice())
 }
 
-/// The text of what the columns are. It is written to memory, so that only want of memory can refuse it.
+/// It is written to memory, so that only want of memory can refuse it.
 fn heading_text<'a, A: Allocator>(
     alloc: &'a A,
     with_parts: bool,
@@ -101,7 +99,6 @@ fn heading_text<'a, A: Allocator>(
     text_in(rows, is_written)
 }
 
-/// The rows' text. It is written to memory, so that only want of memory can refuse it.
 fn timed_text<'a, S: Source, T: Timed, A: Allocator>(
     alloc: &'a A,
     source: &S,
@@ -130,7 +127,6 @@ fn timed_text<'a, S: Source, T: Timed, A: Allocator>(
     text_in(rows, is_written)
 }
 
-/// Writes the rows of these events, each number in place of a text, unless memory is refused.
 fn write_rows<S: Source, T: Timed, A: Allocator>(
     source: &S,
     rate: Rate,
@@ -162,7 +158,6 @@ fn write_rows<S: Source, T: Timed, A: Allocator>(
     true
 }
 
-/// Writes what the columns are.
 fn write_heading<W: Write + Drop>(rows: &mut Writer<W>, with_parts: bool) -> Result<(), Error>
     requires setup { writer_setup rows.old ≡ default_writer }
     requires ended { fields_written rows.old ≡ 0 }
@@ -188,7 +183,6 @@ fn write_heading<W: Write + Drop>(rows: &mut Writer<W>, with_parts: bool) -> Res
     rows.write_fields(&[b"number", b"id", b"played", b"known", b"ended", b"end"])
 }
 
-/// Writes the row of an event.
 fn write_event<T: Timed, W: Write + Drop>(
     rows: &mut Writer<W>,
     number: &str,

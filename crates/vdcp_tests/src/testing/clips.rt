@@ -1,7 +1,7 @@
 //! The two clips of a small catalogue.
 use vdcp_value::{ClipId, Rate, Timecode};
 
-/// CLIP0001 and CLIP0002, each of this many frames at 25 a second; `None` if a day has no more.
+/// Each has this many frames at 25 a second; `None` if a day has no more.
 pub fn two_clips(frames: u32) -> Option<[(ClipId, Timecode); 2]> {
     let length = Timecode::from_frames(Rate::F25, frames)?;
     Some([

@@ -2,23 +2,18 @@
 use super::fails::Fails;
 use std::io::{self, Read};
 
-/// A reader of bytes in memory, some of whose reads fail.
 #[derive(Drop)]
 pub struct FailingReader<'a> {
-    /// The bytes that are left.
     pub bytes: &'a [u8],
     /// How many bytes one read gives at most.
     pub piece: usize,
-    /// Which reads fail.
     pub fails: Fails,
-    /// What a failed read answers.
     pub kind: io::ErrorKind,
-    /// How many reads were made, the failed ones with them.
     pub calls: usize,
 }
 
 impl<'a> FailingReader<'a> {
-    /// A reader that gives up to seven bytes a read, and whose failed reads answer that the pipe is broken.
+    /// It gives up to seven bytes a read, and a failed read answers that the pipe is broken.
     pub fn new(bytes: &'a [u8], fails: Fails) -> FailingReader<'a> {
         FailingReader {
             bytes,

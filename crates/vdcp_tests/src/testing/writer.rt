@@ -3,21 +3,17 @@ use super::fails::Fails;
 use std::alloc::Global;
 use std::io::{self, Write};
 
-/// A writer into memory, some of whose calls fail. Calls of `write` and of `flush` are counted together.
+/// Calls of `write` and of `flush` are counted together.
 #[derive(Drop)]
 pub struct FailingWriter {
-    /// The bytes that were taken.
     pub bytes: Vec<u8>,
-    /// Which calls fail.
     pub fails: Fails,
-    /// How many calls were made, the failed ones with them.
     pub calls: usize,
-    /// How many flushes didn't fail.
     pub flushes: usize,
 }
 
 impl FailingWriter {
-    /// A writer that takes all bytes of a write, and whose failed calls answer that the pipe is broken.
+    /// It takes all bytes of a write, and a failed call answers that the pipe is broken.
     pub fn new(alloc: Global, fails: Fails) -> FailingWriter {
         FailingWriter {
             bytes: Vec::new(alloc),
