@@ -1,4 +1,4 @@
-//! When the events aired that the rows of a run report.
+//! When each event that a run's rows report aired and ended.
 ghost use Rattle.std.specs.Prelude.{◌≡◌, ◌≤◌, ◌<◌, ◌+◌, ◌^◌, ◌∷◌, ◌++◌, ◌||◌, [], List, None, OnOk, Some, length, if◌then◌else◌, slice_get, slice_set, ℕ};
 ghost use Rattle.vdcp_auto.specs.Judging.{Knows};
 ghost use Rattle.vdcp_auto.specs.Log.{hears};
@@ -22,12 +22,11 @@ use vdcp_words::{Command, Reply};
 /// When an event aired. A time that no clock gave is written as an empty field.
 #[derive(Clone, Copy, Debug, PartialEq, Eq)]
 pub struct Airing {
-    /// The PLAY that aired it went out. Of several, the last.
+    /// When its PLAY went out; of several, the last.
     pub played: Moment,
-    /// It was known to have aired.
+    /// When it was known to have aired.
     pub known: Moment,
-    /// The row in which its end was first seen: nothing played any more, or the next PLAY or a STOP went out. None if that
-    /// wasn't seen.
+    /// The row that first shows its end: nothing plays any more, or the next PLAY or a STOP goes out.
     pub ended: Option<Row>,
 }
 
@@ -65,7 +64,6 @@ impl Timed for Airing {
     }
 }
 
-/// What was seen of an end at this time, if a clock gave it.
 fn end_at<'a>(time: &[u8], note: &Note) -> &'a str
     ensures { result.now ≡ end_at time.now note.now }
 {
@@ -75,7 +73,6 @@ fn end_at<'a>(time: &[u8], note: &Note) -> &'a str
     }
 }
 
-/// What was seen of an end by what a row notes that shows it.
 fn end_shown<'a>(note: &Note) -> &'a str
     ensures { result.now ≡ end_shown note.now }
 {
@@ -88,36 +85,30 @@ fn end_shown<'a>(note: &Note) -> &'a str
     }
 }
 
-/// When the events aired that a journal reports.
 #[derive(Debug, Drop)]
 pub struct Airings {
-    /// Those of the reported events, in order.
+    /// One of each reported event, in order.
     pub airings: Vec<Airing>,
-    /// The event that may have aired besides: its PLAY went out, and nothing has settled it since; or a state announces it,
-    /// since which it may have gone out without a row.
+    /// The event that may have aired besides: its PLAY went out and nothing has settled it since, or a state announces its
+    /// PLAY, which may have gone out without a row.
     pub unsettled: Option<usize>,
 }
 
-/// When the events aired that a run reports, by its rows so far.
+/// Finds when the events of a run aired, from its rows one by one.
 ///
-/// - `add` takes the row that comes next.
-/// - `unsettled` only looks, and `finish` gives all that is found.
-///
-/// What a clause says of rows holds of whichever were added, from the first on.
+/// What a clause says of rows holds of all that were added since `new`.
 #[derive(Drop)]
 pub struct AiringsSoFar<S: Source> {
     judge: Judge<S>,
-    // The command that is open.
     asked: Option<Command>,
-    // The rows end with what announces a PLAY.
+    // Whether the last rows announce a PLAY.
     announced: bool,
-    // When the last PLAY went out.
     played: Option<Moment>,
     airings: Vec<Airing>,
 }
 
 impl<S: Source + Drop> AiringsSoFar<S> {
-    /// Of no rows yet, in this mode. Of which list they are doesn't matter: the log alone says what aired.
+    /// Begins with no rows. Any list will do as `source`: what aired is seen in the log alone.
     pub fn new(alloc: Global, source: S, mode: Mode) -> Self
         ensures { FoundSoFar S.items mode [] result }
     {
@@ -130,7 +121,7 @@ impl<S: Source + Drop> AiringsSoFar<S> {
         }
     }
 
-    /// Takes the row that comes next, after fewer than 2^64 - 1. If memory is refused it is of no more use.
+    /// Takes the next row, after fewer than 2^64 - 1. If memory is refused it is of no more use.
     pub fn add(&mut self, row: &Row) -> Result<(), AllocError>
         ensures { (mode : Mode) (rows : List Row) → FoundSoFar S.items mode rows self.old → length rows + 1 < 2 ^ 64 →
             OnOk result (FoundSoFar S.items mode (rows ++ row.now ∷ []) self.new) }
@@ -145,7 +136,6 @@ impl<S: Source + Drop> AiringsSoFar<S> {
         Ok(())
     }
 
-    /// The event that may have aired besides those that the rows show to be aired.
     #[tactic(auto, using(crate::proofs::AiringSteps::unsettled_is))]
     pub fn unsettled(&self) -> Option<usize>
         ensures { (mode : Mode) (rows : List Row) → FoundSoFar S.items mode rows self.now →
@@ -155,7 +145,6 @@ impl<S: Source + Drop> AiringsSoFar<S> {
         unsettled_event(&self.judge, self.asked, self.announced)
     }
 
-    /// When the events aired that the rows report, and which may have aired besides.
     pub fn finish(self) -> Airings
         ensures { (mode : Mode) (rows : List Row) → FoundSoFar S.items mode rows self →
             AreAirings mode rows result.airings.items result.unsettled }
@@ -166,7 +155,6 @@ impl<S: Source + Drop> AiringsSoFar<S> {
     }
 }
 
-/// Gives a judge the exchange that a note ends, if it ends one, and notes which command is open.
 fn follow<S: Source>(judge: &mut Judge<S>, asked: &mut Option<Command>, note: &Note)
     ensures mode { judge.new.mode ≡ judge.old.mode }
     ensures asked { asked.new ≡ open_after asked.old note.now }
@@ -181,7 +169,6 @@ fn follow<S: Source>(judge: &mut Judge<S>, asked: &mut Option<Command>, note: &N
     }
 }
 
-/// Gives a judge the exchange of the command that is open, if one is, with what ended it.
 fn end<S: Source>(judge: &mut Judge<S>, asked: &mut Option<Command>, heard: Option<Heard>)
     ensures mode { judge.new.mode ≡ judge.old.mode }
     ensures asked { asked.new ≡ None }
@@ -194,7 +181,7 @@ fn end<S: Source>(judge: &mut Judge<S>, asked: &mut Option<Command>, heard: Opti
     *asked = None;
 }
 
-/// Adds an airing if more events are settled than have one, which then this row settles.
+// If more events are settled than have an airing, this row has settled one.
 fn add_airing(
     airings: &mut Vec<Airing>,
     settled: usize,
@@ -220,7 +207,6 @@ fn add_airing(
     Ok(())
 }
 
-/// Notes the end of the last airing, if a row shows it and none before did.
 fn note_end(airings: &mut Vec<Airing>, row: &Row)
     ensures last { (k : ℕ) (last : Airing) → length airings.old.items ≡ k + 1 → slice_get airings.old.items k ≡ Some last →
         airings.new.items ≡ slice_set airings.old.items k (ended_by row.now last) }
@@ -231,7 +217,6 @@ fn note_end(airings: &mut Vec<Airing>, row: &Row)
     }
 }
 
-/// An airing after one more row.
 fn ended_by(airing: Airing, row: &Row) -> Airing
     ensures { result ≡ ended_by row.now airing }
 {
@@ -244,7 +229,6 @@ fn ended_by(airing: Airing, row: &Row) -> Airing
     }
 }
 
-/// Whether a note shows that what was on air is there no more.
 fn shows_end(note: &Note) -> bool
     ensures { result ≡ shows_end note.now }
 {
@@ -255,7 +239,6 @@ fn shows_end(note: &Note) -> bool
     }
 }
 
-/// When the last PLAY went out, this row included.
 fn last_play(before: Option<Moment>, row: &Row) -> Option<Moment>
     ensures { result ≡ (if is_play_row row.now then Some row.now.time else before) }
 {
@@ -265,7 +248,7 @@ fn last_play(before: Option<Moment>, row: &Row) -> Option<Moment>
     }
 }
 
-/// Whether the rows announce a PLAY after this note, `before` saying whether they did without it.
+// `before` says whether the rows before this one announce a PLAY.
 fn announces_after(before: bool, note: &Note) -> bool
     ensures { result ≡ announces_after before note.now }
 {
@@ -276,7 +259,6 @@ fn announces_after(before: bool, note: &Note) -> bool
     }
 }
 
-/// Whether a state with the cue done is heard.
 fn hears_done(heard: &Heard) -> bool
     ensures { result ≡ hears is_done (Some heard.now) }
 {
@@ -286,7 +268,6 @@ fn hears_done(heard: &Heard) -> bool
     }
 }
 
-/// Whether a state with a clip playing is heard.
 fn hears_playing(heard: &Heard) -> bool
     ensures { result ≡ hears is_playing (Some heard.now) }
 {
@@ -296,7 +277,6 @@ fn hears_playing(heard: &Heard) -> bool
     }
 }
 
-/// Whether a state with no clip playing is heard.
 fn hears_idle(heard: &Heard) -> bool
     ensures { result ≡ hears (has_off 4) (Some heard.now) }
 {
@@ -306,7 +286,6 @@ fn hears_idle(heard: &Heard) -> bool
     }
 }
 
-/// The first event that isn't settled, if its PLAY is open or was sent, or is announced.
 fn unsettled_event<S: Source>(
     judge: &Judge<S>,
     asked: Option<Command>,
@@ -322,7 +301,6 @@ fn unsettled_event<S: Source>(
     }
 }
 
-/// Whether a PLAY is open.
 fn asks_play(asked: Option<Command>) -> bool
     ensures { result ≡ asks_play asked }
 {

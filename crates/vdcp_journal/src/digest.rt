@@ -10,8 +10,8 @@ use vdcp_auto::Source;
 use vdcp_list::{WriteFault, write_asrun};
 use vdcp_value::Rate;
 
-/// The SHA-256 digest of a list: of its as-run list if all of it has aired, as `sha256sum` gives it of that file.
-/// `Time` if a part isn't lawful at the rate, and `Memory`.
+/// The SHA-256 digest of a list's as-run list once all of it has aired, as `sha256sum` gives it of that file. The fault is
+/// `Time` if a part isn't lawful at the rate, or `Memory`.
 pub fn digest_of<A: Allocator, S: Source>(
     alloc: A,
     source: &S,

@@ -1,4 +1,4 @@
-//! The fields of a note.
+//! The fields in which a journal writes a note.
 ghost use Rattle.std.specs.Option.{option_copied};
 ghost use Rattle.std.specs.Prelude.{◌≡◌, ◌≤◌, [], ◌∷◌, IfSome, decimal, length};
 ghost use Rattle.hex.specs.Hex.{encode_lower};
@@ -10,19 +10,17 @@ use std::str;
 use vdcp_auto::{Heard, Outcome};
 use vdcp_words::LONGEST;
 
-/// The fields of a note. (Its word is borrowed as the rest is, so that they can stand in one array.)
+// `word` is borrowed as the rest is, so that all can stand in one array.
 #[derive(Drop)]
 pub(crate) struct NoteFields<'a> {
-    /// What is noted.
     pub word: &'a str,
-    /// Its text, for people; or how the controller ended; or the event that a run begins with.
+    /// It is for people; or says how the controller ended, or which event a run begins with.
     pub text: ArrayString<64>,
-    /// Its bytes on the line; or the number of an event.
+    /// It is the bytes on the line, in hexadecimal digits; or the number of an event.
     pub detail: ArrayString<64>,
 }
 
-/// The fields of a note, in a journal of the server at this unit. `bytes` are those of its command; if they
-/// are None, they are made here.
+/// `bytes` are those of the note's command to this unit; if they are None, they are made here.
 pub(crate) fn fields_of<'a>(
     unit: u8,
     note: &Note,
@@ -67,7 +65,6 @@ pub(crate) fn fields_of<'a>(
     NoteFields { word, text, detail }
 }
 
-/// Writes how a controller ended into two empty buffers.
 fn show_outcome(outcome: &Outcome, text: &mut ArrayString<64>, detail: &mut ArrayString<64>)
     requires text { text.old.bytes ≡ [] }
     requires detail { detail.old.bytes ≡ [] }
@@ -97,7 +94,6 @@ fn show_outcome(outcome: &Outcome, text: &mut ArrayString<64>, detail: &mut Arra
     }
 }
 
-/// Writes bytes, 32 at most, as lower-case hexadecimal digits into an empty buffer.
 pub(crate) fn push_hex(text: &mut ArrayString<64>, bytes: &[u8])
     requires empty { text.old.bytes ≡ [] }
     requires short { length bytes.now ≤ 32 }
@@ -109,7 +105,6 @@ pub(crate) fn push_hex(text: &mut ArrayString<64>, bytes: &[u8])
     text.push_str(str::from_utf8(digits).unwrap());
 }
 
-/// Writes a number in decimal into an empty buffer.
 pub(crate) fn push_number(text: &mut ArrayString<64>, number: usize)
     requires { text.old.bytes ≡ [] }
     ensures { text.new.bytes ≡ decimal number }

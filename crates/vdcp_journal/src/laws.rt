@@ -26,9 +26,8 @@ ghost use Rattle.vdcp_words.specs.declared.command.Command.TheVariants.{Play};
 use vdcp_auto::laws::{a_log_grows, reached_is_lawful};
 use vdcp_value::laws::an_id_has_one_text;
 
-/// If each row tells what a new controller does, the controller that goes on is one that calls lead to,
-/// and its log is the one that the rows show. So by the law of the controller the rule book allows each
-/// command of that log where it stands, and the controller's count of settled events is what the log shows.
+/// If each row tells what a new controller does, calls lead to the controller that goes on, and its log is the rows'. So
+/// the rule book allows each command of that log, and the controller counts the settled events that the log shows.
 pub fn what_is_told_is_lawful()
     ensures reached { (plan : Plan) (rows : List Row) → 1 ≤ plan.limit → plan.limit ≤ 1000 → AreTold plan start rows →
         Reached plan (timed_out plan (after_rows plan start rows)) (log_of rows) }
@@ -38,15 +37,14 @@ pub fn what_is_told_is_lawful()
     reached_is_lawful();
 }
 
-/// What a run did that was lost, or goes on, each controller with a greater limit would have done: its rows tell what that
-/// one does. So it may go on as that one.
+/// A run that was lost, or that goes on, may go on as one with a greater limit: its rows tell what that one does, too.
 pub fn a_greater_limit_tells_the_same()
     ensures { (plan : Plan) (limit : ℕ) (rows : List Row) → plan.limit ≤ limit → AreTold plan start rows →
         MayGoOn (outcome_of (after_rows plan start rows).stage) →
         AreTold (record plan { limit = limit }) start rows }
 {}
 
-/// The runs of a journal follow one another: a further row belongs to its last run, or begins another one after it.
+/// The runs of a journal follow one another: a row belongs to the last run, or begins another after it.
 pub fn runs_follow_one_another()
     ensures all { (rows : List Row) → runs_of rows ≡ ended_in rows ++ last_run rows ∷ [] }
     ensures goes_on { (rows : List Row) (row : Row) → last_run (rows ++ row ∷ [])
@@ -56,8 +54,8 @@ pub fn runs_follow_one_another()
     ensures counts { (rows : List Row) → (last_run rows).begin + length (last_run rows).rows ≡ length rows }
 {}
 
-/// The whole lines of a journal, read as CSV, are its rows. Of a journal that is cut short anywhere, as by a
-/// writer that was killed, the whole lines are a front of its rows: a torn row is left out.
+/// The whole lines of a journal, read as CSV, are its rows. Wherever it is cut, as by a writer that was killed, they are
+/// a front of its rows: a torn row is left out.
 pub fn a_cut_journal_is_a_front_of_its_rows()
     ensures whole { (time : Moment) (heading : Heading) (rows : List Row) → IsWritableHeading heading
         → AreWritable rows →
@@ -70,8 +68,8 @@ pub fn a_cut_journal_is_a_front_of_its_rows()
     an_id_has_one_text();
 }
 
-/// If rows leave out only what says nothing new, they tell what the controller does, make it what it was, and show as
-/// many events aired, and whether one more may have.
+/// Rows that leave out only what says nothing new make the same controller, and show as many events to be aired, and
+/// whether one more may have.
 pub fn a_thinned_journal_makes_the_same()
     ensures makes { (plan : Plan) (all rows : List Row) → AreThinned all rows → AreTold plan start all →
         after_rows plan start rows ≡ after_rows plan start all }
@@ -85,8 +83,8 @@ pub fn a_thinned_journal_makes_the_same()
     a_log_grows();
 }
 
-/// What is added for a PLAY that the rows announce (`mended`): if what was heard last were heard once more, after a take, PLAY
-/// would come next, unless the operator wants to stop; the cue is done by it. The state that is added lets a PLAY go out.
+/// The PLAY that `mended` adds would come next if what was heard last were heard again after a take, unless the operator
+/// wants to stop. The state that is added before lets it go out, and the cue is done.
 pub fn an_announced_play_comes_next()
     ensures { (plan : Plan) (state : State) (h free : Heard) → announced_state (Some h) state.stage ≡ Some free →
         state.stop ≡ false → (given plan (came_to plan (Some h) (taken (ticked state))) ≡ Some Play)

@@ -1,17 +1,11 @@
-//! A journal: what an automation sent and heard, and what its operator wanted, row by row in a CSV file, so
-//! that one that was killed goes on where it was.
+//! A journal: a CSV file of what an automation sent and heard and its operator wanted, row by row, so that one that was
+//! killed goes on where it was.
 //!
-//! A `Heading` says what is played, and each `Row` is a `Note` with the `Moment` at which it was made.
-//! `write_heading` and `write_row` append the text of one row to bytes in memory.
+//! `write_heading` and `write_row` append the text of a `Heading` and of a `Row`, which is a `Note` at a `Moment`.
+//! `JournalRows` reads the rows again; `WholeLines` below it leaves out a last row that was torn.
 //!
-//! `Moment::of_unix_millis` is the moment of a clock's time, and `digest_of` the digest of a list.
-//!
-//! `JournalRows` reads a journal's rows, one after another, and `WholeLines` leaves out a last one that was torn.
-//!
-//! A journal may have the rows of several runs, one after another: `begins_at` says whether a row begins another one.
-//! `RunSoFar` makes the controller of a run anew, row by row; if the run was lost it goes on under a greater limit.
-//! `AiringsSoFar` finds when each reported event aired, and which event may have aired besides.
-//! `mended` gives the notes that a killed run gets before it goes on.
+//! A journal may hold several runs; `begins_at` says where one begins. Of a run's rows `RunSoFar` makes the controller
+//! anew, `AiringsSoFar` finds when each event aired, and `mended` gives the notes that a killed run lacks.
 //!
 //! Files, in reading order: `moment`, `digest`, `row`, `fields`, `texts`, `write`, `whole`, `size`, `read`, `faults`,
 //! `replay`, `losses`, `mending`, `airings`, `runs`, `laws`.

@@ -11,9 +11,9 @@ use vdcp_auto::{Controller, Heard, Outcome, Phase, Source, Standing};
 use vdcp_words::state::{CUE_DONE, PLAYING};
 use vdcp_words::{Command, Reply};
 
-/// The notes that a killed run gets before it goes on. `controller` is the one that its rows make, `last` the journal's last
-/// note, and `heard` what was heard last. A command may have gone out without its row: it gets one, behind a row of the state
-/// that lets it go out. If the run was lost, a row says so. Fails if memory is refused.
+/// The notes that a killed run gets before it goes on: a command that may have gone out without its row, behind a state
+/// that lets it go out; and that the run was lost, if it was. `controller` is what the rows make, `last` the journal's
+/// last note, and `heard` what `heard_after` gives.
 pub fn mended<S: Source + Drop>(
     alloc: Global,
     mut controller: Controller<S>,
@@ -30,8 +30,8 @@ pub fn mended<S: Source + Drop>(
     Ok(notes)
 }
 
-// What may have been sent and heard since the last row: the next command, if it asks for the state, or is a PLAY; and,
-// if the last state announces a PLAY, that, with a state before it that lets it go out.
+// The next command may have gone out without its row if it asks for the state or is a PLAY; and a PLAY may have
+// followed if the last state announces it.
 fn unkept<S: Source>(
     alloc: Global,
     controller: &Controller<S>,
@@ -63,8 +63,7 @@ fn unkept<S: Source>(
     Ok(notes)
 }
 
-// The state that a PLAY goes out after, if the controller waits for the clip before to end, and what was heard last announces
-// the PLAY: that, but that nothing plays.
+// A state with the cue done while a clip plays announces a PLAY, which goes out after one in which nothing plays.
 fn announced<S: Source>(controller: &Controller<S>, heard: Option<Heard>) -> Option<Heard>
     ensures { result ≡ announced_state heard controller.now.state.stage }
 {
@@ -85,7 +84,6 @@ fn free_state(heard: Option<Heard>) -> Option<Heard>
     }
 }
 
-// Makes the calls of a controller that notes tell of.
 fn give_all<S: Source>(controller: &mut Controller<S>, notes: &[Note])
     ensures { controller.new ≡ record controller.old {
       state = after_notes (plan_of S.items controller.old) controller.old.state notes.now;
@@ -100,7 +98,6 @@ fn give_all<S: Source>(controller: &mut Controller<S>, notes: &[Note])
     }
 }
 
-// Whether the last row says how the controller ended, and nothing comes behind it.
 fn is_said(notes: &[Note], last: Option<Note>) -> bool
     ensures { result ≡ is_said notes.now last }
 {
@@ -110,7 +107,6 @@ fn is_said(notes: &[Note], last: Option<Note>) -> bool
     }
 }
 
-// Adds that the controller was lost, if it was once what is open times out, and that isn't said.
 fn add_loss<S: Source + Drop>(
     mut controller: Controller<S>,
     said: bool,
@@ -131,14 +127,13 @@ fn add_loss<S: Source + Drop>(
     Ok(())
 }
 
-/// Whether a journal's last row says how the controller ended.
 pub fn is_end(last: Option<Note>) -> bool
     ensures { result ≡ is_end last }
 {
     matches!(last, Some(Note::End(_)))
 }
 
-/// What ended the last exchange, after a note more, if since then at the most the state was asked.
+/// What was heard last, one note later: a question for the state keeps it, and any other note drops or replaces it.
 pub fn heard_after(before: Option<Heard>, note: &Note) -> Option<Heard>
     ensures { result ≡ heard_after before note.now }
 {

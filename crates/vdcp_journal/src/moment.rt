@@ -8,8 +8,7 @@ use jiff::Timestamp;
 use jiff::civil::DateTime;
 use jiff::tz::Offset;
 
-/// A time as a journal writes it: in UTC, as `2026-11-24T09:30:00.000Z`. Which day and hour its digits
-/// name isn't tested.
+/// A time in UTC as a journal writes it: `2026-11-24T09:30:00.000Z`. Its digits need not name a day and hour that exist.
 #[derive(Clone, Copy, Debug, PartialEq, Eq)]
 pub struct Moment {
     text: [u8; 24],
@@ -21,7 +20,6 @@ impl Moment {
     ghost use Rattle.vdcp_journal.specs.declared.moment.Moment.{Moment};
     ghost use Rattle.vdcp_journal.specs.Times.{clocked_text, moment_text, no_clock};
 
-    /// The moment of this text. None if the text isn't of that form.
     pub fn parse(text: &[u8]) -> Option<Moment>
         ensures read { IfSome result (λ moment. moment_text moment ≡ text.now) }
         ensures none { IfNone result (IsFalse (is_moment text.now)) }
@@ -35,7 +33,7 @@ impl Moment {
         Some(Moment { text: copy })
     }
 
-    /// This many milliseconds after 1970 began, in UTC. A time after 9999-12-30T22:00:00Z counts as that.
+    /// This many milliseconds after 1970 began, in UTC; at the most 9999-12-30T22:00:00Z.
     pub fn of_unix_millis(millis: u64) -> Moment
         ensures shown { (time : DateTime) × (moment_text result ≡ clock_text time)
             × (civil_nanos time ≡ pos (min millis last_millis * 1_000_000)) }
@@ -45,14 +43,12 @@ impl Moment {
         }
     }
 
-    /// The time of a row that no clock gave.
     pub fn unclocked() -> Moment
         ensures { moment_text result ≡ no_clock }
     {
         Moment { text: *NO_CLOCK }
     }
 
-    /// Its text.
     pub fn as_bytes(&self) -> &[u8]
         ensures { result.now ≡ moment_text self.now }
     {
@@ -70,16 +66,15 @@ impl Moment {
     }
 }
 
-/// The form of a moment's text: 0 stands for any digit.
+// 0 stands for any digit.
 const FORM: &[u8; 24] = b"0000-00-00T00:00:00.000Z";
 
-/// The time of a row that no clock gave: a clock that fails shows it, too.
+// A clock that fails shows this, too.
 const NO_CLOCK: &[u8; 24] = b"1970-01-01T00:00:00.000Z";
 
-/// The latest time that is shown, in milliseconds after 1970 began: a later one counts as it.
+// In milliseconds after 1970 began.
 const LAST: u64 = 253_402_207_200_000;
 
-/// What a clock in UTC shows this many milliseconds after 1970 began.
 fn shown_at(millis: u64) -> DateTime
     ensures { civil_nanos result ≡ pos (min millis last_millis * 1_000_000) }
 {
@@ -87,7 +82,6 @@ fn shown_at(millis: u64) -> DateTime
     Offset::UTC.to_datetime(timestamp)
 }
 
-/// What a clock shows, as a moment's text.
 fn text_of(time: DateTime) -> [u8; 24]
     ensures text { result ≡ clock_text time }
     ensures formed { IsTrue (is_moment result) }
@@ -127,14 +121,12 @@ fn text_of(time: DateTime) -> [u8; 24]
     ]
 }
 
-/// The last digit of a number.
 fn digit(number: u16) -> u8
     ensures { result ≡ digit number }
 {
     b'0' + (number % 10) as u8
 }
 
-/// Whether a text is a moment's.
 fn is_moment(text: &[u8]) -> bool
     ensures { result ≡ is_moment text.now }
 {

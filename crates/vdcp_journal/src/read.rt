@@ -22,7 +22,6 @@ use vdcp_auto::Mode;
 use vdcp_list::laws::rows_are_read_in_order;
 use vdcp_list::{Bounded, ListFault, next_row, rows_in};
 
-/// Whether these are a note's fields.
 fn is_written(unit: u8, note: &Note, word: &[u8], text: &[u8], detail: &[u8]) -> bool
     requires { unit ≤ 15 }
     ensures { IsTrue result ↔ (note_fields unit note.now ≡ word.now ∷ text.now ∷ detail.now ∷ []) }
@@ -33,7 +32,6 @@ fn is_written(unit: u8, note: &Note, word: &[u8], text: &[u8], detail: &[u8]) ->
         && fields.detail.as_bytes() == detail
 }
 
-/// What is wrong with a row of this word that isn't a note's.
 fn fault_of(word: &[u8]) -> JournalRowFault
     ensures { IsFaultOfWord word.now result }
 {
@@ -47,7 +45,6 @@ fn fault_of(word: &[u8]) -> JournalRowFault
     }
 }
 
-/// The row whose fields these four are.
 fn row_of(
     unit: u8,
     time: &[u8],
@@ -71,7 +68,6 @@ fn row_of(
     Ok(Row { time, note })
 }
 
-/// The number that a field names, up to a greatest one.
 fn number_up_to(text: &[u8], most: usize) -> Option<usize>
     ensures some { IfSome result (λ number. (decimal number ≡ text.now) × (number ≤ most)) }
     ensures none { IfNone result ((number : ℕ) → number ≤ most → decimal number ≢ text.now) }
@@ -85,7 +81,6 @@ fn number_up_to(text: &[u8], most: usize) -> Option<usize>
     Some(number)
 }
 
-/// The mode that a field names.
 fn mode_in(text: &[u8]) -> Option<Mode>
     ensures some { IfSome result (λ mode. mode_text mode ≡ text.now) }
     ensures none { IfNone result ((mode : Mode) → mode_text mode ≢ text.now) }
@@ -97,7 +92,6 @@ fn mode_in(text: &[u8]) -> Option<Mode>
     }
 }
 
-/// The heading whose fields these seven are, and its time.
 fn heading_of(
     time: &[u8],
     word: &[u8],
@@ -143,7 +137,6 @@ fn heading_of(
     Ok((time, heading))
 }
 
-/// The field at a place of a row.
 fn field_at(row: &ByteRecord, place: usize) -> &[u8]
     requires { place < length (fields_of row.now) }
     ensures { slice_get (fields_of row.now) place ≡ Some result.now }
@@ -151,7 +144,6 @@ fn field_at(row: &ByteRecord, place: usize) -> &[u8]
     row.get(place).unwrap()
 }
 
-/// The heading that a row is, and its time.
 fn heading_in(row: &ByteRecord) -> Result<(Moment, Heading), JournalRowFault>
     ensures heading { IfOk result (λ read. IsHeading (fields_of row.now) read.0 read.1) }
     ensures fault { IfErr result (IsHeadingFault (fields_of row.now)) }
@@ -170,7 +162,6 @@ fn heading_in(row: &ByteRecord) -> Result<(Moment, Heading), JournalRowFault>
     )
 }
 
-/// The row of a journal that a row of a file is.
 fn row_in(row: &ByteRecord, unit: u8) -> Result<Row, JournalRowFault>
     requires { unit ≤ 15 }
     ensures row { IfOk result (IsRow unit (fields_of row.now)) }
@@ -199,12 +190,11 @@ fn fault_in(fault: ListFault) -> JournalReadFault
     }
 }
 
-/// The rows of a journal, read one after another.
+/// Reads a journal's rows, one after another.
 #[derive(Drop)]
 pub struct JournalRows<R> {
     /// When the journal was begun.
     pub time: Moment,
-    /// Which list it is of, and how that is played.
     pub heading: Heading,
     lines: Reader<Bounded<R>>,
     line: ByteRecord,
@@ -213,11 +203,9 @@ pub struct JournalRows<R> {
 }
 
 impl<R: Read + Drop> JournalRows<R> {
-    /// Reads the heading of the journal that a reader gives, as CSV. It is to give whole rows: `WholeLines` leaves out one
-    /// that is torn.
+    /// Reads the heading. The reader has to give whole rows, as `WholeLines` does: a torn one isn't left out here.
     ///
-    /// The fault is `Empty` if there is no row, `Heading` if the first one is no heading, and `Long`, `Memory` or
-    /// `Device` if it can't be read.
+    /// The fault is `Empty` if there is no row, `Heading` if the first is none, `Long`, `Memory` or `Device`.
     pub fn begin(alloc: Global, reader: R) -> Result<JournalRows<R>, JournalReadFault>
         ensures begun { IfOk result (λ journal. TookRows R.remaining (R.remaining reader) journal []) }
         ensures refused { IfErr result (IsJournalFault (R.remaining reader)) }
@@ -242,8 +230,8 @@ impl<R: Read + Drop> JournalRows<R> {
         }
     }
 
-    /// The next row, or None at the end. The fault is `Row` if it isn't the row of a journal of this heading, and
-    /// `Long`, `Memory` or `Device` if it can't be read. After the end and after a fault no row can be asked for.
+    /// The next row, or None at the end. The fault is `Row` if no journal of this heading has such a row, `Long`, `Memory`
+    /// or `Device`. After the end and after a fault nothing more can be asked for.
     pub fn next_row(&mut self) -> Result<Option<Row>, JournalReadFault>
         requires { IsReading self.old }
         ensures reading { IfOk result (λ found. OnSome found (IsReading self.new)) }

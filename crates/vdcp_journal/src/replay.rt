@@ -1,4 +1,4 @@
-//! How a controller is made anew from the rows of a run, one after another.
+//! The controller that the rows of a run make.
 ghost use Rattle.std.specs.Borrow.{Bor};
 ghost use Rattle.std.specs.Prelude.{List, ◌≡◌, ◌≤◌, ◌↔◌, ◌+◌, ◌∷◌, ◌++◌, [], IfErr, IsFalse, IsTrue, OnErr, OnOk, Some, None, if◌then◌else◌, Option, Bool, length};
 ghost use Rattle.vdcp_auto.specs.Log.{is_answered, is_play};
@@ -19,27 +19,25 @@ use vdcp_list::Rest;
 use vdcp_value::laws::an_id_is_its_bytes;
 use vdcp_words::Command;
 
-/// A controller that goes on from a journal.
 #[derive(Drop)]
 pub struct Resumed<S: Source> {
     pub controller: Controller<S>,
-    /// The command whose exchange was open, and is timed out now. The journal is to say so, by `Silence`,
-    /// before the next command.
+    /// The command whose exchange was open and is timed out now. The journal has to say so, by `Silence`, before the next
+    /// command goes out.
     pub open: Option<Command>,
-    /// The controller before that.
+    /// The controller before that exchange was timed out.
     pub stood: Snapshot,
 }
 
-/// A run of a list that is made anew from its rows, one after another. Each time that it was lost its limit grows by the one
-/// that it was begun with, up to 1,000.
+/// Makes the controller of a run anew, from its rows one by one. Each time that the run was lost, its limit grows by
+/// the one that it began with, up to 1,000.
 #[derive(Drop)]
 pub struct RunSoFar<'s, S: Source> {
     controller: Controller<Rest<&'s S>>,
-    // The controller before the last row that tells of a call, and that row's note: under a greater limit it goes on from
-    // there.
+    // The controller before the last call and the note of that: from there it goes on under a greater limit.
     before: Snapshot,
     last: Option<Note>,
-    // The limit that the run was begun with, and how often it was lost: 1,000 times is as good as more.
+    // The limit at the beginning, and how often the run was lost: more than 1,000 times change nothing.
     limit: u32,
     lost: u32,
 }
@@ -58,7 +56,7 @@ impl<'s, S: Source> Model for RunSoFar<'s, S> {
 }
 
 impl<'s, S: Source> RunSoFar<'s, S> {
-    /// A run that begins with this event of a list, for the port of this number, with a limit of 1 to 1,000.
+    /// Begins with event `from` of the list. The limit is 1 to 1,000.
     pub fn new(source: &'s S, from: usize, mode: Mode, port: u8, limit: u32) -> Self
         requires from { from ≤ length (S.items source.now) }
         requires some { 1 ≤ limit }
@@ -77,9 +75,8 @@ impl<'s, S: Source> RunSoFar<'s, S> {
         }
     }
 
-    /// Takes the next row, if the controller does there what it notes. The fault is `Command` if it sends another
-    /// command or none, `Unawaited` if it awaits nothing or not that, and `Outcome` if it hasn't ended so; then the run
-    /// is of no more use.
+    /// Takes the next row, if the controller does there what it notes. The fault is `Command` if it sends another command
+    /// or none, `Unawaited` if it doesn't await that, and `Outcome` if it hasn't ended so; then the run is of no more use.
     pub fn follow(&mut self, row: &Row) -> Result<(), ResumeFault>
         ensures stands { (plan : Plan) (source : FromEvent (Bor S)) (rows : List Row)
             → IsMadeBy (items_left (λ s. S.items s.now)) plan source rows self.old
@@ -100,7 +97,7 @@ impl<'s, S: Source> RunSoFar<'s, S> {
         Ok(())
     }
 
-    // Gives the controller what a note tells of, which is no loss. False if it doesn't do that there.
+    // The note isn't that of a loss.
     fn call_as_noted(&mut self, note: &Note) -> bool
         ensures told { IsTrue result → Tells (plan_of (items_left (λ s. S.items s.now)) self.old.controller)
             self.old.controller.state note.now }
@@ -119,7 +116,6 @@ impl<'s, S: Source> RunSoFar<'s, S> {
         true
     }
 
-    // Puts the run under its next limit if it was lost, and says whether it was.
     fn raise_if_lost(&mut self) -> bool
         ensures lost { IsTrue result ↔ (outcome_of self.old.controller.state.stage ≡ Some outcomes.Lost) }
         ensures raised { IsTrue result → IsRaised (items_left (λ s. S.items s.now)) self.old self.new }
@@ -135,8 +131,7 @@ impl<'s, S: Source> RunSoFar<'s, S> {
         true
     }
 
-    /// The controller that goes on, once the exchange that is open is timed out, if one is. If the rows have an end, it has
-    /// that outcome.
+    /// Times out the exchange that is open, if one is, and gives the controller that goes on.
     pub fn resume(mut self) -> Resumed<Rest<&'s S>>
         ensures controller { result.controller ≡ record self.entry.controller {
           state = timed_out (plan_of (items_left (λ s. S.items s.now)) self.entry.controller) self.entry.controller.state;
@@ -175,7 +170,6 @@ fn new_controller<'s, S: Source>(
     }
 }
 
-// What the last call makes of the controller before it, under a limit that is no less.
 fn under_limit<'s, S: Source>(
     events: &Rest<&'s S>,
     before: &Snapshot,
@@ -195,7 +189,6 @@ fn under_limit<'s, S: Source>(
     controller
 }
 
-// Whether a note is what the controller does there. If it is, the controller has done it.
 fn goes_on<S: Source>(controller: &mut Controller<S>, note: &Note) -> bool
     ensures told { IsTrue result → Tells (plan_of S.items controller.old) controller.old.state note.now }
     ensures untold { IsFalse result → ¬ Tells (plan_of S.items controller.old) controller.old.state note.now }
@@ -228,7 +221,6 @@ fn goes_on<S: Source>(controller: &mut Controller<S>, note: &Note) -> bool
     }
 }
 
-/// Makes the call of a controller that a note tells of, if it tells of one.
 pub(crate) fn give<S: Source>(controller: &mut Controller<S>, note: &Note)
     ensures { controller.new ≡ record controller.old {
       state = after_call_if (plan_of S.items controller.old) (call_of note.now) controller.old.state;
@@ -246,7 +238,6 @@ pub(crate) fn give<S: Source>(controller: &mut Controller<S>, note: &Note)
     }
 }
 
-// The fault of a note that doesn't stand.
 fn fault_of(note: &Note) -> ResumeFault
     ensures { result ≡ fault_of note.now }
 {

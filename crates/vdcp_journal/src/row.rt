@@ -3,43 +3,36 @@ use crate::moment::Moment;
 use vdcp_auto::{Heard, Mode, Outcome};
 use vdcp_words::Command;
 
-/// What a journal is of: a journal of anything else can't go on as this one.
+/// What a journal belongs to: a run goes on only from one with an equal heading.
 #[derive(Clone, Copy, Debug, PartialEq, Eq)]
 pub struct Heading {
-    /// The SHA-256 digest of the list's events.
+    /// The SHA-256 digest of the list's events: see `digest_of`.
     pub digest: [u8; 32],
-    /// The controller's mode.
     pub mode: Mode,
-    /// The unit address of the server.
+    /// The server's unit address, 0 to 15.
     pub unit: u8,
-    /// The number of the server's port.
     pub port: u8,
-    /// How many unanswered exchanges in a row end the controller Lost.
+    /// How many unanswered exchanges in a row end the controller as Lost.
     pub limit: u32,
 }
 
-/// One thing that mattered, and when.
 #[derive(Clone, Copy, Debug, PartialEq, Eq)]
 pub struct Row {
     pub time: Moment,
     pub note: Note,
 }
 
-/// A thing that mattered.
 #[derive(Clone, Copy, Debug, PartialEq, Eq)]
 pub enum Note {
-    /// This command is going out.
     Sent(Command),
-    /// This came, and ended the exchange.
+    /// This came and ended the exchange.
     Heard(Heard),
-    /// Nothing came in time, and that ended the exchange.
+    /// Nothing came in time, which ended the exchange.
     Silence,
-    /// The operator wanted the next event though the last one still played.
+    /// The operator wanted the next event while the last one still played.
     Take,
-    /// The operator wanted to stop.
     Stop,
-    /// The controller ended.
     End(Outcome),
-    /// A new run begins here, with this event of the list, counted from 0.
+    /// A new run begins with this event of the list, counted from 0.
     From(usize),
 }

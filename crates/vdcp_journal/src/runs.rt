@@ -4,7 +4,7 @@ ghost use Rattle.vdcp_journal.specs.Runs.{begins_at};
 
 use crate::row::Note;
 
-/// The event with which a run begins after this note, counted from 0, if one does.
+/// The event, counted from 0, with which this note begins a run, if it begins one.
 pub fn begins_at(note: &Note) -> Option<usize>
     ensures { result ≡ begins_at note.now }
 {

@@ -1,4 +1,4 @@
-//! How many bytes the whole lines of a file are.
+//! The size of a file's whole lines.
 ghost use Rattle.std.specs.Prelude.{◌≡◌, IfOk, IfSome, length};
 ghost use Rattle.vdcp_journal.specs.Reading.{whole_lines};
 
@@ -6,7 +6,7 @@ use crate::whole::WholeLines;
 use std::alloc::Global;
 use std::io::{self, ErrorKind, Read};
 
-/// How many bytes the whole lines are that a reader gives. What follows them is torn.
+/// How many bytes the whole lines of a reader have; what follows them is torn.
 pub fn size_of_lines<R: Read + Drop>(alloc: Global, reader: R) -> io::Result<usize>
     ensures { IfOk result (λ size. IfSome (R.remaining reader) (λ bytes. size ≡ length (whole_lines bytes))) }
 {

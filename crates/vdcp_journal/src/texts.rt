@@ -29,7 +29,7 @@ use vdcp_words::laws::{
 };
 use vdcp_words::{Command, Reply};
 
-/// The number whose decimal text this is, with no zero before it.
+// No zero may stand before it.
 pub(crate) fn number_in(text: &[u8]) -> Option<usize>
     ensures some { IfSome result (λ number. decimal number ≡ text.now) }
     ensures found { (number : ℕ) → number < 2 ^ 64 → decimal number ≡ text.now → result ≡ Some number }
@@ -47,7 +47,6 @@ pub(crate) fn number_in(text: &[u8]) -> Option<usize>
     Some(number)
 }
 
-/// The digits of 32 bytes.
 fn digits_of(digest: &[u8; 32]) -> ArrayString<64>
     ensures digits { result.bytes ≡ encode_lower digest.now }
     ensures bytes { AreBytes 32 digest.now }
@@ -58,7 +57,6 @@ fn digits_of(digest: &[u8; 32]) -> ArrayString<64>
     digits
 }
 
-/// The 32 bytes that lower-case hexadecimal digits name.
 pub(crate) fn digest_in(text: &[u8]) -> Option<[u8; 32]>
     ensures some { IfSome result (λ digest. encode_lower digest ≡ text.now) }
     ensures bytes { IfSome result (AreBytes 32) }
@@ -75,10 +73,8 @@ pub(crate) fn digest_in(text: &[u8]) -> Option<[u8; 32]>
     Some(digest)
 }
 
-/// Most bytes of a message.
 const LONGEST: usize = 258;
 
-/// The bytes that hexadecimal digits name, 258 at most.
 fn bytes_in<'a>(digits: &[u8], room: &'a mut [u8; 258]) -> Option<&'a [u8]>
     ensures { (bytes : List ℕ) → All (λ byte. byte < 256) bytes → length bytes ≤ 258 → encode_lower bytes ≡ digits.now →
         option_copied result ≡ Some bytes }
@@ -94,7 +90,6 @@ fn bytes_in<'a>(digits: &[u8], room: &'a mut [u8; 258]) -> Option<&'a [u8]>
     Some(bytes)
 }
 
-/// The message that hexadecimal digits name.
 fn message_in<'a>(digits: &[u8], room: &'a mut [u8; 258]) -> Option<Message<'a>>
     ensures { (message : Content) → Fits message → encode_lower (spelling message) ≡ digits.now →
         option_map content_of result ≡ Some message }
@@ -112,7 +107,6 @@ fn message_in<'a>(digits: &[u8], room: &'a mut [u8; 258]) -> Option<Message<'a>>
     }
 }
 
-/// The command whose bytes these digits name.
 fn command_in(unit: u8, digits: &[u8]) -> Option<Command>
     requires { unit ≤ 15 }
     ensures writable { IfSome result IsWritableCommand }
@@ -128,7 +122,6 @@ fn command_in(unit: u8, digits: &[u8]) -> Option<Command>
     }
 }
 
-/// The reply whose bytes these digits name.
 fn reply_in(unit: u8, digits: &[u8]) -> Option<Reply>
     requires { unit ≤ 15 }
     ensures writable { IfSome result IsWritableReply }
@@ -144,7 +137,6 @@ fn reply_in(unit: u8, digits: &[u8]) -> Option<Reply>
     }
 }
 
-/// What came, as these two fields name it.
 fn heard_in(unit: u8, text: &[u8], digits: &[u8]) -> Option<Heard>
     requires { unit ≤ 15 }
     ensures writable { IfSome result (λ heard. IsWritableNote (note.Heard heard)) }
@@ -157,7 +149,6 @@ fn heard_in(unit: u8, text: &[u8], digits: &[u8]) -> Option<Heard>
     reply_in(unit, digits).map(Heard::Reply)
 }
 
-/// The end that these two fields name.
 fn outcome_in(text: &[u8], detail: &[u8]) -> Option<Outcome>
     ensures writable { IfSome result IsWritableOutcome }
     ensures found { (outcome : Outcome) → IsWritableOutcome outcome
@@ -177,7 +168,7 @@ fn outcome_in(text: &[u8], detail: &[u8]) -> Option<Outcome>
     }
 }
 
-/// The note that these fields name, if they name one. Whether they are its fields isn't tested.
+/// If no note has these fields it may give any note: the caller compares.
 pub(crate) fn note_in(unit: u8, word: &[u8], text: &[u8], detail: &[u8]) -> Option<Note>
     requires { unit ≤ 15 }
     ensures writable { IfSome result IsWritableNote }

@@ -6,23 +6,22 @@ ghost use Rattle.std.specs.Prelude.{◌≡◌, ◌<◌, ◌≤◌, ◌+◌, ◌-
 use std::alloc::{AllocError, Global};
 use std::io::{self, ErrorKind, Read};
 
-/// How many bytes a line has at most, with its line feed.
+// With its line feed.
 const LONGEST_LINE: usize = 65_537;
 
-/// A reader of the whole lines that another one gives. What follows the last line feed isn't given, as of a row that
-/// was torn when its writer was killed.
+/// Gives the whole lines of another reader. What follows the last line feed is left out, as of a row that was torn when its
+/// writer was killed.
 ///
-/// It holds no more than 64 KiB and a line feed. At a line that is longer, also a torn one, each read fails (`FileTooLarge`). After a
-/// read that failed otherwise it goes on where it was.
+/// It holds 64 KiB and a line feed at the most: at a longer line, also a torn one, each read fails as `FileTooLarge`. After
+/// another failure it goes on where it was.
 #[derive(Drop)]
 pub struct WholeLines<R> {
     reader: R,
-    // What was read, up to `filled`: lines up to `whole`, of which those up to `given` were given, and what follows them.
+    // Bytes were read up to `filled`; those up to `whole` are lines, of which those up to `given` were given.
     held: Vec<u8>,
     given: usize,
     whole: usize,
     filled: usize,
-    // How many lines were found.
     number: usize,
     ghost given_within: { given ≤ whole },
     ghost whole_within: { whole ≤ filled },
@@ -32,7 +31,7 @@ pub struct WholeLines<R> {
 impl<R: Read> WholeLines<R> {
     ghost use Rattle.vdcp_journal.specs.Reading.{begun_held, line_held, lines_left, whole_lines};
 
-    /// The whole lines that this reader gives. It reads nothing before the first read, and takes no memory after.
+    /// Takes all its memory here, and reads nothing yet.
     pub fn new(alloc: Global, reader: R) -> Result<WholeLines<R>, AllocError>
     where
         R: Drop,
@@ -50,7 +49,7 @@ impl<R: Read> WholeLines<R> {
         })
     }
 
-    /// The number, from 1, of the line that is too long, if each read fails at one.
+    /// The number, counted from 1, of the line at which each read fails, if there is one.
     pub fn long_line(&self) -> Option<usize> {
         if self.whole == 0 && self.filled == self.held.len() {
             return Some(self.number.saturating_add(1));
@@ -58,7 +57,7 @@ impl<R: Read> WholeLines<R> {
         None
     }
 
-    // Finds the next line, if there is one, once each that was found was given.
+    // Finds the next line once all that were found are given.
     fn find_line(&mut self) -> io::Result<()>
         ensures kept { Keeps (lines_left R.remaining self.old) (lines_left R.remaining self.new) }
         ensures none { OnOk result (self.new.given ≡ self.new.whole → IsAtEnd (lines_left R.remaining self.new)) }
@@ -81,7 +80,6 @@ impl<R: Read> WholeLines<R> {
         }
     }
 
-    // Where the next line feed stands, of what follows the lines that were found.
     fn line_feed(&self) -> Option<usize>
         ensures { result ≡ position (λ byte. byte == 10) (begun_held self.now) }
     {
@@ -89,7 +87,6 @@ impl<R: Read> WholeLines<R> {
         begun.iter().position(|byte| *byte == b'\n')
     }
 
-    // A line of this size is found.
     fn add_line(&mut self, size: usize)
         requires given { self.old.given ≡ self.old.whole }
         requires within { size ≤ length (begun_held self.old) }
@@ -102,7 +99,6 @@ impl<R: Read> WholeLines<R> {
         self.number = self.number.saturating_add(1);
     }
 
-    // Reads what follows, in place of what was given, and says how many bytes came.
     fn read_on(&mut self) -> io::Result<usize>
         requires { self.old.given ≡ self.old.whole }
         ensures given { self.new.given ≡ self.new.whole }
@@ -126,7 +122,6 @@ impl<R: Read> WholeLines<R> {
         Ok(count)
     }
 
-    // Moves what follows the lines that were found to the front.
     fn make_room(&mut self)
         ensures given { self.new.given ≡ 0 }
         ensures whole { self.new.whole ≡ 0 }

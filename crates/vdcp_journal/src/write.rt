@@ -13,7 +13,7 @@ use std::alloc::{AllocError, Allocator};
 use vdcp_auto::Mode;
 use vdcp_words::LONGEST;
 
-/// Appends the text of a journal's first row. If memory is refused, nothing is appended.
+/// Appends a journal's first row, or nothing if memory is refused.
 pub fn write_heading<A: Allocator>(
     alloc: A,
     time: &Moment,
@@ -56,8 +56,8 @@ fn mode_text<'a>(mode: Mode) -> &'a str
     }
 }
 
-/// Appends a row's text, of a journal of the server at this unit, 0 to 15. `bytes` are those of the row's command to this
-/// unit; if they are None, they are made here. If memory is refused, nothing is appended.
+/// Appends a row, or nothing if memory is refused. `bytes` are those of the row's command to this unit; if they are None,
+/// they are made here.
 pub fn write_row<A: Allocator>(
     alloc: A,
     unit: u8,
@@ -95,7 +95,7 @@ fn write_fields<A: Allocator>(
     text.extend_from_slice(row.as_slice())
 }
 
-/// The text of a row. It is written to memory, so that only want of memory can refuse it.
+// It is written to memory, so only want of memory can refuse it.
 fn text_of<A: Allocator>(alloc: A, fields: &[&[u8]]) -> Result<Vec<u8, A>, AllocError>
     ensures { IfOk result (λ text. text.items ≡ fields_text (map (λ f. f.now) fields.now)) }
 {

@@ -25,11 +25,12 @@ use vdcp_journal::Heading;
 use vdcp_list::Rest;
 use vdcp_text::Failure;
 
-/// Begins a new controller after the last run of the journal of this name, if it is one of what is wanted: at the event
-/// of this number, if the operator says one, or else at the first that the run doesn't report. The failure is
-/// `MayHaveAired` if that may have aired, and `NoEvent` if the number is above the list's length. If the operator says
-/// nothing, the end of a run that is done or stopped is told again. The row that says where the controller begins is safe
-/// then, before anything is sent. If no run begins nothing is written.
+/// Begins a new run behind the last one of the journal of this name: at event `word` if the operator says one, and else at
+/// the first that the last run doesn't report. If `word` is None and the last run is done or stopped, its end is told
+/// again instead. The row that says where the run begins is safe before anything is sent.
+///
+/// The failure is `MayHaveAired` if that first event may have aired, and `NoEvent` if `word` is above the list's length. If
+/// no run begins, no row of one is written.
 pub fn begin_again<'a, 'r, 's, R: Files<File = File> + Clock + AllocGlobal, S: Source>(
     rt: &'r R,
     name: &'a str,
@@ -54,7 +55,7 @@ pub fn begin_again<'a, 'r, 's, R: Files<File = File> + Clock + AllocGlobal, S: S
     begin_in(rt, name, wanted, source, word, file)
 }
 
-// The same in this file, which then has just the lines that were read, and the row that begins the run.
+// The file then has just the lines that were read, and the row that begins the run.
 fn begin_in<'a, 'r, 's, R: Files + Clock + AllocGlobal, S: Source, F: ReadableDisk + Drop>(
     rt: &'r R,
     name: &'a str,
@@ -84,7 +85,7 @@ fn begin_in<'a, 'r, 's, R: Files + Clock + AllocGlobal, S: Source, F: ReadableDi
         end_with(rt.alloc(), name, &mut file, &[])?;
         return go_on(rt, name, wanted.unit, file, run);
     }
-    // (nothing is written that no run begins after)
+    // (a torn last row is left as it is if no run begins)
     let event = beginning(source, word, &run)?;
     end_with(rt.alloc(), name, &mut file, &[])?;
     let mut recorder = Recorder::after(rt, name, wanted.unit, file, Pending::Nothing);
@@ -96,7 +97,6 @@ fn begin_in<'a, 'r, 's, R: Files + Clock + AllocGlobal, S: Source, F: ReadableDi
     })
 }
 
-// Whether the controller has come to its end, and the operator says nothing else.
 fn is_told_again<S: Source>(word: Option<usize>, controller: &Controller<S>) -> bool
     ensures unsaid { IsTrue result → word ≡ None }
     ensures is_over { IsTrue result → IsOver (outcome_of controller.now.state.stage) }
@@ -108,7 +108,6 @@ fn is_told_again<S: Source>(word: Option<usize>, controller: &Controller<S>) -> 
     }
 }
 
-// Whether nothing is to be sent any more.
 fn is_over<S: Source>(controller: &Controller<S>) -> bool
     ensures over { IsTrue result → IsOver (outcome_of controller.now.state.stage) }
     ensures told { IsOver (outcome_of controller.now.state.stage) → IsTrue result }
@@ -119,7 +118,6 @@ fn is_over<S: Source>(controller: &Controller<S>) -> bool
     }
 }
 
-// The event with which a controller begins after the last run of a journal.
 fn beginning<'a, S: Source>(
     source: &S,
     word: Option<usize>,
@@ -138,7 +136,6 @@ fn beginning<'a, S: Source>(
     }
 }
 
-// This number, unless it is above how many events the list has.
 fn listed<'a, S: Source>(source: &S, event: usize) -> Result<usize, Failure<'a>>
     ensures event { IfOk result (λ k. k ≡ event) }
     ensures listed { IfOk result (λ k. k ≤ length (S.items source.now)) }
@@ -150,7 +147,6 @@ fn listed<'a, S: Source>(source: &S, event: usize) -> Result<usize, Failure<'a>>
     Ok(event)
 }
 
-// The first event that the last run of a journal doesn't report, if it can't have aired.
 fn next_event<'a, S: Source>(run: &LastRun<'_, S>) -> Result<usize, Failure<'a>>
     ensures next { IfOk result (λ k. (k ≡ run.now.controller.source.from + run.now.controller.state.settled)
         × (run.now.unsettled ≡ None)) }
@@ -166,7 +162,6 @@ fn next_event<'a, S: Source>(run: &LastRun<'_, S>) -> Result<usize, Failure<'a>>
     Ok(event)
 }
 
-// The new controller of a list's events from this one on, with a journal's settings.
 fn new_controller<'s, S: Source>(
     source: &'s S,
     from: usize,

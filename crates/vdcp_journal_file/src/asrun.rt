@@ -32,23 +32,19 @@ use vdcp_list::{write_events, write_timed_events, write_timed_heading};
 use vdcp_text::{Failure, JournalFault};
 use vdcp_value::Rate;
 
-/// What is shown of a journal.
 #[derive(Clone, Copy, Debug)]
 pub struct AsrunSettings {
-    /// The rate of the list's time codes.
     pub rate: Rate,
-    /// The list says of each event when it aired.
+    /// Whether the list says of each event when it aired.
     pub times: bool,
 }
 
-/// Prints the as-run list that a journal of this list shows: run by run, the events that a controller given the run's rows
-/// reports, and the times of each if they are wanted. A torn last row counts as none, unless it lacks only its line feed and
-/// may have put a clip to air.
+/// Prints the as-run list that a journal of this list shows, run by run, with the times of each event if they are wanted. A
+/// torn last row counts only if it lacks just its line feed and may have put a clip to air. The list is read first.
 ///
-/// The status is 0 if it is printed, 1 if a row of the list or of the journal is refused, or the list isn't the
-/// journal's, and 3 if a file can't be read, memory was refused or a writer failed. The list is read first. If it
-/// isn't 0, `err` gets one line, unless it was a writer that failed. If it is 0, `err` gets a line for each run whose
-/// next event may have aired, unless the run after it begins with that event or a later one.
+/// The status is 0 if it is printed, 1 if a row is refused or the list isn't the journal's, and 3 if a file can't be read,
+/// memory was refused or a writer failed. `err` gets one line of each failure but a writer's; with status 0 it gets one of
+/// each run whose next event may have aired, unless the run after it begins with that event or a later one.
 pub fn do_asrun<J: io::Read + Drop, L: io::Read + Drop, W: io::Write, E: io::Write>(
     alloc: Global,
     journal: NamedFile<'_, J>,
@@ -70,8 +66,8 @@ pub fn do_asrun<J: io::Read + Drop, L: io::Read + Drop, W: io::Write, E: io::Wri
     }
 }
 
-/// Prints the same of a journal of any list: its own cues say what was played. `cues` is another reader of the journal's
-/// file, and is read first.
+/// Prints the same without the list: the journal's own cues say what was played. `cues` reads the journal a second time,
+/// and is read first.
 pub fn do_asrun_by_cues<J: io::Read + Drop, C: io::Read + Drop, W: io::Write, E: io::Write>(
     alloc: Global,
     journal: NamedFile<'_, J>,
@@ -93,8 +89,7 @@ pub fn do_asrun_by_cues<J: io::Read + Drop, C: io::Read + Drop, W: io::Write, E:
     }
 }
 
-/// The as-run list that the journal of this name shows, of these events: what `do_asrun` prints of the two. It is read as
-/// it is, whoever writes it.
+/// The text that `do_asrun` prints of these events and the journal of this name, which another run may be writing.
 pub fn asrun_of_journal<'a, R: Files + AllocGlobal, S: Source>(
     rt: &R,
     name: &'a str,
@@ -115,7 +110,6 @@ pub fn asrun_of_journal<'a, R: Files + AllocGlobal, S: Source>(
     }
 }
 
-// Tells of the events that may have aired, and gives the status.
 fn tell<E: io::Write>(told: &[u8], err: &mut E) -> u8
     ensures told { result ≡ 0 → Appends (E.contents err.old) (E.contents err.new) told.now }
     ensures statuses { (result ≡ 0) ⊎ (result ≡ 3) }
@@ -126,7 +120,6 @@ fn tell<E: io::Write>(told: &[u8], err: &mut E) -> u8
     }
 }
 
-// Prints the list of a journal of this list, and gives what is to be told.
 fn print_listed<'a, J: io::Read + Drop, L: io::Read + Drop, W: io::Write>(
     alloc: Global,
     journal: NamedFile<'a, J>,
@@ -155,7 +148,6 @@ fn print_listed<'a, J: io::Read + Drop, L: io::Read + Drop, W: io::Write>(
     }
 }
 
-// Prints the list of a journal by its own cues, and gives what is to be told.
 fn print_named<'a, J: io::Read + Drop, C: io::Read + Drop, W: io::Write>(
     alloc: Global,
     journal: NamedFile<'a, J>,
@@ -180,15 +172,14 @@ fn print_named<'a, J: io::Read + Drop, C: io::Read + Drop, W: io::Write>(
     }
 }
 
-// What is printed of a journal.
 #[derive(Drop)]
 struct Shown {
     text: Vec<u8>,
-    // What is told of the events that may have aired.
+    // What standard error gets of the events that may have aired.
     told: Vec<u8>,
 }
 
-// What the journal in a file shows, of these events: it is of the list with this digest, if one is given.
+// `digest` is that of the list of which the journal has to be.
 fn shown_in<S: Source, J: io::Read + Drop>(
     alloc: Global,
     reader: J,
@@ -208,7 +199,6 @@ fn shown_in<S: Source, J: io::Read + Drop>(
     }
 }
 
-// What a journal with these whole lines shows.
 fn shown_by<S: Source, I: io::Read + Drop>(
     alloc: Global,
     lines: I,
@@ -255,7 +245,7 @@ fn shown_by<S: Source, I: io::Read + Drop>(
     Err(Refusal::Read)
 }
 
-// Refuses a journal with a limit that no controller has, or of a list with another digest.
+// A controller has a limit of 1 to 1,000.
 fn expect(heading: &Heading, digest: Option<[u8; 32]>) -> Result<(), Refusal>
     ensures some { OnOk result (1 ≤ heading.now.limit) }
     ensures few { OnOk result (heading.now.limit ≤ 1000) }
@@ -273,8 +263,7 @@ fn expect(heading: &Heading, digest: Option<[u8; 32]>) -> Result<(), Refusal>
     Ok(())
 }
 
-// Adds what a run shows that begins with this row of the journal, once its rows have come to an end: there are no more, or the
-// next run begins, with this event.
+// The run's rows have come to an end: there are no more, or the next run begins, with event `next`.
 fn with_run<'s, S: Source>(
     alloc: Global,
     shown: Result<Shown, Refusal>,
@@ -321,7 +310,6 @@ fn with_run<'s, S: Source>(
     Ok(Shown { text, told })
 }
 
-// Prints a text, and gives what is to be told.
 fn print_out<'a, W: io::Write>(shown: Shown, out: &mut W) -> Result<Vec<u8>, Failure<'a>>
     ensures written { OnOk result (Appends (W.contents out.old) (W.contents out.new) shown.text.items) }
     ensures told { IfOk result (λ told. told.items ≡ shown.told.items) }
@@ -334,7 +322,6 @@ fn print_out<'a, W: io::Write>(shown: Shown, out: &mut W) -> Result<Vec<u8>, Fai
     Ok(told)
 }
 
-// What stands above the rows.
 fn heading_shown<S: Source>(
     alloc: Global,
     events: &S,
@@ -353,7 +340,6 @@ fn heading_shown<S: Source>(
     })
 }
 
-// Adds the rows of the events that a run reports.
 fn add_reported<S: Source>(
     alloc: Global,
     events: &S,
@@ -382,8 +368,7 @@ fn add_reported<S: Source>(
     }
 }
 
-// The number in the list of the event that may have aired in a run, unless the next one begins with it or a later one: the
-// operator has said then whether it did.
+// If the next run begins with that event or a later one, the operator has said whether it aired.
 fn undecided(next: Option<usize>, from: usize, event: Option<usize>) -> Option<usize>
     requires { IfSome event (λ k. from + k < 2 ^ 64) }
     ensures { result ≡ undecided next from event }
@@ -395,7 +380,6 @@ fn undecided(next: Option<usize>, from: usize, event: Option<usize>) -> Option<u
     }
 }
 
-// Adds what is told of the event that may have aired, if there is one, in the run that begins with this row of the journal.
 fn add_event(begin: usize, event: Option<usize>, told: &mut Vec<u8>) -> Result<(), Refusal>
     ensures told { OnOk result (told.new.items ≡ told.old.items ++ open_text begin event) }
     ensures memory { IfErr result (λ f. f ≡ refusals.Memory) }

@@ -13,10 +13,10 @@ use std::rt::{Clock, Files};
 use vdcp_journal::Heading;
 use vdcp_text::Failure;
 
-/// Makes a journal: its file, with the first row, and that of the event that the run begins with, if one is named. All are
-/// safe then, if the system can say that of a folder.
-/// The failure is `Exists` if there is a file of this name, which stays as it is; else `Open`, `InUse`, `Write` or
-/// `Memory`.
+/// Makes a journal with its first row, and the row of the event that the run begins with, if one is named. They are safe
+/// then, and so is the file's name if the system can sync a folder.
+///
+/// The failure is `Exists` if a file has this name, which stays as it is, else `Open`, `InUse`, `Write` or `Memory`.
 pub fn begin_journal<'a, 'r, R: Files<File = File> + Clock + AllocGlobal>(
     rt: &'r R,
     name: &'a str,
@@ -41,7 +41,6 @@ pub fn begin_journal<'a, 'r, R: Files<File = File> + Clock + AllocGlobal>(
     }
 }
 
-// Writes the first row, and that of the event that the run begins with, if one is named, to an empty file.
 fn begin_in<'a, 'r, R: Files + Clock + AllocGlobal, F: Disk + Drop>(
     rt: &'r R,
     name: &'a str,

@@ -1,4 +1,4 @@
-//! What a journal's file has to do: bytes are appended, made safe and read again, and what is torn is cut off.
+//! What a journal's file does: bytes are appended, made safe and read again, and what is torn is cut off.
 ghost use Rattle.std.specs.Io.KnownBytes.{Appends, WriteAppends};
 ghost use Rattle.std.specs.Io.{WritesAtMost};
 ghost use Rattle.std.specs.Prelude.{◌≡◌, None, OnErr, OnOk, Some, if◌then◌else◌, nat_lt};
@@ -10,23 +10,21 @@ use std::io::{self, ErrorKind, Read, Seek, SeekFrom, Write};
 use std::os::unix::fs::MetadataExt;
 use std::rt::Files;
 
-/// A file that grows. What is written to it is safe, also when the power fails, once it was synced; before that a beginning
-/// of it may be.
+/// A file that grows. What was synced is safe, also when the power fails; of what was written since, a beginning may be.
 ///
-/// Each file is one, whose bytes no contract names.
+/// Each file is one, though no contract names its bytes.
 pub trait Disk {
     ghost use Rattle.std.specs.Io.KnownBytes.{Keeps, WriteAppends};
     ghost use Rattle.std.specs.Io.{WritesAtMost};
     ghost use Rattle.std.specs.Prelude.{◌≡◌, ℕ, Bool, List, None, OnErr, OnOk, Option};
     ghost use Rattle.vdcp_journal_file.specs.Disks.{Spills};
 
-    /// The bytes that were written, if they are known.
     ghost written: { Self → Option (List ℕ) } = { λ _. None };
 
-    /// Those of them that are safe, if they are known.
+    /// The written bytes that are safe, if they are known.
     ghost safe: { Self → Option (List ℕ) } = { λ _. None };
 
-    /// What it may answer if it is asked whether a name is its own.
+    /// What `is_named` may answer for a name.
     ghost owns: { Self → List ℕ → Bool → Type 0 } = { λ _ _ _. Unit {0} };
 
     /// Appends the first of these bytes, and gives how many, as `Write` does.
@@ -35,14 +33,13 @@ pub trait Disk {
         ensures bytes { WriteAppends (written self.old) (written self.new) result bytes.now }
         ensures spills { Spills (safe self.old) (safe self.new) (written self.new) };
 
-    /// Makes all of it safe.
     fn sync(&mut self) -> io::Result<()>
         ensures bytes { Keeps (written self.old) (written self.new) }
         ensures synced { OnOk result (safe self.new ≡ written self.new) }
         ensures spills { OnErr result (Spills (safe self.old) (safe self.new) (written self.new)) };
 
-    /// Whether the name by which it was opened is its own still. If it was removed or moved, or another file took the name,
-    /// nobody finds there what is written.
+    /// Whether the name by which it was opened is still its own. If the file was removed or moved, or another took the name,
+    /// nobody finds what is written.
     fn is_named<R: Files>(&self, rt: &R, name: &str) -> bool
         ensures { owns self.now name.now result };
 }
@@ -71,18 +68,15 @@ impl<F: Write + OpenFile> Disk for F {
     }
 }
 
-/// A disk that is read again, and cut off.
 pub(crate) trait ReadableDisk: Disk {
     ghost use Rattle.std.specs.Io.KnownBytes.{Keeps};
     ghost use Rattle.std.specs.Prelude.{◌≡◌, IfOk, OnOk, option_map, take};
 
     type Reader: Read + Drop;
 
-    /// A reader of all that is written.
     fn reader(&self) -> io::Result<Self::Reader>
         ensures { IfOk result (λ reader. Self.Reader.remaining reader ≡ Self.written self.now) };
 
-    /// Cuts it off after its first bytes, as many as this, if it has more.
     fn cut_after(&mut self, size: u64) -> io::Result<()>
         ensures { OnOk result (Keeps (option_map (take size) (Self.written self.old)) (Self.written self.new)) };
 }
@@ -104,14 +98,13 @@ impl ReadableDisk for File {
     }
 }
 
-// How many bytes stay of `all`, if they are more than `size`.
 fn size_left(size: u64, all: u64) -> Option<u64>
     ensures { result ≡ (if nat_lt size all then Some size else None) }
 {
     if size < all { Some(size) } else { None }
 }
 
-/// Appends bytes and makes them safe, with all before. If it fails, a beginning of them may be there.
+/// Appends bytes and makes all safe. If that fails, a beginning of them may be there.
 pub fn append_safely<D: Disk>(disk: &mut D, bytes: &[u8]) -> io::Result<()>
     ensures all { OnOk result (Appends (D.written disk.old) (D.safe disk.new) bytes.now) }
     ensures synced { OnOk result (D.safe disk.new ≡ D.written disk.new) }

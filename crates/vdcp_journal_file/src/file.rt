@@ -1,4 +1,4 @@
-//! A journal's file: it is made, opened and locked.
+//! A journal's file: how it is made, opened and locked.
 ghost use Rattle.std.specs.Fs.{new_options, with_append, with_create_new, with_read};
 ghost use Rattle.std.specs.Prelude.{◌≡◌, ◌⊎◌, Err, IfErr, IsOk, true};
 ghost use Rattle.vdcp_journal_file.specs.Recording.{IsUnopened};
@@ -10,7 +10,7 @@ use std::path::Path;
 use std::rt::Files;
 use vdcp_text::Failure;
 
-/// Makes the file of this name, which mustn't exist, and locks it. If it can't be locked there is none.
+// A file that can't be locked is removed again.
 pub(crate) fn make<'a, R: Files<File = File>>(rt: &R, name: &'a str) -> Result<File, Failure<'a>>
     ensures { IfErr result (λ failure. (failure ≡ failures.Exists name.entry) ⊎ IsUnopened name.entry failure) }
 {
@@ -26,7 +26,6 @@ pub(crate) fn make<'a, R: Files<File = File>>(rt: &R, name: &'a str) -> Result<F
     locked
 }
 
-/// Opens the file of this name, to be read and then appended to, and locks it.
 pub(crate) fn open<'a, R: Files<File = File>>(rt: &R, name: &'a str) -> Result<File, Failure<'a>>
     ensures { IfErr result (IsUnopened name.entry) }
 {
@@ -36,7 +35,6 @@ pub(crate) fn open<'a, R: Files<File = File>>(rt: &R, name: &'a str) -> Result<F
     }
 }
 
-// Says how a file is opened that is made, and appended to.
 fn new_file() -> OpenOptions
     ensures { result ≡ with_create_new (with_append new_options true) true }
 {
@@ -45,7 +43,6 @@ fn new_file() -> OpenOptions
     options
 }
 
-// Says how one is opened that exists, is read and appended to.
 fn older_file() -> OpenOptions
     ensures { result ≡ with_append (with_read new_options true) true }
 {
@@ -54,7 +51,7 @@ fn older_file() -> OpenOptions
     options
 }
 
-// Only one run has the lock, and it ends with the run, also if that is killed.
+// The system unlocks the file when the run ends, also if it is killed.
 fn locked<'a>(file: File, name: &'a str) -> Result<File, Failure<'a>>
     ensures { IfErr result (IsUnopened name.entry) }
 {
@@ -62,7 +59,6 @@ fn locked<'a>(file: File, name: &'a str) -> Result<File, Failure<'a>>
     Ok(file)
 }
 
-// Tells why the file of this name isn't locked, if it isn't.
 fn tell_lock<'a>(locked: Result<(), TryLockError>, name: &'a str) -> Result<(), Failure<'a>>
     ensures locked { IsOk result → IsOk locked }
     ensures in_use { locked ≡ Err TryLockError.WouldBlock → result ≡ Err (failures.InUse name.entry) }
@@ -85,7 +81,7 @@ fn not_opened<'a>(error: &io::Error, name: &'a str) -> Failure<'a>
     }
 }
 
-/// Makes it safe that the file has its name, if the system can say that of a folder.
+/// Makes a file's name safe, if the system can sync a folder.
 pub fn sync_folder<R: Files>(rt: &R, name: &str) {
     let folder = match Path::new(name).parent() {
         Some(folder) if !folder.as_str().is_empty() => folder,

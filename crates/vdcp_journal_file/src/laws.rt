@@ -17,10 +17,10 @@ use std::rt::{Clock, Files};
 use vdcp_auto::Source;
 use vdcp_drive::{Ear, Wire, laws};
 
-/// A run whose hooks keep its commands, ends and calls by a recorder is recorded, whatever its automation and its answer
-/// were. The rows that are safe then have each command of which a byte went out, but for those that ask for the state, and
-/// a PLAY that the rows announce. If nothing was awaited before the run, they are what was kept in it, but for what says
-/// nothing new, and for what waits for a later row. If the hooks had no recorder, they have none after it.
+/// A run with a `Recorder` in its hooks is recorded, whatever its automation and its answer were: at each moment the safe
+/// rows have each command of which a byte went out, but for those that ask for the state and an announced PLAY. If nothing
+/// was awaited before the run, they are in the end what was kept in it, without what says nothing new or waits for a later
+/// row.
 pub fn a_run_is_recorded<
     'a,
     'r,
@@ -39,7 +39,6 @@ pub fn a_run_is_recorded<
     ensures unrecorded { (plan : Plan) (unit count : ℕ) (a a' : Auto E)
         (old new : World W (Option (Recording F))) (answer : Result Ran BrokenOff) →
         HasRun (recorder_rules W.does F.safe) E.fold plan unit count a a' old new answer → old.keep ≡ None → new.keep ≡ None }
-    // at each moment, after whatever steps, the safe rows have each command by then
     ensures moments { (some : List Step) (old moment : World W (Option (Recording F))) →
         Happens (recorder_rules W.does F.safe) some old moment → AreKept some →
         (before : Recording F) → old.keep ≡ Some before → MayHold before.pending →
@@ -49,7 +48,7 @@ pub fn a_run_is_recorded<
     laws::what_a_run_keeps::<S, E, W, Option<Recorder<'a, 'r, R, F>>>();
 }
 
-/// Of commands, a recorder has only those still to write that ask for the state, and a PLAY that its rows announce.
+/// The only commands that a recorder still has to write are those that ask for the state, and an announced PLAY.
 pub fn few_commands_wait<R: Files + Clock + AllocGlobal, F: Disk + Drop>(
     recorder: &Recorder<'_, '_, R, F>,
 )

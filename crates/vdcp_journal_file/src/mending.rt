@@ -1,4 +1,4 @@
-//! What a killed run left undone in its journal is done before anything goes on from it.
+//! What a killed run left undone in its journal, which is done before anything goes on.
 ghost use Rattle.std.specs.Fmt.{option_append};
 ghost use Rattle.std.specs.Io.KnownBytes.{Appends, Keeps};
 ghost use Rattle.std.specs.Prelude.{◌≡◌, ◌<◌, ◌≤◌, ◌⊎◌, ◌++◌, [], IfErr, IfOk, IfSome, IsTrue, OnOk, Some, length, option_map, take};
@@ -31,7 +31,7 @@ use vdcp_journal::{Heading, Moment, Note, Row, WholeLines, mended, size_of_lines
 use vdcp_list::Rest;
 use vdcp_text::Failure;
 
-/// Writes the first row if it was torn; nothing was sent then.
+/// Writes the first row if it was torn: nothing was sent then.
 pub(crate) fn mend_heading<'a, R: Clock + AllocGlobal, F: ReadableDisk>(
     rt: &R,
     name: &'a str,
@@ -57,7 +57,7 @@ pub(crate) fn mend_heading<'a, R: Clock + AllocGlobal, F: ReadableDisk>(
     Ok(())
 }
 
-// Writes the line feed that the last row lacks, if it may have put a clip to air: then it counts.
+// A row that may have put a clip to air counts, though its line feed is lacking.
 fn close_row<'a, F: ReadableDisk>(name: &'a str, file: &mut F) -> Result<(), Failure<'a>>
     ensures closed { OnOk result (Keeps (option_map closed (F.written file.old)) (F.written file.new)) }
     ensures unclosed { IfErr result (λ failure. IsUnread name.entry failure ⊎ IsUnwritten name.entry failure) }
@@ -74,7 +74,6 @@ fn close_row<'a, F: ReadableDisk>(name: &'a str, file: &mut F) -> Result<(), Fai
     }
 }
 
-/// Why the file of this name isn't read.
 pub(crate) fn not_read<'a>(name: &'a str, error: &io::Error) -> Failure<'a>
     ensures { IsUnread name.entry result }
 {
@@ -84,10 +83,9 @@ pub(crate) fn not_read<'a>(name: &'a str, error: &io::Error) -> Failure<'a>
     }
 }
 
-// How many bytes of a row are its time.
 const TIME: usize = 24;
 
-// Whether a text is the beginning of this row, with any time, and has no row that counts.
+// Whether the text is the beginning of this row, with any time, and no row that counts.
 fn is_torn(text: &[u8], row: &[u8]) -> bool
     ensures few { IsTrue result → length text.now < length row.now }
     ensures torn { IsTrue result → whole_lines (closed text.now) ≡ [] }
@@ -98,7 +96,6 @@ fn is_torn(text: &[u8], row: &[u8]) -> bool
     text.len() < row.len() && begins(text, row)
 }
 
-// Whether a row begins with this text, whatever its time.
 fn begins(text: &[u8], row: &[u8]) -> bool
     requires { length text.now ≤ length row.now }
 {
@@ -111,9 +108,8 @@ fn begins(text: &[u8], row: &[u8]) -> bool
     true
 }
 
-/// Writes behind the whole rows of a journal what a run that was killed couldn't write any more: a command that may have
-/// gone out without its row, with what was to be heard before it; and that the run was lost, if it was. It gives the run
-/// that goes on from all of them. If there is none, nothing is written.
+/// Writes behind the whole rows what a killed run couldn't write any more (`mended`), and gives the run that goes on from
+/// all of them. If no run goes on, nothing is written.
 pub(crate) fn mend_end<'a, 's, R: Clock + AllocGlobal, S: Source, F: ReadableDisk>(
     rt: &R,
     name: &'a str,
@@ -138,13 +134,12 @@ pub(crate) fn mend_end<'a, 's, R: Clock + AllocGlobal, S: Source, F: ReadableDis
         Ok(rows) => rows,
         Err(fault) => return Err(fault.failure(name)),
     };
-    // (they are read before they are written: what nothing goes on from would be there for good)
+    // (the rows are read before they are written: what nothing goes on from would be there for good)
     let run = with_rows(alloc, name, wanted, source, file, run, rows.as_slice())?;
     end_with(alloc, name, file, rows.as_slice())?;
     Ok(run)
 }
 
-// The run that goes on from the whole lines of a file, with rows behind them.
 fn with_rows<'a, 's, S: Source, F: ReadableDisk>(
     alloc: Global,
     name: &'a str,
@@ -177,7 +172,6 @@ fn with_rows<'a, 's, S: Source, F: ReadableDisk>(
     replay(alloc, name, lines.chain(rows), wanted, source)
 }
 
-// How many bytes the whole rows of a file are.
 fn whole_size<'a, F: ReadableDisk>(
     alloc: Global,
     name: &'a str,
@@ -193,8 +187,8 @@ fn whole_size<'a, F: ReadableDisk>(
     }
 }
 
-/// Writes rows behind the whole lines of a file, and makes all of it safe. A last row that was torn gets its line feed if it
-/// lacks no more and may have put a clip to air, and else is cut off.
+/// Writes rows behind the whole lines of a file, and makes all safe. A torn last row gets its line feed if it lacks no more
+/// and may have put a clip to air; else it is cut off.
 pub(crate) fn end_with<'a, F: ReadableDisk>(
     alloc: Global,
     name: &'a str,
@@ -210,7 +204,6 @@ pub(crate) fn end_with<'a, F: ReadableDisk>(
     replace_from(name, size, rows, file)
 }
 
-// What is written behind the rows of a journal.
 fn notes_of<S: Source>(alloc: Global, run: &LastRun<'_, S>) -> Result<Vec<Note>, AllocError>
     requires { CanStand (length (items_left (λ s. S.items s.now) run.now.controller.source)) run.now.stood }
     ensures { IfOk result (λ notes. notes.items ≡ mended_at
@@ -222,8 +215,7 @@ fn notes_of<S: Source>(alloc: Global, run: &LastRun<'_, S>) -> Result<Vec<Note>,
     mended(alloc, controller, run.last_note, run.heard)
 }
 
-// The text of the rows that are written behind those of a journal. No clock gives their time: what they say was inferred,
-// not seen.
+// No clock gives the time of these rows: what they say was inferred, not seen.
 fn text_of<S: Source>(alloc: Global, unit: u8, run: &LastRun<'_, S>) -> Result<Vec<u8>, RecordFault>
     requires unit { unit ≤ 15 }
     requires can_stand { CanStand (length (items_left (λ s. S.items s.now) run.now.controller.source)) run.now.stood }
@@ -263,7 +255,6 @@ fn add_rows(
     }
 }
 
-// Keeps the first bytes of a file, as many as this, and writes a text after them; what followed is gone.
 fn replace_from<'a, F: ReadableDisk>(
     name: &'a str,
     size: usize,

@@ -15,8 +15,8 @@ use vdcp_value::laws::a_time_code_has_lawful_bytes;
 use vdcp_value::{ClipId, Item, Part, Rate, Timecode};
 use vdcp_words::Command;
 
-/// The events that rows name: of each the item that was cued, or else the clip that was asked for. Before these may stand
-/// events that no row names, as clips without a name.
+/// The events that rows name: of each the item that was cued, or else the clip that was asked for. An event before these
+/// that no row names is a clip without a name.
 #[derive(Drop)]
 pub(crate) struct NamedEvents {
     items: Vec<Item>,
@@ -30,7 +30,6 @@ impl NamedEvents {
         }
     }
 
-    // Says which item an event is.
     fn set(&mut self, event: usize, item: Item) -> Result<(), AllocError>
         requires { IsItem item }
     {
@@ -43,7 +42,6 @@ impl NamedEvents {
         }
     }
 
-    // Makes the list at least this long.
     fn extend(&mut self, count: usize) -> Result<(), AllocError> {
         for _ in self.items.len()..count {
             self.push(whole(ClipId::new(*b"        ")))?;
@@ -65,7 +63,6 @@ impl NamedEvents {
         self.items[event] = item;
     }
 
-    // Whether an event is known to be of this clip.
     fn is_of(&self, event: usize, id: ClipId) -> bool {
         event < self.items.len() && self.items[event].id == id
     }
@@ -89,8 +86,7 @@ impl Source for NamedEvents {
     }
 }
 
-/// The events that the rows of a journal name, which are read from its file. A row that no controller of a list writes there
-/// is refused, and a part that isn't lawful at the rate.
+/// Refuses a row that no controller of a list writes there, and a part that isn't lawful at the rate.
 pub(crate) fn events_in<I: io::Read + Drop>(
     alloc: Global,
     rate: Rate,
@@ -138,17 +134,15 @@ fn events_named<I: io::Read + Drop>(
     Err(Refusal::Read)
 }
 
-// Where the rows so far are.
 #[derive(Clone, Copy)]
 struct Place {
     // The event that commands are about.
     event: usize,
-    // It was asked which clip plays: the next event follows.
+    // Whether it was asked which clip plays: the next event follows then.
     is_checked: bool,
 }
 
 impl Place {
-    // Follows a note more.
     fn follow(&mut self, note: &Note)
         ensures event { self.new.event ≡ event_after self.old.event self.old.is_checked note.now }
         ensures checked { self.new.is_checked ≡ checked_after self.old.is_checked note.now }
@@ -172,14 +166,12 @@ impl Place {
     }
 }
 
-// Why a row names no event.
 enum NamingFault {
     // A part isn't lawful at the rate.
     Time,
     Memory,
 }
 
-// Adds what a row says of an event.
 fn add_named(
     named: &mut NamedEvents,
     event: usize,
@@ -216,7 +208,6 @@ fn whole(id: ClipId) -> Item
     Item { id, part: None }
 }
 
-// The part of these bytes, which are lawful at the rate.
 fn part_of(rate: Rate, start: [u8; 4], duration: [u8; 4]) -> Option<Part>
     ensures { IfSome result IsPart }
 {

@@ -16,14 +16,12 @@ use vdcp_text::Failure;
 use vdcp_words::state::{CUE_DONE, PLAYING};
 use vdcp_words::{Command, LONGEST, Reply};
 
-/// A state that was asked for and heard.
 #[derive(Clone, Copy)]
 pub struct Seen {
     /// The groups that were asked for, as a bitmap.
     pub asked: u8,
-    /// Those that came.
+    /// The groups that came, as a bitmap.
     pub groups: u8,
-    /// The state byte.
     pub state: u8,
 }
 
@@ -33,29 +31,26 @@ pub enum Pending {
     Nothing,
     /// What ended the last exchange, or the event that the run begins with.
     End(Row),
-    /// The state is asked for. What was seen when it was asked just before stands last in the file, if anything was.
+    /// The state that stands last in the file, if one was seen just before, and the row that asks again.
     Asked(Option<Seen>, Row),
-    /// The same, and what was heard.
     Answered(Option<Seen>, Row, Row),
-    /// The same, and a PLAY, which what stands last in the file announces.
+    /// The state that stands last in the file announces the PLAY.
     Played(Seen, Row, Row, Row),
-    /// The same, and what ended its exchange.
+    /// The same, and what ended the PLAY's exchange.
     Over(Seen, Row, Row, Row, Row),
-    /// Nothing, whatever comes: this befell the journal.
+    /// Nothing more is written: this befell the journal.
     Failed(RecordFault),
 }
 
-/// The bytes of the commands whose rows are held back, or None: they are made for the row.
+/// The bytes of the commands whose rows are held back; those that are None are made for the row.
 #[derive(Drop)]
 pub struct HeldBytes {
-    /// Those of the command that asks for the state.
     pub asks: Option<ArrayVec<u8, LONGEST>>,
-    /// Those of a PLAY.
     pub plays: Option<ArrayVec<u8, LONGEST>>,
 }
 
 impl Pending {
-    /// After the end of an exchange, in which this was heard or nothing came; it is noted in place of another one.
+    /// Adds what ended an exchange: it takes the place of an end that is still pending.
     pub(crate) fn ended(self, time: Moment, heard: Option<Heard>) -> Pending
         ensures { result ≡ ended self (record { time = time; note = end_note heard }) }
     {
@@ -77,7 +72,6 @@ impl Pending {
         }
     }
 
-    /// Adds the text of the rows that are still to be written.
     pub(crate) fn add_to(
         self,
         alloc: Global,
@@ -117,7 +111,6 @@ impl Pending {
         Ok(())
     }
 
-    /// The state that was seen last, if that is pending.
     pub(crate) fn seen_last(self) -> Option<Seen>
         ensures { result ≡ seen_last self }
     {
@@ -132,7 +125,7 @@ impl Pending {
         }
     }
 
-    /// The state that was seen before what is pending, and stands last in the file.
+    /// What was seen before what is pending: it stands last in the file.
     fn seen_before(self) -> Option<Seen>
         ensures { result ≡ seen_before self }
     {
@@ -143,14 +136,14 @@ impl Pending {
         }
     }
 
-    /// Whether what is pending says nothing new if this goes out next: the same was seen twice, and is asked again.
+    /// Whether what is pending says nothing new: the same state was seen twice, and is asked for again.
     pub(crate) fn says_nothing_new(self, next: Note) -> bool
         ensures { result ≡ says_nothing_new self next }
     {
         is_again(self.seen_before(), self.seen_last(), next)
     }
 
-    /// With this row, if it is of a PLAY that goes out next, and is announced.
+    /// Adds this row if it is of an announced PLAY.
     pub(crate) fn with_play(self, row: Row) -> Option<Pending>
         ensures held { IfSome result (λ held. (held ≡ with_play self row) × (is_announced self row.note ≡ true)) }
         ensures unannounced { IfNone result (is_announced self row.note ≡ false) }
@@ -165,7 +158,6 @@ impl Pending {
     }
 }
 
-// Whether the same was seen twice, and is asked again.
 fn is_again(before: Option<Seen>, last: Option<Seen>, next: Note) -> bool
     ensures { result ≡ is_again before last next }
 {
@@ -180,7 +172,6 @@ fn is_again(before: Option<Seen>, last: Option<Seen>, next: Note) -> bool
     }
 }
 
-// The state that these notes ask for and hear, if they do.
 fn seen_of(asks: Note, hears: Note) -> Option<Seen>
     ensures { result ≡ seen_of asks hears }
 {
@@ -202,10 +193,10 @@ fn seen_of(asks: Note, hears: Note) -> Option<Seen>
 /// Why rows aren't written. The journal ends there.
 #[derive(Clone, Copy, Debug, PartialEq, Eq, Error)]
 pub enum RecordFault {
-    /// The file failed. A beginning of the rows may be there.
+    /// A beginning of the rows may be there.
     #[error("the file failed")]
     Device,
-    /// The file was removed or moved, or its name is another file's. None of the rows is there.
+    /// The file was removed or moved, or another has its name. None of the rows is there.
     #[error("not the file that was opened")]
     Replaced,
     #[error("out of memory")]
@@ -224,7 +215,6 @@ impl From<AllocError> for RecordFault {
 }
 
 impl RecordFault {
-    /// The failure of the journal of this name.
     pub(crate) fn failure<'a>(self, name: &'a str) -> Failure<'a>
         ensures failure { result ≡ failure_of name.entry self }
         ensures unwritten { IsUnwritten name.entry result }

@@ -24,19 +24,16 @@ use vdcp_list::Rest;
 use vdcp_text::{Failure, JournalFault};
 use vdcp_words::Command;
 
-/// Why a journal isn't shown or gone on with: its failure, without its name.
+/// Why a journal isn't shown or gone on with, without its name.
 #[derive(Clone, Copy)]
 pub enum Refusal {
-    /// The row of this number is refused, with what is wrong. The heading is row 1.
+    /// The row of this number is refused; the heading is row 1.
     Row(usize, JournalFault),
-    /// The reader failed.
     Read,
-    /// Memory was refused.
     Memory,
 }
 
 impl Refusal {
-    /// The failure of a journal of this name.
     pub(crate) fn failure(self, name: &str) -> Failure<'_>
         ensures { result ≡ failure_of name.entry self }
     {
@@ -59,38 +56,35 @@ impl From<AllocError> for Refusal {
     }
 }
 
-/// What one of a journal's runs shows of its events.
 #[derive(Debug, Drop)]
 pub struct RunAirings {
-    /// The event of the list that it began with.
+    /// The event of the list that it began with, counted from 0.
     pub from: usize,
-    /// When the events from that one on aired that it reports.
+    /// One of each event that it reports.
     pub airings: Vec<Airing>,
-    /// The event that may have aired besides, by its number in the run.
+    /// The event that may have aired besides, counted from the run's first.
     pub unsettled: Option<usize>,
 }
 
-/// The last run of a journal, as it goes on.
 #[derive(Drop)]
 pub(crate) struct LastRun<'s, S: Source> {
     pub controller: Controller<Rest<&'s S>>,
     /// The command whose exchange was open, and is timed out now.
     pub open: Option<Command>,
-    /// The controller before that.
+    /// The controller before that exchange was timed out.
     pub stood: Snapshot,
-    /// The event that may have aired though the run doesn't report it, by its number in the run.
+    /// The event that may have aired though the run doesn't report it, counted from the run's first.
     pub unsettled: Option<usize>,
     /// What the journal's runs show, this one last.
     pub runs: Vec<RunAirings>,
-    /// What the journal's last row notes, if it has one besides its heading.
+    /// The journal's last note, if a row follows the heading.
     pub last_note: Option<Note>,
-    /// What ended the last exchange, if since then at the most the state was asked.
+    /// What was heard last (`heard_after`).
     pub heard: Option<Heard>,
 }
 
-/// Gives the rows of the last run of a journal to a new controller of the list's events from the run's first on, and times
-/// out the exchange that was open. The failure is `JournalRow` if it is no journal of what is wanted, `Read` if it
-/// can't be read, or `Memory`.
+/// Makes the controller of a journal's last run anew, and times out the exchange that was open. The failure is `JournalRow`
+/// if it is no journal of what is wanted, `Read` or `Memory`.
 pub(crate) fn replay<'a, 's, S: Source, I: io::Read + Drop>(
     alloc: Global,
     name: &'a str,
@@ -115,7 +109,7 @@ pub(crate) fn replay<'a, 's, S: Source, I: io::Read + Drop>(
     }
 }
 
-// Why a journal's lines are refused: one is too long, if there is such a one, and else this.
+// If a line is too long, that is why reading failed.
 pub(crate) fn refusal_of(long_line: Option<usize>, refusal: Refusal) -> Refusal
     ensures long { IfSome long_line (λ row. result ≡ refusals.Row row faults.Long) }
     ensures other { IfNone long_line (result ≡ refusal) }
@@ -126,7 +120,6 @@ pub(crate) fn refusal_of(long_line: Option<usize>, refusal: Refusal) -> Refusal
     }
 }
 
-// The last run of a journal with these whole lines.
 fn last_run<'s, S: Source, I: io::Read + Drop>(
     alloc: Global,
     lines: I,
@@ -179,7 +172,6 @@ fn last_run<'s, S: Source, I: io::Read + Drop>(
     Err(Refusal::Read)
 }
 
-// Adds what the run that begins with this event shows to what those before it show.
 fn with_airings<S: Source + Drop>(
     mut runs: Vec<RunAirings>,
     from: usize,
@@ -202,7 +194,6 @@ fn with_airings<S: Source + Drop>(
     }
 }
 
-// The last run of a journal with this heading, if that is what is wanted.
 fn the_last<'s, S: Source>(
     found: &Heading,
     wanted: &Heading,
@@ -248,8 +239,6 @@ fn the_last<'s, S: Source>(
     }
 }
 
-/// A run that begins with this event of a list, by the row of this number, under the settings of a heading. It is
-/// refused as `Event` if the list has no such event.
 pub(crate) fn begun<'s, S: Source>(
     source: &'s S,
     heading: &Heading,
@@ -273,7 +262,6 @@ pub(crate) fn begun<'s, S: Source>(
     Ok(RunSoFar::new(source, from, mode, port, limit))
 }
 
-/// A run after one row more, which has this number: the first that doesn't stand is refused.
 pub(crate) fn followed<'s, S: Source>(
     made: Result<RunSoFar<'s, S>, Refusal>,
     row: &Row,
@@ -292,7 +280,6 @@ pub(crate) fn followed<'s, S: Source>(
     }
 }
 
-/// Why bytes are no journal's.
 pub(crate) fn read_refusal(fault: JournalReadFault) -> Refusal
     ensures { result ≡ read_refusal fault }
 {
@@ -334,7 +321,6 @@ fn standing_fault(fault: ResumeFault) -> JournalFault
     }
 }
 
-// Where a heading differs from what is wanted.
 fn difference(found: &Heading, wanted: &Heading) -> Option<JournalFault>
     ensures differs { IfSome result (Differs found.now wanted.now) }
     ensures same { IfNone result (found.now ≡ wanted.now) }

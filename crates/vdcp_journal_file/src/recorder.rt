@@ -26,13 +26,12 @@ use vdcp_journal::{Heading, Moment, Note, Row, write_heading, write_row};
 use vdcp_text::Failure;
 use vdcp_words::{Command, LONGEST};
 
-/// Writes a journal's rows, that of each command before it goes out.
+/// Writes a journal's rows, that of each command before it goes out, together with what ended the exchange before.
 ///
-/// What ended an exchange is made safe before the next command goes out, in one with the row of that command. The row of
-/// a command that asks for the state is held back: it is written before the next command goes out, with what was heard,
-/// or left out if the same was asked and heard just before and is asked again. So a clip that plays on writes nothing.
-/// If a state with the cue done, while a clip plays, stands last in the file, it announces a PLAY: that goes out at
-/// once, and its row is written before the next command.
+/// The row of a command that asks for the state is held back until the next command goes out, and left out if the same was
+/// asked and heard just before and is asked again: a clip that plays on writes nothing. A state with the cue done, while
+/// a clip plays, announces a PLAY: that goes out at once, and its row is written before the next command.
+///
 /// After a failure nothing more is written.
 #[derive(Drop)]
 pub struct Recorder<'a, 'r, R, F: Disk> {
@@ -40,7 +39,7 @@ pub struct Recorder<'a, 'r, R, F: Disk> {
     name: &'a str,
     unit: u8,
     file: F,
-    // The event with which the run began, if one was named. Its row is in the file.
+    // The event that the run began with, if one was named. Its row is in the file.
     from: Option<usize>,
     pub(crate) pending: Pending,
     held: HeldBytes,
@@ -80,7 +79,7 @@ impl<'a, 'r, R: Files + Clock + AllocGlobal, F: Disk + Drop> Recorder<'a, 'r, R,
         }
     }
 
-    /// Goes on with a journal, of the server at this unit, in a file that has all but what is pending, and safe.
+    /// Goes on with a journal at this unit, in a file that has all but what is pending, and all of it safe.
     pub(crate) fn after(
         rt: &'r R,
         name: &'a str,
@@ -107,16 +106,14 @@ impl<'a, 'r, R: Files + Clock + AllocGlobal, F: Disk + Drop> Recorder<'a, 'r, R,
         }
     }
 
-    /// The journal's name.
     pub fn name(&self) -> &'a str
         ensures { result ≡ self.now.name }
     {
         self.name
     }
 
-    // Makes safe what is due before a command goes out, or a call is given: all that is pending but what says nothing
-    // new, and its own row, which is held back if it asks for the state. A PLAY that is announced waits for nothing.
-    // `bytes` are those of the command; if they are None, they are made for its row.
+    // Makes safe what is due before the command or call: all that is pending but what says nothing new, and its own row
+    // unless that is held back. `bytes` are those of the command; if they are None, they are made for its row.
     fn keep(&mut self, note: Note, bytes: Option<ArrayVec<u8, LONGEST>>) -> Result<(), RecordFault>
         requires { IfSome bytes (λ b. AreBytesOf self.old.unit b.items note) }
         ensures kept { OnOk result (KeepsRow F.safe note self.old self.new) }
@@ -141,7 +138,6 @@ impl<'a, 'r, R: Files + Clock + AllocGlobal, F: Disk + Drop> Recorder<'a, 'r, R,
         self.write(Some(row), bytes.as_ref())
     }
 
-    // Holds back the row of a command that asks for the state, and makes what is pending safe unless it says nothing new.
     fn hold(&mut self, row: Row, bytes: Option<ArrayVec<u8, LONGEST>>) -> Result<(), RecordFault>
         requires asks { IsTrue (asks_state row.note) }
         requires spelled { IfSome bytes (λ b. AreBytesOf self.old.unit b.items row.note) }
@@ -162,7 +158,7 @@ impl<'a, 'r, R: Files + Clock + AllocGlobal, F: Disk + Drop> Recorder<'a, 'r, R,
         Ok(())
     }
 
-    /// Makes safe the row of the event that the run begins with, if one is named: from then on the journal tells of this run.
+    // From then on the journal tells of this run.
     pub(crate) fn keep_from(&mut self, event: Option<usize>) -> Result<(), Failure<'a>>
         requires { self.old.pending ≡ Nothing }
         ensures safe { OnOk result ((time : Moment) × MakesSafe F.safe self.old self.new (from_rows time event)) }
@@ -178,8 +174,8 @@ impl<'a, 'r, R: Files + Clock + AllocGlobal, F: Disk + Drop> Recorder<'a, 'r, R,
         Ok(())
     }
 
-    /// Writes what is pending, and how the controller ended, if it has ended, to the file that the journal's name is of
-    /// still. The fault is that of the first row that wasn't written.
+    /// Writes what is pending, and how the controller ended, if it has. The fault is that of the first row that wasn't
+    /// written; `Replaced` if the journal's name isn't the file's any more.
     pub fn finish(&mut self, outcome: Option<Outcome>) -> Result<(), RecordFault>
         ensures written { OnOk result ((time : Moment) × Adds F.safe self.old self.new (outcome_rows time outcome)) }
         ensures torn { OnErr result ((time : Moment) × AddsBeginning F.safe self.old self.new
@@ -195,7 +191,6 @@ impl<'a, 'r, R: Files + Clock + AllocGlobal, F: Disk + Drop> Recorder<'a, 'r, R,
         self.write(outcome_row(time, outcome), None)
     }
 
-    // Writes what is pending, and then a row, if there is one. `bytes` are those of its command.
     fn write(
         &mut self,
         last: Option<Row>,
@@ -281,7 +276,6 @@ impl<S: Source, R: Files + Clock + AllocGlobal, F: Disk + Drop> Hooks<S>
     }
 }
 
-// The row of the event that a run begins with, if one is named.
 fn from_row(time: Moment, event: Option<usize>) -> Option<Row>
     ensures { option_to_list result ≡ from_rows time event }
 {
@@ -294,7 +288,6 @@ fn from_row(time: Moment, event: Option<usize>) -> Option<Row>
     }
 }
 
-// The row of how the controller ended, if it has ended.
 fn outcome_row(time: Moment, outcome: Option<Outcome>) -> Option<Row>
     ensures { option_to_list result ≡ outcome_rows time outcome }
 {
@@ -307,14 +300,12 @@ fn outcome_row(time: Moment, outcome: Option<Outcome>) -> Option<Row>
     }
 }
 
-// Whether the state is asked for.
 fn asks_state(note: &Note) -> bool
     ensures { result ≡ asks_state note.now }
 {
     matches!(note, Note::Sent(Command::Status(_)))
 }
 
-// The note of a call.
 fn note_of_call(call: Call) -> Note
     ensures { result ≡ call_note call }
 {
@@ -324,7 +315,7 @@ fn note_of_call(call: Call) -> Note
     }
 }
 
-/// The time of now. A clock that fails shows 1970.
+/// A clock that fails shows 1970.
 pub(crate) fn now<R: Clock>(rt: &R) -> Moment {
     let millis = match rt.since_1970() {
         Ok(time) => millis_of(time),
@@ -333,14 +324,12 @@ pub(crate) fn now<R: Clock>(rt: &R) -> Moment {
     Moment::of_unix_millis(millis)
 }
 
-// How many whole milliseconds a time has.
 fn millis_of(time: Duration) -> u64
     ensures { result ≡ min (as_nanos time / 1_000_000) u64.MAX }
 {
     u64::try_from(time.as_millis()).unwrap_or(u64::MAX)
 }
 
-// Writes the first row.
 fn write_first<F: Disk>(
     alloc: Global,
     time: &Moment,
@@ -358,7 +347,6 @@ fn write_first<F: Disk>(
     }
 }
 
-/// The text of the first row of a journal that is begun now.
 pub(crate) fn heading_text<R: Clock + AllocGlobal>(
     rt: &R,
     heading: &Heading,
@@ -377,8 +365,7 @@ fn first_text(alloc: Global, time: &Moment, heading: &Heading) -> Result<Vec<u8>
     Ok(text)
 }
 
-// Writes what is left, and then a row, if there is one, in one, and makes that safe. To a file whose name isn't its own
-// any more nothing is written.
+// A file that has lost its name gets nothing more.
 fn write_rows<R: Files + AllocGlobal, F: Disk>(
     rt: &R,
     name: &str,

@@ -29,22 +29,21 @@ use vdcp_list::Rest;
 use vdcp_text::Failure;
 use vdcp_words::Command;
 
-/// What goes on from a journal in a file.
 #[derive(Drop)]
 pub struct Resumption<'a, 'r, R, S: Source, F: Disk = File> {
     /// It plays the list from an event on.
     pub controller: Controller<Rest<S>>,
     /// It appends to the journal. None if the controller has ended: there is nothing to send.
     pub recorder: Option<Recorder<'a, 'r, R, F>>,
-    /// What the runs show that the journal had before, the last one last.
+    /// What the journal's runs showed before this, the last one last.
     pub runs: Vec<RunAirings>,
 }
 
-/// Goes on with the last run of the journal of this name, if it is one of what is wanted: gives its rows to a new
-/// controller of the list, and times out the exchange that was open. If the run was lost, the controller may leave as
-/// many exchanges more unanswered, up to 1,000 in a row in all. A torn last row is cut off, or gets its line feed if it
-/// lacks no more and may have put a clip to air; a torn first one is written, and all rows are made safe. If a row is
-/// refused no other is written.
+/// Goes on with the last run of the journal of this name: its rows make the controller, and the exchange that was open is
+/// timed out. If the run was lost, the limit grows as `RunSoFar` says.
+///
+/// A torn last row is cut off, or gets its line feed if it lacks no more and may have put a clip to air; a torn first one
+/// is written anew. All rows are made safe. If a row is refused no other is written.
 pub fn resume_journal<'a, 'r, 's, R: Files<File = File> + Clock + AllocGlobal, S: Source>(
     rt: &'r R,
     name: &'a str,
@@ -71,7 +70,7 @@ pub fn resume_journal<'a, 'r, 's, R: Files<File = File> + Clock + AllocGlobal, S
     resume_in(rt, name, wanted, source, file)
 }
 
-// The same of the journal in this file, which then has just the lines that were read.
+// The file then has just the lines that were read.
 fn resume_in<'a, 'r, 's, R: Files + Clock + AllocGlobal, S: Source, F: ReadableDisk + Drop>(
     rt: &'r R,
     name: &'a str,
@@ -103,7 +102,6 @@ fn resume_in<'a, 'r, 's, R: Files + Clock + AllocGlobal, S: Source, F: ReadableD
     go_on(rt, name, wanted.unit, file, run)
 }
 
-/// The last run of the journal that the whole lines of this file are.
 pub(crate) fn replay_file<'a, 's, S: Source, F: ReadableDisk>(
     alloc: Global,
     name: &'a str,
@@ -122,7 +120,6 @@ pub(crate) fn replay_file<'a, 's, S: Source, F: ReadableDisk>(
     replay(alloc, name, reader, wanted, source)
 }
 
-/// A reader of all of this file.
 pub(crate) fn reader_of<'a, F: ReadableDisk>(
     name: &'a str,
     file: &F,
@@ -136,7 +133,7 @@ pub(crate) fn reader_of<'a, F: ReadableDisk>(
     }
 }
 
-/// What goes on, in a file of whole rows. If the controller has ended and no row says so, one is written.
+/// If the controller has ended and no row says so, one is written.
 pub(crate) fn go_on<'a, 'r, 's, R: Files + Clock + AllocGlobal, S: Source, F: Disk + Drop>(
     rt: &'r R,
     name: &'a str,
@@ -178,7 +175,7 @@ pub(crate) fn go_on<'a, 'r, 's, R: Files + Clock + AllocGlobal, S: Source, F: Di
     })
 }
 
-// Writes how a controller has ended, with what is pending, unless the journal's last row says so.
+// The journal's last row may say so already.
 fn finish<'a, R: Files + Clock + AllocGlobal, F: Disk + Drop>(
     recorder: &mut Recorder<'a, '_, R, F>,
     outcome: Outcome,
@@ -199,7 +196,7 @@ fn finish<'a, R: Files + Clock + AllocGlobal, F: Disk + Drop>(
     }
 }
 
-// What is still to be written if this command's exchange was timed out, if one was. No clock gives its time.
+// No clock gives the time of the silence.
 fn pending_after(open: Option<Command>) -> Pending
     ensures pending { IsTimedOut «open» result }
     ensures ends { MayHold result }

@@ -5,23 +5,20 @@ ghost use Rattle.vdcp_journal_file.specs.Torn.{closed, closing_left, fits, fits_
 use arrayvec::ArrayVec;
 use std::io::{self, Read};
 
-/// The form of a PLAY's row: 0 is any digit, x any hexadecimal one.
+/// A PLAY's row: 0 is any digit, x any hexadecimal one.
 const PLAY: &[u8; 45] = b"0000-00-00T00:00:00.000Z,sent,play,xxxxxxxxxx";
 
-/// That of a state with the cue done while a clip plays, which announces a PLAY: by the digits D and P.
+/// A state with the cue done while a clip plays, which announces a PLAY: the digits D and P say so.
 const ANNOUNCING: &[u8; 54] = b"0000-00-00T00:00:00.000Z,heard,state DP,xxxxxxxxxxxxxx";
 
-/// How much of a line is held: one that has as much is none of these rows.
+// A line of so many bytes is none of these rows.
 const MOST: usize = 55;
 
-/// A reader of a journal's bytes, and at their end of the line feed that the last row lacks, if that may have put a clip
-/// to air.
+/// Reads a journal's bytes, and behind them the line feed that the last row lacks, if that may have put a clip to air.
 #[derive(Drop)]
 pub(crate) struct Closing<R> {
     reader: R,
-    // What is held of the line that was begun.
     torn: ArrayVec<u8, MOST>,
-    // The reader has come to its end.
     is_over: bool,
 }
 
@@ -60,7 +57,6 @@ impl<R: Read> Read for Closing<R> {
     }
 }
 
-/// Whether a text's last row lacks only its line feed, and may have put a clip to air.
 pub(crate) fn lacks_feed(text: &[u8]) -> bool
     ensures { result ≡ may_air (torn_after [] text.now) }
 {
@@ -69,7 +65,6 @@ pub(crate) fn lacks_feed(text: &[u8]) -> bool
     may_air(torn.as_slice())
 }
 
-// Holds the bytes that come next.
 #[tactic(auto, using(crate::proofs::Closing::torn_next))]
 fn hold(torn: &mut ArrayVec<u8, MOST>, bytes: &[u8])
     ensures { torn.new.items ≡ torn_after torn.old.items bytes.now }
@@ -89,14 +84,12 @@ fn hold_one(torn: &mut ArrayVec<u8, MOST>, byte: u8)
     }
 }
 
-// Whether the row is of a PLAY, or of a state that announces one.
 fn may_air(row: &[u8]) -> bool
     ensures { result ≡ may_air row.now }
 {
     fits(PLAY, row) || fits(ANNOUNCING, row)
 }
 
-// Whether a text has this form.
 fn fits(form: &[u8], text: &[u8]) -> bool
     ensures { result ≡ fits form.now text.now }
 {
@@ -127,21 +120,18 @@ fn is_hex(byte: u8) -> bool
     byte.is_ascii_digit() || (b'a' <= byte && byte <= b'f')
 }
 
-// Whether a state's first digit says that the cue is done.
 fn says_done(byte: u8) -> bool
     ensures { result ≡ says_done byte }
 {
     b'8' <= byte && is_hex(byte)
 }
 
-// Whether its second one says that a clip plays.
 fn says_playing(byte: u8) -> bool
     ensures { result ≡ says_playing byte }
 {
     (b'4' <= byte && byte <= b'7') || (b'c' <= byte && byte <= b'f')
 }
 
-/// Whether the last row that a reader gives lacks only its line feed, and may have put a clip to air.
 pub(crate) fn ends_torn<I: Read>(reader: &mut I) -> io::Result<bool>
     ensures { IfOk result (λ torn. IfSome (I.remaining reader.old) (λ text. torn ≡ may_air (torn_after [] text))) }
 {

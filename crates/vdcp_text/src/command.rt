@@ -9,8 +9,7 @@ use arrayvec::ArrayString;
 use vdcp_value::laws::{a_text_says_its_id, an_id_has_one_text, the_text_of_an_id_is_short};
 use vdcp_words::Command;
 
-/// The command whose text `Command::show` writes so; None if no command has this text. Its words are those of `do_make`,
-/// with one space between them, and its digits are lower-case.
+/// Reads what `Command::show` writes: the words of `do_make` with one space between them and lower-case digits.
 pub fn read_command(text: &[u8]) -> Option<Command>
     ensures read { IfSome result (λ c. command_text c ≡ text.now) }
     ensures accepts { (c : Command) → IsWritableCommand c → command_text c ≡ text.now → result ≡ Some c }
@@ -27,7 +26,7 @@ pub fn read_command(text: &[u8]) -> Option<Command>
     }
 }
 
-// The command whose text this is; of a text that is no command's, whatever its words name.
+// If the text is no command's it may give any command: the caller compares.
 fn command_in(text: &str) -> Option<Command>
     ensures { (c : Command) → IsWritableCommand c → command_text c ≡ text.now → result ≡ Some c }
 {
@@ -49,7 +48,7 @@ fn command_in(text: &str) -> Option<Command>
     }
 }
 
-// An ID, which may have spaces, and two time codes of eight digits.
+// It is read from its end, since the ID may have spaces.
 fn part_in(text: &str) -> Option<(&str, &str, &str)>
     ensures { (id start duration : List ℕ) → text.now ≡ id ++ 32 ∷ (start ++ 32 ∷ duration) →
         length start ≡ 8 → length duration ≡ 8 →

@@ -3,7 +3,6 @@ use arrayvec::ArrayString;
 use std::fmt;
 use vdcp_auto::{Exchange, Heard};
 
-// What was heard: the text of a reply, `other`, or `silence`.
 #[derive(Clone, Copy)]
 struct HeardText(Option<Heard>);
 
@@ -27,7 +26,7 @@ impl fmt::Display for HeardText {
     }
 }
 
-/// An exchange: the text of the command, and what was heard.
+/// Shows `COMMAND -> HEARD`; for a time-out HEARD is `silence`, for what is no reply `other`.
 #[derive(Clone, Copy)]
 pub struct ExchangeText(pub Exchange);
 

@@ -8,75 +8,58 @@ use std::alloc::AllocError;
 use std::{fmt, io};
 use vdcp_value::RowFault;
 
-/// Why a subcommand gives up.
+/// Why a subcommand gives up. A text is the file's name; rows and lines are counted from 1, events from 0.
 #[derive(Clone, Copy)]
 pub enum Failure<'a> {
     /// The argument isn't an even number of hexadecimal digits.
     Hex,
     /// No command has this name.
     Word,
-    /// The command has another number of arguments, or a byte, a time code or an ID isn't its text.
+    /// The number of arguments is wrong, or one isn't the byte, time code or ID that the command takes.
     Arguments,
-    /// A word of the command line isn't text.
+    /// A word of the command line isn't UTF-8.
     Text,
-    /// The file of this name can't be opened.
     Open(&'a str),
-    /// The file of this name can't be read.
     Read(&'a str),
-    /// A row of the file of this name, counted from 1, is refused.
     Row(&'a str, usize, RowFault),
-    /// A line of the script or capture of this name, counted from 1, is refused.
     ScriptLine(&'a str, usize, ScriptLineFault),
-    /// The script of this name has too many events.
     TooManyEvents(&'a str),
-    /// The script or capture of this name isn't UTF-8.
+    /// The script or capture isn't UTF-8.
     NotText(&'a str),
-    /// The capture of this name has no message.
+    /// The capture has no message.
     Empty(&'a str),
-    /// The file of this name can't be written.
     Write(&'a str),
-    /// The file of this name, which was to be made, is the list.
+    /// The file that was to be made is the list.
     IsList(&'a str),
-    /// The file of this name, which was to be made, exists.
     Exists(&'a str),
-    /// The file of this name is in use by another run.
+    /// Another run has locked the file.
     InUse(&'a str),
-    /// A row of the journal of this name, counted from 1, is refused.
     JournalRow(&'a str, usize, JournalFault),
-    /// The list of this name isn't the journal's.
+    /// The list isn't the journal's.
     NotTheList(&'a str),
-    /// The event of this number, counted from 0, may have aired.
     MayHaveAired(usize),
-    /// The list has no event of this number, counted from 0.
     NoEvent(usize),
-    /// The address isn't an IPv4 address, a colon and a TCP port.
+    /// It isn't an IPv4 address, a colon and a TCP port.
     Address,
-    /// Nobody takes the connection.
     Connect,
-    /// Something is cued at the port that is to be played through, or plays there.
+    /// A clip is cued or plays at the port, which has to be empty.
     NotEmpty,
-    /// The address can't be listened at, or no connection is taken there.
+    /// The address can't be listened at, or no connection comes.
     Bind,
-    /// The line to the other end failed.
     LineFailed,
-    /// The other end has closed the line.
     LineClosed,
-    /// The other end has answered nothing.
     Unanswered,
-    /// The listens are used up.
+    /// The run has made as many listens as it may.
     Spent,
-    /// Memory was refused.
     Memory,
-    /// A writer failed.
     Writer,
 }
 
 impl Failure<'_> {
     ghost use Rattle.vdcp_text.specs.Failure.{failure_line, status_of};
 
-    /// Reports the failure to `err` in one line and gives the exit status: 1 for refused data, for a port that isn't
-    /// empty and for an event that a run can't begin with, 2 for words that aren't text and for an address that is
-    /// none, and 3 for the others. The status is also 3 if the line can't be written. `Writer` writes no line.
+    /// Reports the failure to `err` in one line, none for `Writer`, and gives the exit status: 1 for refused data, a port
+    /// that isn't empty and an event that no run begins with, 2 for `Text` and `Address`, 3 for the rest or if `err` fails.
     pub fn report<E: io::Write>(self, err: &mut E) -> u8
         ensures status { (result ≡ status_of self.entry) ⊎ (result ≡ 3) }
         ensures told { result < 3 → Appends (E.contents err.old) (E.contents err.new) (failure_line self.entry) }
@@ -91,7 +74,6 @@ impl Failure<'_> {
         }
     }
 
-    // The exit status.
     fn status(self) -> u8
         ensures { result ≡ status_of self.entry }
     {
@@ -157,16 +139,12 @@ impl<'a> Failure<'a> {
     }
 }
 
-// The words of a failure. (Told at once by each arm, they cost several times as much to prove.)
+// Without it a proof of all arms at once costs several times as much.
 #[derive(Clone, Copy)]
 enum Words<'a> {
-    // These.
     Plain(&'static str),
-    // A file's name, and these.
     File(&'a str, &'static str),
-    // A file's name, what is counted there, its number, and its fault.
     Place(&'a str, &'static str, usize, &'static str),
-    // An event's number between these.
     Event(&'static str, usize, &'static str),
 }
 
@@ -199,16 +177,15 @@ impl From<AllocError> for Failure<'_> {
     }
 }
 
-/// Why a line of a script or of a capture is refused.
+/// Why a line of a script or a capture is refused.
 #[derive(Clone, Copy)]
 pub enum ScriptLineFault {
-    /// It hasn't the words of an event, or in a capture the form of a line.
+    /// It hasn't the words of an event, or the form of a capture's line.
     Word,
-    /// Its number isn't one that it can have.
+    /// Its number isn't of its form, or out of its range.
     Number,
-    /// Its bytes aren't such as it can have.
+    /// Its bytes aren't of their form, or too many.
     Hex,
-    /// It has more than 64 KiB.
     Long,
 }
 
@@ -227,44 +204,33 @@ impl ScriptLineFault {
     }
 }
 
-/// Why a row of a journal is refused.
+/// Why a row of a journal is refused. `List`, `Unit`, `Port` and `Limit`: the heading has another than the run.
 #[derive(Clone, Copy)]
 pub enum JournalFault {
-    /// There is none.
     Empty,
-    /// It has a wrong number of fields.
     Columns,
-    /// It has no time.
     Time,
     /// Its second field is no word of a journal.
     Word,
-    /// It has no digest.
     Digest,
-    /// It has no mode, or another one than is wanted.
+    /// It has no mode, or another than the run.
     Mode,
-    /// It has a number that can't be.
     Number,
-    /// It is of another list.
     List,
-    /// It is of another unit.
     Unit,
-    /// It is of another port.
     Port,
-    /// It is of another limit.
     Limit,
-    /// It has no command, or one that the controller doesn't send there.
+    /// It names no command, or one that the controller doesn't send there.
     Command,
-    /// It has no reply.
     Reply,
-    /// It has more than its word.
+    /// It has a text or bytes that its word doesn't take.
     Detail,
-    /// The controller awaits no such thing there.
+    /// The controller doesn't await that there.
     Unawaited,
-    /// It has no event to begin with, or one that the list hasn't.
+    /// It names no event to begin with, or one that the list hasn't.
     Event,
-    /// It has no outcome, or one that the controller doesn't come to there.
+    /// It names no outcome, or one that the controller doesn't come to there.
     Outcome,
-    /// It has more than 64 KiB.
     Long,
 }
 
@@ -297,7 +263,6 @@ impl JournalFault {
     }
 }
 
-// Why a row of a file is refused, in a word or two.
 fn row_fault_text(fault: RowFault) -> &'static str
     ensures { result.now ≡ row_fault_text fault }
 {

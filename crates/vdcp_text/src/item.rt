@@ -10,7 +10,7 @@ use std::fmt;
 use vdcp_value::laws::a_time_code_has_lawful_bytes;
 use vdcp_value::{Item, Rate, Timecode};
 
-// A time code of a part at a rate, or hexadecimal digits if its bytes write none.
+// Bytes that write no time code at the rate are shown in hexadecimal digits.
 #[derive(Clone, Copy)]
 struct TimeText {
     rate: Rate,
@@ -35,7 +35,6 @@ impl fmt::Display for TimeText {
     }
 }
 
-// The time code that four bytes write at a rate, if they write one.
 fn lawful_time(rate: Rate, bytes: [u8; 4]) -> Option<Timecode>
     ensures some { IfSome result (λ time. shown_time rate bytes ≡ text_of time) }
     ensures none { IfNone result (shown_time rate bytes ≡ encode_lower bytes) }
@@ -47,7 +46,7 @@ fn lawful_time(rate: Rate, bytes: [u8; 4]) -> Option<Timecode>
     }
 }
 
-/// An item at a rate: its ID, and of a part its start and duration.
+/// Shows a clip as its ID, a part as its ID, start and duration.
 #[derive(Clone, Copy)]
 pub struct ItemText {
     pub rate: Rate,

@@ -1,10 +1,5 @@
-//! Messages, items, outcomes, exchanges and failures as text, and the subcommands `show` and `make`, which
-//! need no more than that.
-//!
-//! `HexText`, `ByteText`, `DataText`, `MessageText`, `MeaningText`, `EndText`, `ItemText`, `OutcomeText`,
-//! `ExchangeText` and `NameText` are shown by `Display`, each with its exact text. A `Failure` is why a subcommand gives up:
-//! its `Display` is what standard error gets, and `Failure::report` gives the exit status. `do_show` shows a
-//! burst's reading, `do_make` makes the bytes of a command, and `read_command` reads one of its text.
+//! Messages, items, outcomes, exchanges and failures as text (`Display`), commands read from their text (`read_command`),
+//! and the subcommands `show` and `make` (`do_show`, `do_make`).
 //!
 //! Files, in reading order: `text`, `name`, `item`, `outcome`, `exchange`, `failure`, `show`, `make`, `command`.
 #![tactic(auto)]

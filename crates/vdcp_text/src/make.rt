@@ -16,11 +16,9 @@ use std::io;
 use vdcp_value::ClipId;
 use vdcp_words::Command;
 
-/// Makes a command to a unit, which is at most 15, of its words: the command's name and its
-/// arguments. `out` gets its bytes, in hexadecimal digits in one line.
+/// Writes the bytes of the command that the words name, addressed to `unit`, as one line of hexadecimal digits.
 ///
-/// The status is 0 if it is made; 1 if no command has these words, and then `err` gets a line
-/// that says why; and 3 if a writer failed: nothing more is written to that one.
+/// The status is 0 if that is done, 1 if no command has these words (`err` says why), and 3 if a writer failed.
 pub fn do_make<W: io::Write, E: io::Write>(
     word: &str,
     arguments: &[&str],
@@ -45,7 +43,6 @@ pub fn do_make<W: io::Write, E: io::Write>(
     }
 }
 
-// Writes the bytes of the command that the words name.
 fn make<W: io::Write>(
     word: &str,
     arguments: &[&str],
@@ -66,7 +63,6 @@ fn make<W: io::Write>(
     write_digits(out, command.encode(unit).as_slice()).map_err(|_| Failure::Writer)
 }
 
-// Why words are refused that begin with this one and name no command.
 fn fault_of(word: &str) -> Failure<'static>
     ensures { IsMakeFault word.now result }
 {
@@ -86,7 +82,6 @@ fn fault_of(word: &str) -> Failure<'static>
     }
 }
 
-// Writes bytes in hexadecimal digits, in one line.
 fn write_digits<W: io::Write>(out: &mut W, bytes: &[u8]) -> io::Result<()>
     ensures { OnOk result (Appends (W.contents out.old) (W.contents out.new) (line (encode_lower bytes.now))) }
 {
@@ -95,7 +90,6 @@ fn write_digits<W: io::Write>(out: &mut W, bytes: &[u8]) -> io::Result<()>
     out.flush()
 }
 
-// The command that the words name.
 fn command_of(word: &str, arguments: &[&str]) -> Option<Command>
     ensures some { IfSome result (Names (words_of word.now arguments.now)) }
     ensures none { IfNone result (NamesNone (words_of word.now arguments.now)) }
@@ -109,7 +103,6 @@ fn command_of(word: &str, arguments: &[&str]) -> Option<Command>
     }
 }
 
-/// The command of this name that has no arguments.
 pub(crate) fn with_none(word: &str) -> Option<Command>
     ensures some { IfSome result (Names (word.now ∷ [])) }
     ensures none { IfNone result (NamesNone (word.now ∷ [])) }
@@ -122,7 +115,6 @@ pub(crate) fn with_none(word: &str) -> Option<Command>
     }
 }
 
-/// The command of this name that has one argument.
 pub(crate) fn with_one(word: &str, argument: &str) -> Option<Command>
     ensures some { IfSome result (Names (word.now ∷ argument.now ∷ [])) }
     ensures none { IfNone result (NamesNone (word.now ∷ argument.now ∷ [])) }
@@ -138,7 +130,6 @@ pub(crate) fn with_one(word: &str, argument: &str) -> Option<Command>
     }
 }
 
-/// The command of this name that has two arguments: OPEN, of a port and a lock.
 pub(crate) fn with_two(word: &str, port: &str, lock: &str) -> Option<Command>
     ensures some { IfSome result (Names (word.now ∷ port.now ∷ lock.now ∷ [])) }
     ensures none { IfNone result (NamesNone (word.now ∷ port.now ∷ lock.now ∷ [])) }
@@ -149,7 +140,6 @@ pub(crate) fn with_two(word: &str, port: &str, lock: &str) -> Option<Command>
     }
 }
 
-/// The command of this name that has three arguments: CUE WITH DATA, of an ID and two time codes.
 pub(crate) fn with_three(word: &str, id: &str, start: &str, duration: &str) -> Option<Command>
     ensures some { IfSome result (Names (word.now ∷ id.now ∷ start.now ∷ duration.now ∷ [])) }
     ensures none { IfNone result (NamesNone (word.now ∷ id.now ∷ start.now ∷ duration.now ∷ [])) }
@@ -160,7 +150,6 @@ pub(crate) fn with_three(word: &str, id: &str, start: &str, duration: &str) -> O
     }
 }
 
-// The byte of two hexadecimal digits.
 fn byte_of(text: &str) -> Option<u8>
     ensures some { IfSome result (IsByteText text.now) }
     ensures none { IfNone result ((byte : ℕ) → ¬ IsByteText text.now byte) }
@@ -171,7 +160,6 @@ fn byte_of(text: &str) -> Option<u8>
     }
 }
 
-// The bytes of a time code, in eight hexadecimal digits.
 fn time_of(text: &str) -> Option<[u8; 4]>
     ensures some { IfSome result (IsTimeText text.now) }
     ensures none { IfNone result ((time : List ℕ) → ¬ IsTimeText text.now time) }

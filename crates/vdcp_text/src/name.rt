@@ -2,8 +2,7 @@
 use crate::text::ByteText;
 use std::fmt;
 
-/// A file's name as it is shown: as it was given, but for each control character, in whose place stand `\x` and the two
-/// lower-case hexadecimal digits of its number, so that none reaches a terminal.
+/// Shows a file's name, each control character as `\x` and two hexadecimal digits, so that none reaches a terminal.
 #[derive(Clone, Copy)]
 pub struct NameText<'a>(pub &'a str);
 
@@ -22,7 +21,6 @@ impl fmt::Display for NameText<'_> {
     }
 }
 
-// A character of a name as it is shown.
 #[derive(Clone, Copy)]
 struct CharText(char);
 

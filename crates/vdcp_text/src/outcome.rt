@@ -2,7 +2,7 @@
 use std::fmt;
 use vdcp_auto::Outcome;
 
-/// How a controller ended, or `open`.
+/// Shows how a controller ended, or `open` if it hasn't.
 #[derive(Clone, Copy)]
 pub struct OutcomeText(pub Option<Outcome>);
 

@@ -1,4 +1,4 @@
-//! The subcommand `show`: a burst's reading, line by line.
+//! The subcommand `show`: it prints what a burst says, message by message.
 ghost use Rattle.std.specs.Prelude.{◌≡◌, ◌⊎◌, IfOk, IfErr, OnErr, OnOk, IsErr, IsOk, IsOkAnd};
 ghost use Rattle.std.specs.Io.KnownBytes.{Appends, Keeps};
 ghost use Rattle.hex.specs.Hex.{decode_of};
@@ -18,13 +18,11 @@ use std::io;
 use vdcp_frame::laws::one_reading;
 use vdcp_frame::{End, Message, Messages};
 
-/// Shows the burst that hexadecimal digits spell: a line for each of its messages, with `meanings`
-/// also the command or reply that it carries, and then one for its end.
+/// Prints a line for each message of the burst that `hex` spells, with `meanings` also what it carries, and one for the
+/// burst's end. Then `out` is flushed.
 ///
-/// The status is 0 if the end is clean, and 1 if it isn't. It is also 1 if `hex` isn't an
-/// even number of hexadecimal digits, and 3 if memory was refused; `err` gets a line of either.
-/// It is 3 if a writer failed: nothing more is written to that one. `out` is flushed after the
-/// last line.
+/// The status is 0 for a clean end, 1 for another or if `hex` isn't an even number of digits, and 3 if memory was refused
+/// or a writer failed. `err` gets a line of bad digits and of refused memory. A writer that failed gets nothing more.
 pub fn do_show<A: Allocator, W: io::Write, E: io::Write>(
     alloc: A,
     hex: &str,
@@ -32,7 +30,6 @@ pub fn do_show<A: Allocator, W: io::Write, E: io::Write>(
     out: &mut W,
     err: &mut E,
 ) -> u8
-    // The status is 1 for an end that isn't clean, and for what isn't digits.
     ensures { IsSubcommand (IsShown meanings hex.now)
         (λ old new err err'. IsErr (decode_of hex.now) × Keeps old new × Appends err err' (failure_line Failure.Hex))
         (IsOk (decode_of hex.now))
@@ -45,7 +42,6 @@ pub fn do_show<A: Allocator, W: io::Write, E: io::Write>(
     }
 }
 
-// Decodes the digits and writes the burst's reading.
 fn show<A: Allocator, W: io::Write>(
     alloc: A,
     hex: &str,
@@ -66,7 +62,6 @@ fn show<A: Allocator, W: io::Write>(
     write_reading(out, meanings, burst.as_slice()).map_err(|_| Failure::Writer)
 }
 
-// Writes a burst's reading, and gives its end.
 fn write_reading<W: io::Write>(out: &mut W, meanings: bool, burst: &[u8]) -> io::Result<End>
     ensures { IfOk result (λ end. GainsReading meanings burst.now (W.contents out.old) (W.contents out.new)
         (end_seen end)) }
@@ -77,7 +72,6 @@ fn write_reading<W: io::Write>(out: &mut W, meanings: bool, burst: &[u8]) -> io:
     Ok(end)
 }
 
-// Writes the lines of a burst's messages, and gives the burst's end.
 fn write_messages<W: io::Write>(out: &mut W, meanings: bool, burst: &[u8]) -> io::Result<End>
     ensures end { IfOk result (λ end. end_seen end ≡ end_of burst.now) }
     ensures text { OnOk result (Appends (W.contents out.old) (W.contents out.new)
@@ -90,7 +84,6 @@ fn write_messages<W: io::Write>(out: &mut W, meanings: bool, burst: &[u8]) -> io
     Ok(messages.end())
 }
 
-// Writes the line of a message.
 fn write_message<W: io::Write>(out: &mut W, meanings: bool, message: Message<'_>) -> io::Result<()>
     ensures { OnOk result (Appends (W.contents out.old) (W.contents out.new)
         (line (shown_text meanings (content_of message.entry)))) }
@@ -104,7 +97,6 @@ fn write_message<W: io::Write>(out: &mut W, meanings: bool, message: Message<'_>
     }
 }
 
-// Writes the line of a burst's end, and flushes.
 fn write_end<W: io::Write>(out: &mut W, end: End) -> io::Result<()>
     ensures { OnOk result (Appends (W.contents out.old) (W.contents out.new) (line (end_text (end_seen end)))) }
 {

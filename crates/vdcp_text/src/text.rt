@@ -4,7 +4,6 @@ use std::{fmt, str};
 use vdcp_frame::{End, Fault, Message};
 use vdcp_words::{Command, Reply};
 
-/// Bytes as lower-case hexadecimal digits, two for each.
 #[derive(Clone, Copy)]
 pub struct HexText<'a>(pub &'a [u8]);
 
@@ -26,7 +25,6 @@ impl fmt::Display for HexText<'_> {
     }
 }
 
-/// A byte as two lower-case hexadecimal digits.
 #[derive(Clone, Copy)]
 pub struct ByteText(pub u8);
 
@@ -41,7 +39,7 @@ impl fmt::Display for ByteText {
     }
 }
 
-/// Data as lower-case hexadecimal digits, or a dash if there is none.
+/// Shows data as lower-case hexadecimal digits, and no data as a dash.
 #[derive(Clone, Copy)]
 pub struct DataText<'a>(pub &'a [u8]);
 
@@ -59,7 +57,7 @@ impl fmt::Display for DataText<'_> {
     }
 }
 
-/// A message as it is shown: `ack`, `nak BB`, or `unit U type T code BB data D`.
+/// Shows a message: `ack`, `nak BB`, or `unit U type T code BB data D`.
 #[derive(Clone, Copy)]
 pub struct MessageText<'a>(pub Message<'a>);
 
@@ -91,8 +89,7 @@ impl fmt::Display for MessageText<'_> {
     }
 }
 
-/// What a message says: ` = ` and the text of the command or reply that it carries. It is empty
-/// if it carries neither, and for ACK and NAK.
+/// Shows ` = ` and the command or reply that a message carries; nothing if it carries neither.
 #[derive(Clone, Copy)]
 pub struct MeaningText<'a>(pub Message<'a>);
 
@@ -120,7 +117,7 @@ impl fmt::Display for MeaningText<'_> {
     }
 }
 
-/// How a burst ends.
+/// Shows how a burst ends: `clean`, `cut COUNT`, or `fault` with its name and place.
 #[derive(Clone, Copy)]
 pub struct EndText(pub End);
 
