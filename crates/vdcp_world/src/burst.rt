@@ -1,4 +1,4 @@
-//! The burst that an event puts on the way.
+//! The bytes that an event puts on the way.
 ghost use Rattle.std.specs.Prelude.{◌≡◌, ◌==◌};
 ghost use Rattle.std.specs.Cmp.Lexicographic.{pointwise};
 ghost use Rattle.std.proofs.Common.{rules};
@@ -6,7 +6,7 @@ ghost use Rattle.std.specs.Cmp.Rules.{comparing};
 
 use std::marker::Model;
 
-/// The bytes of an altered burst. None at all mean that the burst is gone.
+/// The bytes of an altered burst. If there are none, the burst is gone.
 #[derive(Debug, Drop)]
 pub struct Burst {
     bytes: Vec<u8>,
@@ -21,14 +21,12 @@ impl Model for Burst {
 }
 
 impl Burst {
-    /// A burst of these bytes.
     pub fn new(bytes: Vec<u8>) -> Burst
         ensures { result ≡ bytes.items }
     {
         Burst { bytes }
     }
 
-    /// Its bytes, in order.
     pub fn bytes(&self) -> &[u8]
         ensures { result.now ≡ self.now }
     {

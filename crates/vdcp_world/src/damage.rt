@@ -8,19 +8,16 @@ use crate::heard;
 use vdcp_auto::{Controller, Source};
 use vdcp_frame::whole_messages;
 
-/// How many bytes can be on the way in place of others.
 pub(crate) const MOST_BYTES: usize = 1024;
 
-/// Whether damage can make these bytes of a burst that is on the way, or of nothing: they are 1,024 at most, and
-/// no more can be read of them than a beginning of the messages that could be read before.
+/// Whether damage can make these bytes of what is on the way, or of nothing: they are 1,024 at most, and what can be read
+/// of them is a beginning of the messages that could be read before.
 pub fn can_become(way: &[u8], bytes: &[u8]) -> bool
     ensures { result ≡ channel.can_become way.now bytes.now }
 {
     bytes.len() <= MOST_BYTES && is_beginning(bytes, way)
 }
 
-/// Whether what is on the way up can become these bytes; in confirm mode they may also begin with ACK
-/// or NAK.
 pub(crate) fn can_become_up<S: Source>(
     controller: &Controller<S>,
     unit: u8,
@@ -35,7 +32,6 @@ pub(crate) fn can_become_up<S: Source>(
     controller.is_confirming() && bytes.len() <= MOST_BYTES && heard::is_receipt_first(bytes, unit)
 }
 
-/// Whether the messages of a burst are the first ones of another's.
 fn is_beginning(burst: &[u8], other: &[u8]) -> bool
     ensures { result ≡ is_beginning (messages_of burst.now) (messages_of other.now) }
 {

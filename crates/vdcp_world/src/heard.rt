@@ -6,7 +6,6 @@ use vdcp_auto::Heard;
 use vdcp_frame::Messages;
 use vdcp_words::Reply;
 
-/// What a controller at this unit hears of a burst: its first message.
 pub(crate) fn first_of(burst: &[u8], unit: u8) -> Option<Heard>
     ensures { result ≡ heard_in unit burst.now }
 {
@@ -14,7 +13,6 @@ pub(crate) fn first_of(burst: &[u8], unit: u8) -> Option<Heard>
     Some(Heard::of_message(&message, unit))
 }
 
-/// Whether ACK or NAK is the first message of a burst.
 pub(crate) fn is_receipt_first(burst: &[u8], unit: u8) -> bool
     ensures { result ≡ hears_receipt (heard_in unit burst.now) }
 {

@@ -1,5 +1,5 @@
-//! The laws of a line that holds one burst each way, and then those of a line that keeps order, however late. The
-//! functions do nothing: their contracts are the laws, and a caller whose proof needs one calls it.
+//! The laws of a line that holds one burst each way, and of one that keeps order, however late. `docs/PROOFS.md` has them
+//! in words, with their premises. The functions do nothing: a caller whose proof needs a law calls its function.
 ghost use Rattle.std.specs.Prelude.{ℕ, ◌≡◌, ◌≤◌, ◌<◌, All, IfSome, IsTrue, List, [], bit_and};
 ghost use Rattle.vdcp_value.specs.Parts.{IsItem};
 ghost use Rattle.vdcp_port.specs.Clips.{is_playable};
@@ -24,27 +24,15 @@ ghost use Rattle.vdcp_world.specs.LateLine.LateHeadline.{LateHeadline};
 ghost use Rattle.vdcp_world.specs.NoCut.{NoCut};
 ghost use Rattle.vdcp_world.specs.declared.event.Event.{Event};
 
-/// Whatever happened on the line from a new channel on (deliveries, losses, detected damage, copies,
-/// time-outs, cue completions, clip ends, frames, the operator's calls, and in confirm mode receipts from
-/// nowhere), in either mode, with whatever playlist and catalogue:
-///
-/// - what went to air is a beginning of the playlist, each event once and in order;
-/// - the events reported as aired are a beginning of these, shorter by one at most, and are those that the
-///   log shows to be aired;
-/// - the rule book allows each command of the log where it stands, and the one that is awaited;
-/// - Done means that the whole playlist went to air and is reported; Missing(k), that event k's clip isn't
-///   in the catalogue, and Refused(k), in plain mode, that event k is a part that doesn't fit its clip, and
-///   in confirm mode, that `limit` or more empty statuses came after a cue of event k, since which nothing
-///   settled; and both, that the events before k went to air and are reported;
-/// - the controller never ends Denied, Foreign or Strange.
+/// Whatever events led here from a new channel, the headline holds: what went to air is a beginning of the playlist, each
+/// event once and in order; what is reported is that, or one event less; and each outcome means what `Means` says.
 pub fn reached_keeps_the_headline()
     ensures { (c : Channel) → IsReached c → Headline c }
 {
     crates_below();
 }
 
-/// The same from a port in whatever state: open or closed, selected, while a clip plays, and in plain mode with something
-/// cued, if the list has an event. (An empty list ends Strange(0) there: what is cued shows.)
+/// The same from a port in any state; in plain mode something may be cued if the list has an event.
 pub fn any_port_keeps_the_headline()
     ensures { (plan : Plan) (port : ClockedPort) (events : List Event) → CanRun plan port →
         Headline (after_events (channel_to plan port) events) }
@@ -52,36 +40,23 @@ pub fn any_port_keeps_the_headline()
     crates_below();
 }
 
-/// In plain mode, from whatever channel that events have led to, as long as the controller hasn't ended and
-/// awaits nothing, and no stop is wished for or was sent; and in confirm mode from a new channel:
-/// if each item of the playlist is in the catalogue, and each part fits its clip, enough good rounds
-/// bring the whole playlist to air, all of it reported, and the controller to Done. In plain mode five
-/// rounds for each event that isn't reported, and four, are enough, and in confirm mode six for each event,
-/// and six; and so is any greater number. That good rounds ever come isn't said.
+/// If the list is playable, enough good rounds bring all of it to air and the controller to Done: in plain mode if nothing
+/// is awaited, it hasn't ended, and no stop is wished for or was sent; in confirm mode from a new channel.
 pub fn good_rounds_bring_all_to_air()
     ensures { (c : Channel) → IsReached c → BoundedEnd c }
 {
     crates_below();
 }
 
-/// In confirm mode, from whatever channel that events have led to, if each item of the playlist is in the
-/// catalogue, and each part fits its clip: six good rounds for each event that isn't reported, and six, or more,
-/// bring the whole playlist to air, all of it reported, and the controller to Done,
-///
-/// - if nothing is on the way, no stop is wished for, and the port did what the controller's stage presumes;
-/// - and if nothing is awaited, the controller hasn't ended, no stop is wished for or was sent, and neither one
-///   empty status more nor one unanswered exchange more ends it.
+/// The same in confirm mode from a channel that is in step (`GoesInStep`) or can catch up (`CanCatchUp`).
 pub fn good_rounds_bring_the_rest_to_air()
     ensures { (c : Channel) → IsReached c → InStepEnd c }
 {
     crates_below();
 }
 
-/// Where nothing was lost, copied, damaged or forged since a new controller began, at most one way has something, and none
-/// if no answer is awaited. If besides nothing was cued then, each item of the playlist is in the catalogue, each part fits
-/// its clip, and the operator didn't stop, each exchange leads on but one whose state says that something is being cued or
-/// that a clip plays: but for these there are five exchanges for each event, and four, at most, in confirm mode six, and
-/// five. Once they are as many the whole playlist went to air, and is reported, and the controller is Done.
+/// Where nothing was lost, copied, damaged or forged, at most one way has something; and if nothing was cued at first, a
+/// playable list that isn't stopped has aired whole after so many exchanges (`PlaysOn`).
 pub fn what_loses_nothing_plays_the_list()
     ensures line { (plan : Plan) (port : ClockedPort) (events : List Event) → All LosesNone events →
         HasOneWay (after_events (channel_to plan port) events) }
@@ -93,53 +68,30 @@ pub fn what_loses_nothing_plays_the_list()
     crates_below();
 }
 
-/// Whatever happened on the line from a new channel on: in plain mode Done and Stopped leave the port closed, with
-/// nothing cued and nothing playing. In confirm mode Done leaves nothing cued and nothing playing; whether the port
-/// has closed nothing shows, and after Stopped anything may play, since STOP and CLOSE may have been lost.
+/// In plain mode Done and Stopped leave the port closed and both slots empty; in confirm mode Done leaves them empty.
 pub fn an_end_leaves_the_port_at_rest()
     ensures { (c : Channel) → IsReached c → IfSome (outcome_of c.state.stage) (LeavesPort c.plan.mode c.port.state) }
 {
     crates_below();
 }
 
-/// Whatever happened on the line from a new channel on, a PLAY cuts short a clip that is on air only if the
-/// operator took: never if he hasn't taken at all; and otherwise he has taken since the PLAY went out last that put
-/// that clip on air.
+/// A PLAY cuts short a clip that is on air only if the operator took since the PLAY that aired the clip went out last.
 pub fn no_cut_without_a_take()
     ensures { (c : Channel) → IsReached c → NoCut c }
 {
     crates_below();
 }
 
-/// Whatever happened on a line that keeps order, from a new controller on: deliveries as late as they like, losses,
-/// detected damage, copies in their place, junk, forged NAKs, time-outs at any moment, questions beside the controller's
-/// commands where they may be asked, cue completions, clip ends, frames, the operator's calls, the server started anew,
-/// the automation started anew; in plain mode from a port in whatever state, and in confirm mode, with receipts from nowhere, from a port with nothing cued; with what asked the
-/// port before, and its answers, still on the way; with whatever playlist and catalogue:
-///
-/// - what went to air is a beginning of the playlist, each event once and in order;
-/// - the events reported as aired are a beginning of these, shorter by one at most, and are those that the log shows
-///   to be aired; if no PLAY stands after the last exchange that settles, the awaited one included, they are all
-///   that went to air;
-/// - the rule book allows each command of the log where it stands, and the one that is awaited;
-/// - Done means that the whole playlist went to air and is reported; Denied, that nothing did; Missing(k), that event
-///   k's clip isn't in the catalogue, and in confirm mode Refused(k), that `limit` or more empty statuses came after a
-///   cue of event k, since which nothing settled; and both, as Strange(k), that the events before k went to air and are
-///   reported; Foreign(k), that k and those before it did and are; Lost, that the log shows it lost;
-/// - so after each of these but Lost all that went to air is reported; in plain mode not after Refused, which may be
-///   forged or stale, nor in either mode after Stopped.
+/// The headline also holds on a line that keeps order, however late, with ends that are restarted. There a stale or forged
+/// answer may end a run Denied, Strange(k), Foreign(k) or Refused(k).
 pub fn a_late_line_keeps_the_headline()
     ensures { (c : LateChannel) → IsLateReached c → LateHeadline c }
 {
     crates_below();
 }
 
-/// From a start on, whatever events happen on a line that keeps order, one after another, the headline holds after each
-/// of them, and what the channel was made with stays: playlist, mode, limit, catalogue, unit, numbers, and how many
-/// frames a cue takes.
-///
-/// A start with nothing on the way is one in plain mode from a port in whatever state, and in confirm mode from one whose
-/// cued slot is empty: bits 1 and 7 of its state byte are off. Something may play. The limit is 1 to 1,000.
+/// The same after whatever events from a start, none of which changes what the channel was made with. In confirm mode a
+/// start has an empty cued slot: bits 1 and 7 of the state byte are off.
 pub fn a_late_run_keeps_the_headline()
     ensures headline { (plan : Plan) (port : ClockedPort) (down up : List (List ℕ)) (events : List LateEvent) →
         CanStart plan port down up → LateHeadline (after_late_events (new_late_channel plan port down up) events) }
@@ -152,28 +104,22 @@ pub fn a_late_run_keeps_the_headline()
     a_late_line_keeps_the_headline();
 }
 
-/// Whatever happens on a line that holds one burst each way happens on one that keeps order: each event of the one is
-/// some events of the other. So a channel that events of the one have led to is one that events of the other lead
-/// to, and what holds of each late channel holds of it.
+/// What happens on a line of one burst each way can happen on one that keeps order: each event is some of the other's.
 pub fn a_line_of_one_burst_keeps_order()
     ensures event { (c : Channel) (e : Event) →
         (events : List LateEvent) × (after_late_events (late_of c) events ≡ late_of (after_event c e)) }
     ensures reached { (c : Channel) → IsReached c → IsLateReached (late_of c) }
 {}
 
-/// An automation that is killed and goes on from what was kept of it has done nothing that the line couldn't have done.
-/// Whatever happened since the last of what is kept, if no command was given out: with the controller as it was then,
-/// its exchange timed out, and all else as it is now, the channel is one that events lead to. What the automation
-/// heard since was lost on its way, and then a time-out came.
+/// An automation that is killed and goes on from what was kept did nothing that the line couldn't have done, if it has
+/// given no command since: what it heard since was lost on its way, and then a time-out came.
 pub fn a_killed_automation_goes_on()
     ensures reached { (c : LateChannel) (events : List LateEvent) → IsLateReached c → All IsNoTick events →
         IsLateReached (gone_on c (after_late_events c events)) }
-    // and each event that happens then leads on
     ensures event { (c : LateChannel) (events : List LateEvent) → IsLateReached c →
         IsLateReached (after_late_events c events) }
 {}
 
-/// What the laws of this crate take from those of the crates below.
 pub(crate) fn crates_below()
     ensures { Below }
 {

@@ -1,4 +1,4 @@
-//! What each event does to a world, over bytes.
+//! What each event does to a world, in bytes.
 ghost use Rattle.std.specs.Prelude.{◌≡◌, ◌≤◌, [], ◌++◌, OnOk, OnErr};
 ghost use Rattle.vdcp_auto.specs.Course.{logged};
 ghost use Rattle.vdcp_auto.specs.Plan.{plan_of};
@@ -23,8 +23,6 @@ use vdcp_port::{Catalogue, Port};
 use vdcp_value::Item;
 use vdcp_words::{Command, Reply};
 
-/// A controller and a port, what is on the way between them, and what came of it: a world, without what
-/// is promised of it.
 #[derive(Drop)]
 pub(crate) struct Link<S: Source, C: Catalogue, A: Allocator> {
     controller: Controller<S>,
@@ -32,7 +30,6 @@ pub(crate) struct Link<S: Source, C: Catalogue, A: Allocator> {
     down: ArrayVec<u8, 1024>,
     // As many bytes as the answers to 1,024 bytes can have.
     up: ArrayVec<u8, 3074>,
-    // The last answer that was lost as it was given.
     lost: ArrayVec<u8, 3074>,
     aired: Vec<Item, A>,
     log: Vec<Exchange, A>,
@@ -56,7 +53,6 @@ impl<S: Source, C: Catalogue, A: Allocator> Model for Link<S, C, A> {
 }
 
 impl<S: Source, C: Catalogue, A: Allocator + Copy> Link<S, C, A> {
-    /// Nothing is on the way, and nothing was aired.
     pub fn new(alloc: A, controller: Controller<S>, port: Port<C>) -> Self
         ensures { result ≡ record {
           plan = plan_of S.items controller;
@@ -115,7 +111,6 @@ impl<S: Source, C: Catalogue, A: Allocator + Copy> Link<S, C, A> {
         self.controller.outcome()
     }
 
-    /// The event happens. If memory is refused nothing does.
     pub fn step(&mut self, event: &Event) -> Result<(), AllocError>
         ensures step { OnOk result (self.new ≡ after_event self.old event.now) }
         ensures refused { OnErr result (self.new ≡ self.old) }
@@ -173,7 +168,6 @@ impl<S: Source, C: Catalogue, A: Allocator + Copy> Link<S, C, A> {
     }
 }
 
-/// The controller's next command is on the way down, if it gives one; else nothing changes.
 fn tick<S: Source>(
     controller: &mut Controller<S>,
     unit: u8,
@@ -193,7 +187,6 @@ fn tick<S: Source>(
     }
 }
 
-/// A command's bytes, in place of what was on the way down.
 fn put_command(command: &Command, unit: u8, down: &mut ArrayVec<u8, 1024>)
     requires { unit ≤ 15 }
     ensures { down.new.items ≡ spelling (command_message unit command.now) }
@@ -203,8 +196,6 @@ fn put_command(command: &Command, unit: u8, down: &mut ArrayVec<u8, 1024>)
         .unwrap();
 }
 
-/// The port reads what is on the way down, if anything is: it is gone then, and the answer is on the way
-/// up in place of what was.
 fn deliver<C: Catalogue, A: Allocator>(
     port: &mut Port<C>,
     down: &mut ArrayVec<u8, 1024>,
@@ -225,7 +216,6 @@ fn deliver<C: Catalogue, A: Allocator>(
     Ok(())
 }
 
-/// The port reads a burst; its answer stands in place of what the buffer held.
 fn read_burst<C: Catalogue, A: Allocator>(
     port: &mut Port<C>,
     burst: &ArrayVec<u8, 1024>,
@@ -246,7 +236,6 @@ fn read_burst<C: Catalogue, A: Allocator>(
     Ok(())
 }
 
-/// The controller hears the first message of a burst on the way up.
 fn hear<S: Source, A: Allocator>(
     controller: &mut Controller<S>,
     burst: &[u8],
@@ -267,7 +256,6 @@ fn hear<S: Source, A: Allocator>(
     end_exchange(controller, came, log)
 }
 
-/// What is on the way down becomes these bytes, if it can.
 fn alter_down(down: &mut ArrayVec<u8, 1024>, bytes: &[u8])
     ensures { down.new.items ≡ altered (channel.can_become down.old.items bytes.now) down.old.items bytes.now }
 {
@@ -277,7 +265,6 @@ fn alter_down(down: &mut ArrayVec<u8, 1024>, bytes: &[u8])
     }
 }
 
-/// What is on the way up becomes these bytes, if it can.
 fn alter_up<S: Source>(
     controller: &Controller<S>,
     unit: u8,
@@ -293,7 +280,6 @@ fn alter_up<S: Source>(
     }
 }
 
-/// Nothing came in time, which happens if nothing is on the way either way.
 fn time_out<S: Source, A: Allocator>(
     controller: &mut Controller<S>,
     down: &ArrayVec<u8, 1024>,
@@ -313,7 +299,6 @@ fn time_out<S: Source, A: Allocator>(
     Ok(())
 }
 
-/// The controller hears a receipt from nowhere, in confirm mode.
 fn stray<S: Source, A: Allocator>(
     controller: &mut Controller<S>,
     receipt: Reply,
@@ -332,8 +317,7 @@ fn stray<S: Source, A: Allocator>(
     Ok(())
 }
 
-/// What came, or silence, comes to the controller; the exchange that it ends is logged. If memory is refused nothing
-/// comes.
+// Memory for the log is asked for first: if it is refused, nothing comes.
 fn end_exchange<S: Source, A: Allocator>(
     controller: &mut Controller<S>,
     came: Option<Heard>,

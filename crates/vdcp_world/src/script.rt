@@ -11,34 +11,28 @@ use hex::{FromHex, FromHexError};
 use std::alloc::Global;
 use thiserror::Error;
 
-/// Most events of a script.
 const MOST_EVENTS: usize = 100_000;
-/// The greatest number of a line.
+// The greatest number of a line.
 const GREATEST: u32 = 10_000;
 
-/// Why a script is refused. Lines are read one after another and count from 1, blank ones and comments
-/// included, and the first refusal is given; within a line the order is `Word`, `Number` or `Hex`,
-/// `TooMany`.
+/// Why a script is refused. Lines count from 1, blank ones and comments included; the first refused one counts.
 #[derive(Clone, Copy, Debug, PartialEq, Eq, Error)]
 pub enum ScriptFault {
-    /// The line's first word is no event's, or not as many words follow it as should.
     #[error("line {0} is no event")]
     Word(usize),
-    /// The line's number isn't 1 to 10,000, in digits without leading zeros.
+    /// It isn't 1 to 10,000, in digits without leading zeros.
     #[error("line {0} has no number that it can have")]
     Number(usize),
-    /// The line's bytes aren't 1 to 1,024 in hexadecimal digits, of either case, or its one byte isn't in
-    /// two lower-case ones.
+    /// The bytes aren't 1 to 1,024, in hexadecimal digits of either case, or the one byte not in two lower-case digits.
     #[error("line {0} has no bytes that it can have")]
     Hex(usize),
-    /// With this line there are more than 100,000 events.
+    /// There are more than 100,000 events with this line.
     #[error("there are too many events")]
     TooMany,
     #[error("out of memory")]
     Memory,
 }
 
-/// What one line can repeat.
 #[derive(Clone, Copy)]
 enum Repeated {
     Frame,
@@ -46,14 +40,10 @@ enum Repeated {
     GoodRound,
 }
 
-/// A line of a script.
 #[derive(Clone, Copy)]
 struct ScriptLine<'a> {
-    /// Its number, from 1.
     number: usize,
-    /// Its first word.
     word: &'a str,
-    /// What one space parts from that word.
     argument: Option<&'a str>,
 }
 
@@ -75,7 +65,6 @@ impl<'a> ScriptLine<'a> {
         })
     }
 
-    // The number that follows the word, 1 to 10,000; 1 if none does.
     fn count(&self) -> Result<u32, ScriptFault>
         ensures range { IfOk result (λ count. (1 ≤ count) × (count ≤ 10000)) }
         ensures counts { IfOk result (Counts (option_map (λ text. text.now) self.now.argument)) }
@@ -92,7 +81,6 @@ impl<'a> ScriptLine<'a> {
         }
     }
 
-    // The bytes whose hexadecimal digits follow the word, 1 to 1,024.
     fn burst(&self, alloc: Global) -> Result<Burst, ScriptFault>
         ensures { IfOk result (λ bytes. IsSomeAnd self.now.argument (λ text. WritesBytes text.now bytes)) }
     {
@@ -107,7 +95,6 @@ impl<'a> ScriptLine<'a> {
         }
     }
 
-    // The byte whose two lower-case digits follow the word.
     fn byte(&self) -> Result<u8, ScriptFault>
         ensures { IfOk result (λ byte. IsSomeAnd self.now.argument (λ text. text.now ≡ encode_lower (byte ∷ []))) }
     {
@@ -118,7 +105,6 @@ impl<'a> ScriptLine<'a> {
         }
     }
 
-    // What follows the word.
     fn needed(&self) -> Result<&'a str, ScriptFault>
         ensures { IfOk result (λ text. self.now.argument ≡ Some text) }
     {
@@ -126,7 +112,6 @@ impl<'a> ScriptLine<'a> {
     }
 }
 
-/// Whether a text is a byte in two lower-case digits.
 fn is_lower(byte: u8, text: &str) -> bool
     ensures { IsTrue result → text.now ≡ encode_lower (byte ∷ []) }
 {
@@ -134,9 +119,7 @@ fn is_lower(byte: u8, text: &str) -> bool
     hex::encode_to_slice([byte], &mut lower).is_ok() && text.as_bytes() == lower.as_slice()
 }
 
-/// Reads a script: a line for each event, or for some rounds or frames. Lines end with a line feed, or
-/// with a carriage return and one; the last one may end with the text. Blank lines and those that begin
-/// with `#` are skipped, and words are parted by one space. `docs/FORMATS.md` has the words.
+/// Reads a script in the form that `docs/FORMATS.md` gives (*Scripts*).
 pub fn read_script(alloc: Global, text: &str) -> Result<Vec<Event>, ScriptFault>
     ensures few { IfOk result (λ events. length events.items ≤ 100000) }
     ensures script { IfOk result (λ events. IsScript text.now events.items) }
@@ -148,7 +131,6 @@ pub fn read_script(alloc: Global, text: &str) -> Result<Vec<Event>, ScriptFault>
     Ok(events)
 }
 
-/// Adds what the line of this number says.
 #[tactic(auto, using(crate::proofs::ScriptLemmas::says_skipped, crate::proofs::ScriptLemmas::says_word, crate::proofs::ScriptLemmas::says_again))]
 fn read_line(
     alloc: Global,
@@ -170,7 +152,6 @@ fn read_line(
     }
 }
 
-/// Whether a line is blank or a comment.
 fn is_skipped(text: &str) -> bool
     ensures { result ≡ is_skipped text.now }
 {
@@ -180,7 +161,6 @@ fn is_skipped(text: &str) -> bool
     }
 }
 
-/// What a line with this first word repeats.
 fn repeated_by(word: &str) -> Option<Repeated>
     ensures { IfSome result (λ repeated. word.now ≡ repeated_word repeated) }
 {
@@ -192,7 +172,6 @@ fn repeated_by(word: &str) -> Option<Repeated>
     }
 }
 
-/// The event of a line that has one.
 fn event_of(alloc: Global, line: &ScriptLine<'_>) -> Result<Event, ScriptFault>
     ensures { IfOk result (λ event. IsLineOf event
         (worded line.now.word.now (option_map (λ t. t.now) line.now.argument))) }
@@ -205,7 +184,6 @@ fn event_of(alloc: Global, line: &ScriptLine<'_>) -> Result<Event, ScriptFault>
     }
 }
 
-/// The event of a word that stands alone.
 fn event_alone(line: &ScriptLine<'_>) -> Option<Event>
     ensures { IfSome result (λ event. IsLineOf event
         (worded line.now.word.now (option_map (λ t. t.now) line.now.argument))) }
@@ -231,7 +209,6 @@ fn event_alone(line: &ScriptLine<'_>) -> Option<Event>
     }
 }
 
-/// Adds what is repeated, this number of times.
 #[tactic(auto, using(crate::proofs::ScriptLemmas::once_more))]
 fn push_again(repeated: Repeated, count: u32, events: &mut Vec<Event>) -> Result<(), ScriptFault>
     requires { length events.old.items ≤ 100000 }
@@ -244,7 +221,6 @@ fn push_again(repeated: Repeated, count: u32, events: &mut Vec<Event>) -> Result
     Ok(())
 }
 
-/// Adds what is repeated, once.
 fn push_once(repeated: Repeated, events: &mut Vec<Event>) -> Result<(), ScriptFault>
     requires { length events.old.items ≤ 100000 }
     ensures few { length events.new.items ≤ 100000 }
@@ -273,7 +249,6 @@ fn push_round(events: &mut Vec<Event>) -> Result<(), ScriptFault>
     push(Event::Up, events)
 }
 
-/// Adds an event, if it isn't one too many.
 #[inline(always)]
 fn push(event: Event, events: &mut Vec<Event>) -> Result<(), ScriptFault>
     requires { length events.old.items ≤ 100000 }

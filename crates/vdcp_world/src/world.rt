@@ -26,17 +26,10 @@ use vdcp_auto::{Controller, Exchange, Outcome, Source};
 use vdcp_port::{Catalogue, Port};
 use vdcp_value::Item;
 
-/// A controller and a port of one unit address and one port number, and the line between them, which
-/// holds one burst each way.
+/// A controller, a port of the same unit address and port number, and the line between them: one burst each way.
 ///
-/// - `step` and `run` bring in what happens.
-/// - `aired`, `reported`, `log`, `is_ready`, `wishes_to_stop` and `outcome` only look.
-///
-/// Whatever happens, what went to air is a beginning of the playlist, each event once and in order, and
-/// the events reported as aired are a beginning of these, shorter by one at most: each call that changes
-/// a world or makes one says so of it (`headline`), and each that looks says it of its answer.
-///
-/// It takes memory for what went to air and for the log, and for nothing else.
+/// Whatever happens, what went to air is a beginning of the playlist, each event once and in order; what is reported as
+/// aired is that, or one event less (`headline`). Memory is taken for what went to air and for the log alone.
 #[derive(Drop)]
 pub struct World<S: Source, C: Catalogue, A: Allocator> {
     link: Link<S, C, A>,
@@ -53,9 +46,7 @@ impl<S: Source, C: Catalogue, A: Allocator> Model for World<S, C, A> {
 }
 
 impl<S: Source, C: Catalogue, A: Allocator + Copy> World<S, C, A> {
-    /// A new world in plain mode, in which a cue takes one frame: nothing is on the way, and nothing was
-    /// aired. The controller plays the source's list through the port of this number, at this unit
-    /// address, 0 to 15, and gives up after `limit` unanswered exchanges in a row, 1 to 1,000.
+    /// Plain mode, with cues of one frame. `unit` is 0 to 15; `limit` unanswered exchanges in a row, 1 to 1,000, end it.
     pub fn new(alloc: A, source: S, catalogue: C, unit: u8, port: u8, limit: u32) -> Self
         requires unit { unit ≤ 15 }
         requires some { 1 ≤ limit }
@@ -98,8 +89,7 @@ impl<S: Source, C: Catalogue, A: Allocator + Copy> World<S, C, A> {
         }
     }
 
-    /// As `with_clock`, but in confirm mode: a receipt may come to the controller from nowhere, and what is
-    /// on the way to it may become one.
+    /// As `with_clock`, but in confirm mode: a receipt may come to the controller from nowhere (`AlterUp`, `StrayAck`).
     pub fn confirming(
         alloc: A,
         source: S,
@@ -129,8 +119,7 @@ impl<S: Source, C: Catalogue, A: Allocator + Copy> World<S, C, A> {
         }
     }
 
-    /// The event happens; if it can't, nothing does. All memory is asked for first: if it is
-    /// refused the answer is `AllocError`, and nothing has changed.
+    /// The event happens, unless it can't. If memory is refused nothing has changed.
     pub fn step(&mut self, event: &Event) -> Result<(), AllocError>
         ensures step { OnOk result (self.new ≡ after_event self.old event.now) }
         ensures refused { OnErr result (self.new ≡ self.old) }
@@ -141,21 +130,10 @@ impl<S: Source, C: Catalogue, A: Allocator + Copy> World<S, C, A> {
         self.link.step(event)
     }
 
-    /// The events happen, in order, up to the first for which memory is refused: the answer is then
-    /// `AllocError`; those before it have happened, and it hasn't, nor have those after it.
+    /// The events happen, in order, up to the first for which memory is refused.
     ///
-    /// A good round begins with `Timeout`, `Ready` and `End`, and then comes a round: `Tick`, `Down`, `Up`.
-    /// If each item of the playlist is in the catalogue, and each part fits its clip, a run of this many
-    /// good rounds that answers `Ok` leaves the controller Done, the whole playlist aired, and all of it
-    /// reported:
-    ///
-    /// - in plain mode (`plain_end`), whatever happened before, while nothing is awaited, the controller hasn't
-    ///   ended, and no stop is wished for or was sent: five for each event that isn't reported, and four, or more;
-    /// - in confirm mode (`confirming_end`), of a new world: six for each event, and six, or more;
-    /// - in confirm mode of any other world, six for each event that isn't reported, and six, or more: if nothing
-    ///   is on the way, no stop is wished for, and the port did what the controller's stage presumes (`in_step_end`);
-    ///   and if it is as in plain mode, and neither one empty status more nor one unanswered exchange more ends
-    ///   the controller (`catch_up_end`).
+    /// Enough good rounds (`Timeout`, `Ready`, `End`, `Tick`, `Down`, `Up`) bring a playable list to air, and the controller
+    /// to Done: the last four clauses say how many, and from which worlds.
     pub fn run(&mut self, events: &[Event]) -> Result<(), AllocError>
         ensures run { OnOk result (self.new ≡ after_events self.old events.now) }
         ensures front { OnErr result (HappenInPart events.now self.old self.new) }
@@ -183,7 +161,6 @@ impl<S: Source, C: Catalogue, A: Allocator + Copy> World<S, C, A> {
         Ok(())
     }
 
-    /// What went to air, in order: a beginning of the playlist.
     pub fn aired(&self) -> &[Item]
         ensures items { result.now ≡ self.now.aired }
         ensures beginning { (more : List Item) × (self.now.plan.list ≡ result.now ++ more) }
@@ -192,9 +169,7 @@ impl<S: Source, C: Catalogue, A: Allocator + Copy> World<S, C, A> {
         self.link.aired()
     }
 
-    /// How many events of the playlist the controller knows to have been aired. They are the first of those
-    /// that went to air: all of them, or all but the last; and all once the outcome is Done, Missing or
-    /// Refused.
+    /// How many events the controller knows to have aired: all that went to air, or all but the last.
     pub fn reported(&self) -> usize
         ensures count { result ≡ self.now.state.settled }
         ensures settled { result ≡ settled self.now.plan.mode self.now.log }
@@ -210,7 +185,6 @@ impl<S: Source, C: Catalogue, A: Allocator + Copy> World<S, C, A> {
         self.link.reported()
     }
 
-    /// The exchanges that have ended, in order. The rule book allows each command where it stands.
     pub fn log(&self) -> &[Exchange]
         ensures exchanges { result.now ≡ self.now.log }
         ensures keeps_rules { KeepsRules self.now.plan.mode self.now.plan.list result.now }
@@ -226,16 +200,14 @@ impl<S: Source, C: Catalogue, A: Allocator + Copy> World<S, C, A> {
         self.link.is_ready()
     }
 
-    /// The operator wants to stop, and the STOP hasn't gone out yet.
+    /// The operator wants to stop, and STOP hasn't gone out yet.
     pub fn wishes_to_stop(&self) -> bool
         ensures { result ≡ self.now.state.stop }
     {
         self.link.wishes_to_stop()
     }
 
-    /// How the controller ended; `None` while it goes on. Never Denied, Foreign or Strange. In plain mode Done and
-    /// Stopped leave the port closed, with nothing cued and nothing playing; in confirm mode Done leaves nothing
-    /// cued and nothing playing.
+    /// How the controller ended, if it did: never Denied, Foreign or Strange.
     pub fn outcome(&self) -> Option<Outcome>
         ensures outcome { result ≡ outcome_of self.now.state.stage }
         ensures not_denied { result ≢ Some Denied }
