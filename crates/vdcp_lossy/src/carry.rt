@@ -16,7 +16,7 @@ use vdcp_auto::Way;
 use vdcp_frame::write;
 use vdcp_wire::Wire;
 
-/// Carries bursts between an automation and a server until either closes, or the turns are used up.
+/// Carries bursts until either end closes, or the turns are used up.
 pub fn carry<R: Clock, A: Wire, S: Wire, W: io::Write>(
     session: &mut Session<R>,
     automation: &mut A,
@@ -36,7 +36,6 @@ pub fn carry<R: Clock, A: Wire, S: Wire, W: io::Write>(
     Ok(CarryEnd::Spent)
 }
 
-// Takes what the automation brought, and says whether nothing more is to be carried.
 fn take<R: Clock, A: Wire, S: Wire, W: io::Write>(
     session: &mut Session<R>,
     automation: &mut A,
@@ -69,7 +68,7 @@ fn take<R: Clock, A: Wire, S: Wire, W: io::Write>(
     }
 }
 
-// Carries a command down, and takes what comes for it. What waits from the exchange before is dropped first.
+// What waits from the exchange before is dropped first.
 fn ask<R: Clock, S: Wire, W: io::Write>(
     session: &mut Session<R>,
     server: &mut S,
@@ -98,8 +97,8 @@ fn ask<R: Clock, S: Wire, W: io::Write>(
     }
 }
 
-// Takes the answer to a command, sends its copy, and takes the answer to that. If it is too late for a copy by
-// then, the first answer is too.
+// Takes the answer, sends the copy of the command, and takes the answer to that. If it is too late for the copy by then,
+// the first answer is too late as well.
 fn ask_twice<R: Clock, S: Wire>(
     session: &mut Session<R>,
     server: &mut S,
@@ -125,7 +124,6 @@ fn ask_twice<R: Clock, S: Wire>(
     session.receive(server, answer)
 }
 
-// Carries what came for a command up, and says whether nothing more is to be carried.
 fn answer_with<R: Clock, A: Wire, W: io::Write>(
     session: &mut Session<R>,
     automation: &mut A,
@@ -158,7 +156,6 @@ fn answer_with<R: Clock, A: Wire, W: io::Write>(
     }
 }
 
-// Sends what goes on of an answer, and prints the line of it.
 fn go_up<R: Clock, A: Wire, W: io::Write>(
     session: &mut Session<R>,
     automation: &mut A,
@@ -180,7 +177,6 @@ fn go_up<R: Clock, A: Wire, W: io::Write>(
     Ok(None)
 }
 
-// Sends what goes on of a burst, once.
 fn send_once<W: Wire>(wire: &mut W, doing: &Doing, came: &[u8]) -> Result<(), CarryFault>
     requires { W.failures wire.old ≡ 0 }
     ensures sent { OnOk result (W.told wire.new ≡ adds_part (part_on doing.now came.now) (W.told wire.old)) }
@@ -195,7 +191,6 @@ fn send_once<W: Wire>(wire: &mut W, doing: &Doing, came: &[u8]) -> Result<(), Ca
     }
 }
 
-// The bytes of a receipt.
 fn bytes_of(receipt: Receipt) -> ArrayVec<u8, 2>
     ensures { result.items ≡ spelling (receipt_message receipt) }
 {

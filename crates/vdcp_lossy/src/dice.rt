@@ -4,14 +4,13 @@ ghost use Rattle.std.specs.Prelude.{◌<◌};
 use rand_core::{Rng, SeedableRng};
 use rand_xoshiro::SplitMix64;
 
-/// The dice that are thrown for one burst.
 #[derive(Drop)]
 pub struct Dice {
     words: SplitMix64,
 }
 
 impl Dice {
-    /// The dice of the burst with this number: the same seed and number, the same throws.
+    /// The same seed and number give the same throws.
     pub fn new(seed: u32, number: u32) -> Dice {
         let state = (u64::from(seed) << 32) | u64::from(number);
         Dice {

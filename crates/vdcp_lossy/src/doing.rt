@@ -11,14 +11,13 @@ use vdcp_auto::Way;
 use vdcp_frame::{Message, Messages};
 use vdcp_world::can_become;
 
-/// Most bytes that are held of a burst. A longer one is lost.
+/// A burst of more bytes is lost.
 pub const MOST_BYTES: usize = 1024;
 
-/// A burst that is held.
 pub type HeldBurst = ArrayVec<u8, 1024>;
 
-/// Chances of 100, each 0 to 100; each is of the bursts that those before it spare. `forge` is of answers alone, and
-/// of exchanges without one.
+/// Chances of 100, each 0 to 100, and of the bursts that those before it spare. `forge` is of answers alone, and of
+/// exchanges without one.
 #[derive(Clone, Copy, Debug, PartialEq, Eq)]
 pub struct Chances {
     pub lose: u8,
@@ -28,12 +27,9 @@ pub struct Chances {
     pub forge: u8,
 }
 
-/// What is done with a burst.
 #[derive(Drop)]
 pub enum Doing {
-    /// It goes on as it came.
     Through,
-    /// It is lost.
     Lost,
     /// It is lost since its exchange has taken too long.
     Late,
@@ -43,11 +39,10 @@ pub enum Doing {
     Cut(usize),
     /// These bytes go on in its place.
     Damaged(HeldBurst),
-    /// This receipt goes on in its place.
     Forged(Receipt),
 }
 
-/// What stands in an answer's place.
+/// What a forged answer says.
 #[derive(Clone, Copy)]
 pub enum Receipt {
     Ack,
@@ -55,7 +50,6 @@ pub enum Receipt {
 }
 
 impl Receipt {
-    /// The receipt as a message.
     pub fn message(self) -> Message<'static>
         ensures { content_of result ≡ receipt_message self }
     {
@@ -66,7 +60,6 @@ impl Receipt {
     }
 }
 
-/// What is thrown for a burst.
 #[derive(Clone, Copy)]
 enum Throw {
     Through,
@@ -77,7 +70,7 @@ enum Throw {
     Forged,
 }
 
-// Throws each chance in its turn, and says which one hits first.
+// The first chance that hits counts.
 fn throw_chances(dice: &mut Dice, chances: &Chances, way: Way) -> Throw
     ensures { way ≡ Way.Down → result ≢ Throw.Forged }
 {
@@ -100,7 +93,6 @@ fn throw_chances(dice: &mut Dice, chances: &Chances, way: Way) -> Throw
 }
 
 impl Doing {
-    /// What is done with a burst that came on this way.
     pub fn of_burst(dice: &mut Dice, chances: &Chances, way: Way, came: &[u8]) -> Doing
         requires some { 0 < length came.now }
         requires held { length came.now ≤ MOST_BYTES }
@@ -116,7 +108,7 @@ impl Doing {
         }
     }
 
-    /// The forged receipt, if any, for a command that gets no answer.
+    /// The receipt that is forged for a command without an answer, if one is.
     pub fn of_nothing(dice: &mut Dice, chances: &Chances) -> Option<Doing>
         ensures { IfSome result IsForged }
     {
@@ -127,7 +119,7 @@ impl Doing {
     }
 }
 
-// Two copies go up as one burst, of which the first message is heard: so they are made if there is one.
+// Two copies go up as one burst, of which the first message is heard: so it must have one.
 fn copied(way: Way, came: &[u8]) -> Doing
     ensures { CanBe way came.now result }
 {
@@ -138,14 +130,13 @@ fn copied(way: Way, came: &[u8]) -> Doing
     }
 }
 
-// Whether a message stands at the front of a burst.
 fn begins_with_message(burst: &[u8]) -> bool
     ensures { result ≡ true → (m : Content) × (more : List Content) × (messages_of burst.now ≡ m ∷ more) }
 {
     Messages::of(burst).next().is_some()
 }
 
-// Some of the first bytes go on, not all; of a burst of one byte none, so it is lost.
+// At least one byte goes on, and not all; so a burst of one byte is lost.
 fn cut(dice: &mut Dice, came: &[u8]) -> Doing
     requires { 0 < length came.now }
     ensures { (way : Way) → CanBe way came.now result }
@@ -181,7 +172,6 @@ fn damaged(dice: &mut Dice, came: &[u8]) -> Doing
     }
 }
 
-// ACK or NAK with some byte.
 fn throw_receipt(dice: &mut Dice) -> Receipt
     ensures { CanBeForged Way.Up result }
 {

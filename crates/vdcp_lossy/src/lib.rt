@@ -1,9 +1,5 @@
-//! The subcommand `lossy`: a line between an automation and a server, over TCP, that loses, copies, cuts, damages
-//! and forges bursts.
-//!
-//! `do_lossy` listens at an address, takes one automation there, connects to a server, and carries bursts between
-//! the two; what befalls each is thrown by a generator that `seed` starts. It tells standard error of a failure in
-//! one line, and gives the exit status.
+//! The subcommand `lossy` (`do_lossy`): a line between an automation and a server, over TCP, that loses, copies, cuts,
+//! damages and forges bursts.
 //!
 //! Files, in reading order: `lossy`, `dice`, `doing`, `session`, `carry`, `text`, `tally`.
 #![tactic(auto)]

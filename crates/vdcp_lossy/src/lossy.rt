@@ -12,31 +12,27 @@ use vdcp_log::{Log, Logged, Side, Telling};
 use vdcp_text::Failure;
 use vdcp_wire::{AcceptFault, StreamWire, accept_one, address_of};
 
-/// What a line is run with.
 #[derive(Clone, Copy, Debug, PartialEq, Eq)]
 pub struct LossySettings {
-    /// What the generator starts from: the same seed, the same throws.
+    /// The same seed gives the same throws.
     pub seed: u32,
-    /// What is done with how many bursts.
     pub chances: Chances,
-    /// The silence that ends a burst, in milliseconds, 1 to 60,000: more than the server's.
+    /// The silence that ends a burst, 1 to 60,000 milliseconds: more than the server's.
     pub silence: u32,
-    /// How long after its command anything may still go on, in milliseconds, 1 to 60,000: less than the silence of the
-    /// automation.
+    /// How long after its command anything may still go on, 1 to 60,000 milliseconds: less than the automation's silence.
     pub within: u32,
-    /// The most waits that are made, each for bytes or for a silence.
+    /// How many waits are made at most, each for bytes or for a silence.
     pub turns: u32,
 }
 
-/// Carries bursts between the first automation that connects to `address` and the server at `server`, each an
-/// IPv4 address, a colon and a TCP port; for `address` 0 is one that the system chooses. `out` gets a line
-/// with the address that is listened at, one for each burst, which says what was done with it, one that says
-/// whether either end has `closed` or the turns are `spent`, and nine counts. Each line is flushed at once. The writer of
-/// a capture gets rows of what came from the automation and went to it, as `judge` reads them, until it fails.
+/// Carries bursts between the first automation that connects to `address` and the server at `server`, each an IPv4 address,
+/// a colon and a TCP port (for 0 in `address` the system chooses one). `out` gets the address that is listened at, a line
+/// for each burst and what was done with it, `closed` or `spent` (the turns), and nine counts, each line flushed at once.
+/// `capture` gets rows of what came from the automation and went to it, as `judge` reads them, until it fails.
 ///
-/// The status is 0 if it came to that end. It is 2 if `address` or `server` isn't an address, and 3 if
-/// `address` can't be listened at, nobody takes the connection to the server, or the line failed; `err` gets a line
-/// of these. The status is 3 if `out` failed, to which nothing more is written.
+/// The status is 0 if it came to that end, 2 if an address is none, and 3 if `address` can't be listened at, the server
+/// doesn't take the connection, or the line failed; `err` gets a line of these. It is 3 if `out` failed, which gets
+/// nothing more.
 pub fn do_lossy<R: Net + Clock, L: io::Write + Drop, W: io::Write, E: io::Write>(
     rt: &R,
     address: &str,
@@ -53,7 +49,6 @@ pub fn do_lossy<R: Net + Clock, L: io::Write + Drop, W: io::Write, E: io::Write>
     }
 }
 
-// Reads the two addresses, and carries bursts between them.
 fn lossy<R: Net + Clock, L: io::Write + Drop, W: io::Write>(
     rt: &R,
     address: &str,
@@ -71,8 +66,7 @@ fn lossy<R: Net + Clock, L: io::Write + Drop, W: io::Write>(
     carry_between(rt, address, server, settings, &log, out)
 }
 
-// Takes an automation, connects to the server, and carries bursts between the two. A connection that refuses to
-// be a wire is a line that failed.
+// A connection that refuses to be a wire is a line that failed.
 fn carry_between<R: Net + Clock, L: io::Write + Drop, W: io::Write>(
     rt: &R,
     address: SocketAddrV4,
@@ -109,7 +103,6 @@ fn carry_between<R: Net + Clock, L: io::Write + Drop, W: io::Write>(
     }
 }
 
-// Tells how a line ended, and the counts.
 fn write_end<W: io::Write>(end: CarryEnd, tally: &Tally, out: &mut W) -> io::Result<()> {
     match end {
         CarryEnd::Closed => writeln!(out, "closed")?,

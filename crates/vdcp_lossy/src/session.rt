@@ -16,21 +16,17 @@ use std::time::Instant;
 use vdcp_auto::Way;
 use vdcp_wire::{Came, PIECE, Wire, WireFault};
 
-/// Why nothing more is carried.
 #[derive(Clone, Copy)]
 pub enum CarryEnd {
-    /// Either end has closed.
     Closed,
     /// All turns were made.
     Spent,
 }
 
-/// Why a line gives up.
 #[derive(Clone, Copy)]
 pub enum CarryFault {
     /// A wire failed, or the clock did.
     Line,
-    /// The writer failed.
     Writer,
 }
 
@@ -43,17 +39,14 @@ impl From<WireFault> for CarryFault {
 /// What a wire brought.
 #[derive(Clone, Copy)]
 pub enum Brought {
-    /// A burst, whose first bytes came then.
+    /// Its first bytes came at this time.
     Burst(Instant),
-    /// A burst that is too long to be held.
+    /// The burst is too long to be held.
     Long,
-    /// A silence.
     Nothing,
-    /// Nothing more.
     Over(CarryEnd),
 }
 
-/// What a line is run with, how many turns are left, and what was done with what came so far.
 #[derive(Drop)]
 pub struct Session<'a, R: Clock> {
     clock: &'a R,
@@ -63,7 +56,6 @@ pub struct Session<'a, R: Clock> {
 }
 
 impl<'a, R: Clock> Session<'a, R> {
-    /// Nothing came yet.
     pub fn new(clock: &'a R, settings: LossySettings) -> Self {
         Session {
             clock,
@@ -73,19 +65,17 @@ impl<'a, R: Clock> Session<'a, R> {
         }
     }
 
-    /// How many turns are left.
     pub fn left(&self) -> u32
         ensures { result ≡ self.now.left }
     {
         self.left
     }
 
-    /// What came, and what was done with it.
     pub fn tally(&self) -> &Tally {
         &self.tally
     }
 
-    /// Listens until a burst has ended, or nothing came at all for the time of a silence.
+    /// Listens until a burst has ended, or a silence passed without one.
     pub fn receive<W: Wire>(
         &mut self,
         wire: &mut W,
@@ -125,27 +115,24 @@ impl<'a, R: Clock> Session<'a, R> {
         Ok(Brought::Over(CarryEnd::Spent))
     }
 
-    /// Counts a command.
     pub fn count_command(&mut self)
         ensures { self.new.left ≡ self.old.left }
     {
         self.tally.count_command();
     }
 
-    /// Counts an answer.
     pub fn count_answer(&mut self)
         ensures { self.new.left ≡ self.old.left }
     {
         self.tally.count_answer();
     }
 
-    /// Whether it is too late for what belongs to a command that came then.
+    /// Whether it is too late for what belongs to a command that came at `began`.
     pub fn is_late(&self, began: Instant) -> Result<bool, CarryFault> {
         let elapsed = now(self.clock)?.duration_since(began);
         Ok(elapsed.as_millis() >= u128::from(self.settings.within))
     }
 
-    /// What is done with a burst that came on this way.
     pub fn doing(&self, way: Way, burst: &HeldBurst, began: Instant) -> Result<Doing, CarryFault>
         requires { 0 < length burst.now.items }
         ensures { IfOk result (CanBe way burst.now.items) }
@@ -157,7 +144,7 @@ impl<'a, R: Clock> Session<'a, R> {
         Ok(Doing::of_burst(&mut dice, &self.settings.chances, way, burst.as_slice()))
     }
 
-    /// The forged receipt, if any, for a command that came then and got no answer.
+    /// The receipt that is forged for a command without an answer, if one is; `began` is when the command came.
     pub fn forged(&self, began: Instant) -> Result<Option<Doing>, CarryFault>
         ensures { IfOk result (λ forged. IfSome forged IsForged) }
     {
@@ -168,7 +155,7 @@ impl<'a, R: Clock> Session<'a, R> {
         Ok(Doing::of_nothing(&mut dice, &self.settings.chances))
     }
 
-    // The dice of the burst that goes this way in the exchange at hand.
+    // In each exchange the command and the answer have dice of their own.
     fn dice(&self, way: Way) -> Dice {
         let number = self.tally.commands.wrapping_mul(2);
         match way {
@@ -177,7 +164,6 @@ impl<'a, R: Clock> Session<'a, R> {
         }
     }
 
-    /// Counts what was done with a burst, and prints the line of it.
     pub fn tell<W: io::Write>(
         &mut self,
         way: Way,
@@ -196,7 +182,6 @@ impl<'a, R: Clock> Session<'a, R> {
     }
 }
 
-// The time, by a clock that may fail.
 fn now<R: Clock>(clock: &R) -> Result<Instant, CarryFault> {
     match Instant::now(clock) {
         Ok(now) => Ok(now),

@@ -2,7 +2,7 @@
 use crate::doing::Doing;
 use std::io;
 
-/// How many bursts came, and what was done with how many of them, both ways together.
+/// How many bursts came, and what was done with them, both ways together.
 #[derive(Clone, Copy)]
 pub struct Tally {
     pub commands: u32,
@@ -17,7 +17,6 @@ pub struct Tally {
 }
 
 impl Tally {
-    /// Nothing came yet.
     pub fn new() -> Tally {
         Tally {
             commands: 0,
@@ -32,17 +31,14 @@ impl Tally {
         }
     }
 
-    /// Counts a command.
     pub fn count_command(&mut self) {
         self.commands = self.commands.saturating_add(1);
     }
 
-    /// Counts an answer.
     pub fn count_answer(&mut self) {
         self.answers = self.answers.saturating_add(1);
     }
 
-    /// Counts what was done with a burst.
     pub fn count(&mut self, doing: &Doing) {
         match doing {
             Doing::Through => add_one(&mut self.through),
@@ -55,7 +51,6 @@ impl Tally {
         }
     }
 
-    /// Writes a line for each count.
     pub fn write<W: io::Write>(&self, out: &mut W) -> io::Result<()> {
         let Tally {
             commands,
@@ -80,7 +75,6 @@ impl Tally {
     }
 }
 
-// One more, up to the largest number.
 fn add_one(count: &mut u64) {
     *count = count.saturating_add(1);
 }

@@ -6,7 +6,7 @@ use vdcp_auto::Way;
 use vdcp_frame::{End, Messages};
 use vdcp_text::{EndText, MeaningText, MessageText};
 
-/// Writes the line of what was done with a burst that came this way, in the exchange with this number, and flushes it.
+/// Writes the line of a burst, and flushes it. `number` is that of the exchange.
 pub fn write_burst_line<W: io::Write>(
     number: u32,
     way: Way,
@@ -21,8 +21,7 @@ pub fn write_burst_line<W: io::Write>(
     out.flush()
 }
 
-/// Writes a burst's reading in one line: its messages with what they say, and its end if that isn't clean. It is
-/// `nothing` if there is no byte.
+/// Writes a burst's messages and their meanings in one line, with the end if it isn't clean; `nothing` if there is no byte.
 pub fn write_reading<W: io::Write>(burst: &[u8], out: &mut W) -> io::Result<()> {
     let mut between = "";
     let mut messages = Messages::of(burst);
@@ -35,7 +34,6 @@ pub fn write_reading<W: io::Write>(burst: &[u8], out: &mut W) -> io::Result<()> 
     write_end(messages.end(), between, out)
 }
 
-// Writes the end of a reading, after what stands between it and its messages.
 fn write_end<W: io::Write>(end: End, between: &str, out: &mut W) -> io::Result<()> {
     match end {
         End::Clean if between.is_empty() => write!(out, "nothing"),
@@ -47,7 +45,6 @@ fn write_end<W: io::Write>(end: End, between: &str, out: &mut W) -> io::Result<(
     }
 }
 
-// The way as a word.
 fn way_text(way: Way) -> &'static str {
     match way {
         Way::Down => "down",

@@ -1,4 +1,4 @@
-//! The subcommand `check`: which events can't be played with a catalogue's clips.
+//! The subcommand `check`: which events a catalogue's clips can't play.
 ghost use Rattle.std.specs.Io.KnownBytes.{Keeps};
 ghost use Rattle.std.specs.Prelude.{◌≡◌, ◌≢◌, ◌⊎◌, IfErr, IfOk, if◌then◌else◌};
 ghost use Rattle.vdcp_files.specs.Files.{file};
@@ -12,14 +12,12 @@ use vdcp_files::{NamedFile, write_findings};
 use vdcp_text::Failure;
 use vdcp_value::Rate;
 
-/// Checks a playlist against a catalogue, both with time codes at this rate. `out` gets how many
-/// events and how many clips there are, and then a line for each event whose clip the catalogue
-/// doesn't have, and for each whose part doesn't fit its clip.
+/// Checks a playlist against a catalogue. `out` gets how many events and clips there are, and a line for each event whose
+/// clip the catalogue doesn't have, or whose part doesn't fit its clip. Then it is flushed.
 ///
-/// The status is 0 if there is no such event, and 1 if there is one. It is also 1 if a row
-/// is refused, and 3 if a file can't be read or memory was refused: `err` gets a line of either,
-/// and `out` nothing. The list is read first. The status is 3 if a writer failed: nothing more is
-/// written to that one. `out` is flushed after the last line.
+/// The status is 0 if all events can be played, and 1 if one can't. It is also 1 if a row is refused, and 3 if a file
+/// can't be read or memory was refused: then `err` gets one line, and `out` nothing. The list is read first. It is 3 if a
+/// writer failed, which gets nothing more.
 pub fn do_check<L: io::Read + Drop, C: io::Read + Drop, W: io::Write, E: io::Write>(
     alloc: Global,
     list: NamedFile<'_, L>,
@@ -28,7 +26,6 @@ pub fn do_check<L: io::Read + Drop, C: io::Read + Drop, W: io::Write, E: io::Wri
     out: &mut W,
     err: &mut E,
 ) -> u8
-    // The status is 1 for what isn't playable, and for a row that is refused.
     ensures { let l = file list.entry.name (L.remaining list.entry.reader) in
         let c = file catalogue.entry.name (C.remaining catalogue.entry.reader) in
         IsSubcommand (λ playable old new. IsChecked rate l c old new playable) (IsRefused rate l c) (AreWhole rate l c)
@@ -40,14 +37,12 @@ pub fn do_check<L: io::Read + Drop, C: io::Read + Drop, W: io::Write, E: io::Wri
     }
 }
 
-// The status if both files were read.
 fn status_for(playable: bool) -> u8
     ensures { result ≡ (if playable then 0 else 1) }
 {
     if playable { 0 } else { 1 }
 }
 
-// Reads both files, writes what was found, and says whether each event can be played.
 fn check<'a, L: io::Read + Drop, C: io::Read + Drop, W: io::Write>(
     alloc: Global,
     list: NamedFile<'a, L>,

@@ -1,10 +1,6 @@
 //! The subcommand `judge`: a capture is held against the rule book.
 //!
-//! `do_judge` reads a playlist and a capture, each a `NamedFile`, and prints which commands weren't allowed where they
-//! stand, and which events the exchanges show to be aired. Of the capture it takes nothing but its bytes, so it judges
-//! any automation. It reports a failure to standard error in one line, and gives the exit status.
-//!
-//! The capture is read line by line, and only what is printed of it is kept.
+//! Only the bytes of the capture count, so it judges any automation. They are read line by line and not held.
 //!
 //! Files, in reading order: `settings`, `capture`, `findings`, `told`.
 ghost use Rattle.std.specs.Io.KnownBytes.{Appends, Keeps};
@@ -29,14 +25,13 @@ mod told;
 
 pub use settings::JudgeSettings;
 
-/// Holds the exchanges that a capture shows against the rule book, for an automation that plays this list. `out` gets
-/// a line for each command that wasn't allowed where it stands, one for each event that the exchanges show to be
-/// aired, and then how many exchanges there are, how many commands were forbidden, and how many events are reported.
+/// Holds the exchanges of a capture against the rule book, for an automation that plays this list. `out` gets a line for
+/// each command that wasn't allowed where it stands, and for each event that the exchanges show to be aired; then how many
+/// exchanges, forbidden commands and reported events there are. Then it is flushed.
 ///
-/// The status is 0 if no command was forbidden, and 1 if one was. It is also 1 if a row of the list or the
-/// capture is refused, or the capture has no message, and 3 if a file can't be read or memory was refused: `err` gets a line of either, and
-/// `out` nothing. The list is read first. The status is 3 if a writer failed: nothing more is written to that one.
-/// `out` is flushed after the last line.
+/// The status is 0 if no command was forbidden, and 1 if one was. It is also 1 if a row or line is refused or the capture
+/// has no message, and 3 if a file can't be read or memory was refused: then `err` gets one line, and `out` nothing. The
+/// list is read first. It is 3 if a writer failed, which gets nothing more.
 pub fn do_judge<L: io::Read + Drop, C: io::Read + Drop, W: io::Write, E: io::Write>(
     alloc: Global,
     list: NamedFile<'_, L>,
@@ -45,7 +40,6 @@ pub fn do_judge<L: io::Read + Drop, C: io::Read + Drop, W: io::Write, E: io::Wri
     out: &mut W,
     err: &mut E,
 ) -> u8
-    // The status is 1 if a command was forbidden, and for a row or a capture that is refused.
     ensures { let l = file list.entry.name (L.remaining list.entry.reader) in
         let c = C.remaining capture.entry.reader in
         IsSubcommand (λ good old new. Counted (IsJudged settings l c old new) good) IsToldOnly (AreWhole settings l c)
@@ -58,7 +52,6 @@ pub fn do_judge<L: io::Read + Drop, C: io::Read + Drop, W: io::Write, E: io::Wri
     }
 }
 
-/// Judges a capture, writes what was found, and says how many commands were forbidden.
 fn judge<'a, L: io::Read + Drop, C: io::Read + Drop, W: io::Write>(
     alloc: Global,
     list: NamedFile<'a, L>,
@@ -89,7 +82,6 @@ fn judge<'a, L: io::Read + Drop, C: io::Read + Drop, W: io::Write>(
     }
 }
 
-/// Writes bytes, and flushes the writer.
 fn write<W: io::Write>(bytes: &[u8], out: &mut W) -> io::Result<()>
     ensures { OnOk result (Appends (W.contents out.old) (W.contents out.new) bytes.now) }
 {

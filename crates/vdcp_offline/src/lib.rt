@@ -1,8 +1,7 @@
 //! The subcommands that touch no line: `check` holds a playlist against a catalogue, `vectors` tests each row of a file
 //! of bursts and their readings, `judge` holds a captured line against the rule book, and `sim` runs a script of a line.
 //!
-//! Each is a function `do_NAME` over any readers and writers, in a module of its name. It reports a failure to standard error
-//! in one line, and gives the exit status.
+//! Each is a function `do_NAME` over any readers and writers, which gives the exit status.
 #![tactic(auto)]
 
 mod check;

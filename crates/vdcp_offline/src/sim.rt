@@ -1,8 +1,4 @@
 //! The subcommand `sim`: a script is run, and what came of it printed.
-//!
-//! `do_sim` reads a playlist, a catalogue and a script, each a `NamedFile`, brings the script's events into a new
-//! world, and prints what went to air and what was reported of it. It reports a failure to standard error in one line,
-//! and gives the exit status.
 ghost use Rattle.std.specs.Io.KnownBytes.{Appends, Keeps};
 ghost use Rattle.std.specs.Prelude.{◌≡◌, ◌≢◌, ◌⊎◌, ◌≤◌, IfErr, IsTrue, OnOk, true};
 ghost use Rattle.vdcp_offline.specs.Check.{AreWhole};
@@ -24,34 +20,30 @@ use vdcp_world::World;
 
 mod script;
 
-/// What a channel is made with, and what is printed of it.
 #[derive(Clone, Copy, Debug, PartialEq, Eq)]
 pub struct SimSettings {
     /// The unit address of both ends, 0 to 15.
     pub unit: u8,
-    /// The port's number.
     pub port: u8,
-    /// Unanswered exchanges in a row after which the controller gives up, 1 to 1,000.
+    /// How many unanswered exchanges in a row end the controller, 1 to 1,000.
     pub limit: u32,
-    /// The length of a cue in frames, 1 to 1,000.
+    /// The length of a cue, 1 to 1,000 frames.
     pub cue_frames: u32,
-    /// The controller's mode. In confirm mode receipts may come from nowhere.
+    /// In confirm mode receipts may come from nowhere.
     pub mode: Mode,
-    /// The frame rate of time codes.
+    /// The rate of the files' time codes.
     pub rate: Rate,
-    /// Each exchange is printed too.
+    /// Whether each exchange is printed.
     pub trace: bool,
 }
 
-/// Runs a script of events in a new world, in which the controller plays the list through a port that has
-/// the clips of the catalogue. `out` gets, with `trace`, a line for each exchange that ended, then one for
-/// each item that went to air, and then how many events are reported, how many exchanges ended, and how the
-/// controller ended.
+/// Runs a script of events in a new world, in which the controller plays the list through a port with the catalogue's
+/// clips. `out` gets, with `trace`, a line for each exchange, then one for each item that went to air, then how many events
+/// are reported, how many exchanges ended, and how the controller ended. Then it is flushed.
 ///
-/// The status is 0 whatever came of the events. It is 1 if a row or the script is refused, and 3 if a
-/// file can't be read or memory was refused: `err` gets a line of either, and `out` nothing. The list is
-/// read first, and then the catalogue. The status is 3 if a writer failed: nothing more is written to
-/// that one. `out` is flushed after the last line.
+/// The status is 0 whatever came of the events, 1 if a row or the script is refused, and 3 if a file can't be read or
+/// memory was refused: then `err` gets one line, and `out` nothing. List and catalogue are read first. It is 3 if a writer
+/// failed, which gets nothing more.
 pub fn do_sim<
     L: io::Read + Drop,
     C: io::Read + Drop,
@@ -72,7 +64,6 @@ pub fn do_sim<
     requires few { settings.limit ≤ 1000 }
     requires some_frames { 1 ≤ settings.cue_frames }
     requires few_frames { settings.cue_frames ≤ 1000 }
-    // The status is 1 for a row that is refused, and for a line or the whole of the script.
     ensures { let l = file list.entry.name (L.remaining list.entry.reader) in
         let c = file catalogue.entry.name (C.remaining catalogue.entry.reader) in
         IsSubcommand (λ good old new. IsTrue good × IsSimulated settings l c (R.remaining script.entry.reader) old new)
@@ -85,7 +76,6 @@ pub fn do_sim<
     }
 }
 
-// Reads the playlist and the catalogue, runs the script, and writes what came of it.
 fn simulate<'a, L: io::Read + Drop, C: io::Read + Drop, R: io::Read + Drop, W: io::Write>(
     alloc: Global,
     list: NamedFile<'a, L>,
@@ -117,7 +107,6 @@ fn simulate<'a, L: io::Read + Drop, C: io::Read + Drop, R: io::Read + Drop, W: i
     run_script(alloc, events, clips, script, settings, out)
 }
 
-// Runs the script, and writes what came of it.
 fn run_script<'a, S: Source + Drop, C: Catalogue + Drop, R: io::Read + Drop, W: io::Write>(
     alloc: Global,
     source: S,
@@ -145,7 +134,6 @@ fn run_script<'a, S: Source + Drop, C: Catalogue + Drop, R: io::Read + Drop, W: 
     )
 }
 
-// The new world of a playlist and a catalogue.
 fn new_world<S: Source, C: Catalogue>(
     alloc: Global,
     source: S,
@@ -174,7 +162,6 @@ fn new_world<S: Source, C: Catalogue>(
     }
 }
 
-// Writes what came of a run.
 fn write_run<W: io::Write>(
     log: &[Exchange],
     aired: &[Item],
@@ -194,7 +181,6 @@ fn write_run<W: io::Write>(
     out.flush()
 }
 
-// Writes a line for each exchange.
 fn write_log<W: io::Write>(log: &[Exchange], out: &mut W) -> io::Result<()>
     ensures { OnOk result (Appends (W.contents out.old) (W.contents out.new) (trace_text true log.now)) }
 {
@@ -211,7 +197,6 @@ fn write_exchange<W: io::Write>(number: usize, exchange: Exchange, out: &mut W) 
     writeln!(out, "{number} {exchange}")
 }
 
-// Writes a line for each item that went to air.
 fn write_aired<W: io::Write>(aired: &[Item], rate: Rate, out: &mut W) -> io::Result<()>
     ensures { OnOk result (Appends (W.contents out.old) (W.contents out.new) (aired_text rate aired.now)) }
 {
@@ -228,7 +213,6 @@ fn write_item<W: io::Write>(k: usize, item: Item, rate: Rate, out: &mut W) -> io
     writeln!(out, "aired {k} {item}")
 }
 
-// Writes the counts, and how the controller ended.
 fn write_end<W: io::Write>(
     reported: usize,
     exchanges: usize,

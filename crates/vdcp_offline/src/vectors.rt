@@ -26,23 +26,19 @@ use vdcp_list::{Bounded, MAX_ROWS, next_row, rows_in};
 use vdcp_text::{EndText, Failure, MessageText};
 use vdcp_value::RowFault;
 
-/// Tests each row of a vector file: a burst in hexadecimal digits, and its reading, the lines of
-/// which are joined by `; `. It is CSV with commas and double quotes, without a header row, and
-/// blank lines are left out. `out` gets a line for each row that has another reading, that hasn't
-/// two fields, or whose first field isn't an even number of hexadecimal digits; and then one with
-/// the number of rows.
+/// Tests each row of a file of bursts, of the form that `docs/FORMATS.md` gives. `out` gets a line for each row that has
+/// another reading, hasn't two fields, or whose first isn't an even number of hexadecimal digits; then one with how many
+/// rows there are. Then it is flushed.
 ///
-/// The status is 0 if all rows are right, and 1 if one isn't. It is also 1 if there are more
-/// than 10,000 rows or one is longer than 64 KiB, and 3 if the file can't be read or memory was refused: `err` gets a line of
-/// either, and `out` nothing. The status is 3 if a writer failed: nothing more is written to that
-/// one. `out` is flushed after the last line.
+/// The status is 0 if all rows are right, and 1 if one isn't. It is also 1 if there are more than 10,000 rows or one is
+/// longer than 64 KiB, and 3 if the file can't be read or memory was refused: then `err` gets one line, and `out` nothing.
+/// It is 3 if a writer failed, which gets nothing more.
 pub fn do_vectors<R: io::Read + Drop, W: io::Write, E: io::Write>(
     alloc: Global,
     file: NamedFile<'_, R>,
     out: &mut W,
     err: &mut E,
 ) -> u8
-    // The status is 1 if a row is bad, and for a file of too many rows or of one that is too long.
     ensures { let bytes = R.remaining file.entry.reader in
         IsSubcommand (λ right old new. Counted (AreTested bytes old new) right) (RefusesRows file.entry.name bytes)
         (IfSome bytes (λ known. length (rows_of known) ≤ most_rows))
@@ -55,7 +51,6 @@ pub fn do_vectors<R: io::Read + Drop, W: io::Write, E: io::Write>(
     }
 }
 
-// Tests the rows, writes what was found, and says how many are bad.
 fn vectors<'a, R: io::Read + Drop, W: io::Write>(
     alloc: Global,
     file: NamedFile<'a, R>,
@@ -72,7 +67,6 @@ fn vectors<'a, R: io::Read + Drop, W: io::Write>(
     tally.write(out).map_err(|_| Failure::Writer)
 }
 
-// Tests the rows of a file.
 fn test_rows<'a, R: io::Read + Drop>(
     alloc: Global,
     file: NamedFile<'a, R>,
@@ -97,14 +91,12 @@ fn test_rows<'a, R: io::Read + Drop>(
     Ok(tally)
 }
 
-// What the law of vdcp_list says.
 fn rows_are_read()
     ensures { RowLaws }
 {
     rows_are_read_in_order();
 }
 
-// Takes the next row of the file of this name.
 #[tactic(auto, using(crate::proofs::VectorLemmas::untested))]
 fn take_row<'a, R: io::Read>(
     name: &'a str,
@@ -123,28 +115,22 @@ fn take_row<'a, R: io::Read>(
     }
 }
 
-// Why a file of this name that has more rows isn't tested.
 fn too_many<'a>(name: &'a str) -> Failure<'a>
     ensures { result ≡ too_many name.entry }
 {
     Failure::Row(name, MAX_ROWS + 1, RowFault::TooMany)
 }
 
-// What a row is found to be.
 #[derive(Clone, Copy)]
 enum Verdict<'a> {
-    // The burst has the expected reading.
     Right,
-    // There aren't two fields.
     Columns,
-    // The first field isn't an even number of hexadecimal digits.
     Hex,
-    // The burst has another reading, this one.
+    // It has this reading instead.
     Other(&'a str),
 }
 
 impl Verdict<'_> {
-    // How many bad rows it counts as.
     fn bad(self) -> usize
         ensures bad { result ≡ bad_count (finding_of self.entry ∷ []) }
         ensures few { result ≤ 1 }
@@ -156,7 +142,7 @@ impl Verdict<'_> {
     }
 }
 
-// Tests a row. `burst` is the room for its bytes, and `reading` for what these read as.
+// The buffers are lent, so that no row needs memory of its own.
 fn test_row<'a>(
     row: &ByteRecord,
     burst: &mut Vec<u8>,
@@ -170,7 +156,6 @@ fn test_row<'a>(
     }
 }
 
-// The fields of a row that has two.
 fn two_fields(row: &ByteRecord) -> Option<(&[u8], &[u8])>
     ensures some { IfSome result (λ fields. fields_of row.now ≡ fields.0.now ∷ fields.1.now ∷ []) }
     ensures none { IfNone result (length (fields_of row.now) ≢ 2) }
@@ -181,7 +166,6 @@ fn two_fields(row: &ByteRecord) -> Option<(&[u8], &[u8])>
     Some((row.get(0)?, row.get(1)?))
 }
 
-// Tests the digits of a burst.
 fn test_burst<'a>(
     digits: &[u8],
     expected: &[u8],
@@ -203,7 +187,6 @@ fn test_burst<'a>(
     }
 }
 
-// Decodes digits in place of the bytes, so that no row needs memory of its own.
 fn decode(digits: &[u8], bytes: &mut Vec<u8>) -> Result<(), FromHexError>
     ensures ok { OnOk result (decode_of digits.now ≡ Ok bytes.new.items) }
     ensures err { IfErr result (λ e. (e ≡ FromHexError.OutOfMemory) ⊎ (decode_of digits.now ≡ Err e)) }
@@ -214,7 +197,6 @@ fn decode(digits: &[u8], bytes: &mut Vec<u8>) -> Result<(), FromHexError>
     hex::decode_to_slice(digits, bytes.as_mut_slice())
 }
 
-// Writes a burst's reading, its lines joined, in place of the text.
 fn show_reading(burst: &[u8], text: &mut String) -> Result<(), AllocError>
     ensures { OnOk result (string_bytes text.new ≡ joined_reading burst.now) }
 {
@@ -223,7 +205,6 @@ fn show_reading(burst: &[u8], text: &mut String) -> Result<(), AllocError>
     write!(text, "{end}")
 }
 
-// Writes the lines of a burst's messages in place of the text, and gives the burst's end.
 fn show_messages(burst: &[u8], text: &mut String) -> Result<End, AllocError>
     ensures end { IfOk result (λ end. end_seen end ≡ end_of burst.now) }
     ensures text { OnOk result (string_bytes text.new ≡ joined_text (messages_of burst.now)) }
@@ -236,7 +217,6 @@ fn show_messages(burst: &[u8], text: &mut String) -> Result<End, AllocError>
     Ok(messages.end())
 }
 
-// Adds the line of a message.
 fn write_message(message: Message<'_>, text: &mut String) -> Result<(), AllocError>
     ensures { OnOk result (string_bytes text.new
         ≡ string_bytes text.old ++ (message_text (content_of message.entry) ++ codes "; ")) }
@@ -245,7 +225,6 @@ fn write_message(message: Message<'_>, text: &mut String) -> Result<(), AllocErr
     write!(text, "{message}; ")
 }
 
-// Adds the line of row `k`, if it is bad.
 fn write_line(lines: &mut String, k: usize, verdict: Verdict<'_>) -> Result<(), AllocError>
     ensures { OnOk result (string_bytes lines.new
         ≡ string_bytes lines.old ++ finding_text k (finding_of verdict.entry)) }
@@ -258,7 +237,6 @@ fn write_line(lines: &mut String, k: usize, verdict: Verdict<'_>) -> Result<(), 
     }
 }
 
-// How many rows there were, and which of them were bad.
 #[derive(Drop)]
 struct Tally {
     rows: usize,
@@ -278,7 +256,6 @@ impl Tally {
         }
     }
 
-    // Counts one more row, and adds its line if it is bad.
     fn add(&mut self, verdict: Verdict<'_>) -> Result<(), AllocError>
         requires few { self.old.rows < 10_000 }
         requires within { self.old.bad ≤ self.old.rows }
@@ -292,7 +269,6 @@ impl Tally {
         Ok(())
     }
 
-    // Writes the lines and the counts, and gives how many rows are bad.
     fn write<W: io::Write>(&self, out: &mut W) -> io::Result<usize>
         ensures text { (findings : List Finding) → IsTally findings self.now
             → OnOk result (Appends (W.contents out.old) (W.contents out.new) (vectors_text findings)) }
@@ -310,7 +286,6 @@ impl Tally {
     }
 }
 
-// The last line: how many rows there are, and how many of them are bad.
 #[derive(Clone, Copy)]
 struct CountText {
     rows: usize,

@@ -1,4 +1,4 @@
-//! One exchange with a server: how a burst is sent, and what comes for it collected, also too late.
+//! One exchange with a server: a burst is sent, and what comes for it collected, also if it comes late.
 ghost use Rattle.std.specs.Prelude.{◌≡◌, IfOk, OnOk};
 ghost use Rattle.vdcp_wire.specs.Streams.{failures_of};
 
@@ -10,32 +10,30 @@ use vdcp_frame::LIMIT;
 use vdcp_text::Failure;
 use vdcp_wire::{Came, PIECE, StreamWire, Wire};
 
-/// How often a server that answers nothing is asked.
+// How often a server that answers nothing is asked.
 const MOST_ASKS: u32 = 3;
 
-/// How many silences after a burst its answer is taken for ended, also if bytes still come.
+// After so many silences an answer counts as ended, also if bytes still come.
 const MOST_SILENCES: u64 = 16;
 
-/// Asks a server over a wire.
 #[derive(Drop)]
 pub struct Asker<'a, R: Clock, W: Wire> {
     rt: &'a R,
     pub wire: W,
-    // How long an answer may take.
     patience: Duration,
 }
 
 /// What came for a burst.
 #[derive(Drop)]
 pub struct Answer {
-    /// As much of it as a reader reads, and a piece more.
+    /// As much as a reader reads, and a piece more.
     pub bytes: Vec<u8>,
-    /// The line was silent then: else bytes still came after 16 silences.
+    /// Whether the line was silent then; else bytes still came after 16 silences.
     pub has_ended: bool,
 }
 
 impl Answer {
-    /// Its bytes. `Spent` if it hasn't ended.
+    /// The fault is `Spent` if it hasn't ended.
     pub fn whole(self) -> Result<Vec<u8>, Failure<'static>> {
         if self.has_ended {
             Ok(self.bytes)
@@ -46,7 +44,7 @@ impl Answer {
 }
 
 impl<'a, R: Net + Clock + AllocGlobal> Asker<'a, R, StreamWire<R::Stream>> {
-    /// Connects to the server at an address. An answer has ended once nothing came for this many milliseconds.
+    /// An answer has ended once nothing came for `silence` milliseconds. The fault is `Connect` or `LineFailed`.
     pub fn connect(rt: &'a R, address: SocketAddrV4, silence: u32) -> Result<Self, Failure<'static>>
         ensures { IfOk result (λ asker. failures_of asker.wire.connection ≡ 0) }
     {
@@ -70,7 +68,7 @@ impl<'a, R: Clock + AllocGlobal, W: Wire> Asker<'a, R, W> {
         self.rt.alloc()
     }
 
-    /// Asks until something comes. `Unanswered` if three times nothing did; the faults of `ask`.
+    /// Asks until something comes. The faults are those of `ask`, and `Unanswered` if three times nothing came.
     pub fn ask_again(&mut self, burst: &[u8]) -> Result<Answer, Failure<'static>>
         requires { W.failures self.old.wire ≡ 0 }
         ensures works { OnOk result (W.failures self.new.wire ≡ 0) }
@@ -84,8 +82,8 @@ impl<'a, R: Clock + AllocGlobal, W: Wire> Asker<'a, R, W> {
         Err(Failure::Unanswered)
     }
 
-    /// Drops what waits on the wire, sends a burst, and gives what comes until the line is silent, or for 16 silences.
-    /// `LineFailed`, and `LineClosed` if the other end has closed; `Memory`.
+    /// Drops what waits on the wire, sends a burst, and gives what comes until the line is silent, or for 16 silences. The
+    /// fault is `LineFailed`, `LineClosed` (the other end has closed it) or `Memory`.
     pub fn ask(&mut self, burst: &[u8]) -> Result<Answer, Failure<'static>>
         requires { W.failures self.old.wire ≡ 0 }
         ensures works { OnOk result (W.failures self.new.wire ≡ 0) }
@@ -96,7 +94,7 @@ impl<'a, R: Clock + AllocGlobal, W: Wire> Asker<'a, R, W> {
         self.hear()
     }
 
-    /// Drops what comes until the line was silent twice, and says whether something came. The same faults, and `Spent`.
+    /// Drops what comes until the line was silent twice; says whether something came. The faults are `ask`'s, and `Spent`.
     pub fn settle(&mut self) -> Result<bool, Failure<'static>>
         requires { W.failures self.old.wire ≡ 0 }
         ensures works { OnOk result (W.failures self.new.wire ≡ 0) }
@@ -106,7 +104,6 @@ impl<'a, R: Clock + AllocGlobal, W: Wire> Asker<'a, R, W> {
         Ok(!soon.is_empty() || !late.is_empty())
     }
 
-    // What comes until the line is silent, or for 16 silences.
     fn hear(&mut self) -> Result<Answer, Failure<'static>>
         requires { W.failures self.old.wire ≡ 0 }
         ensures works { OnOk result (W.failures self.new.wire ≡ 0) }
@@ -126,7 +123,7 @@ impl<'a, R: Clock + AllocGlobal, W: Wire> Asker<'a, R, W> {
         Ok(Answer { bytes, has_ended })
     }
 
-    // Appends the next bytes that come, and says whether the line was silent instead. What is read no further isn't kept.
+    // Says whether the line was silent. Bytes beyond what a reader reads aren't kept.
     fn hear_piece(&mut self, bytes: &mut Vec<u8>) -> Result<bool, Failure<'static>>
         requires { W.failures self.old.wire ≡ 0 }
         ensures works { OnOk result (W.failures self.new.wire ≡ 0) }
@@ -145,7 +142,7 @@ impl<'a, R: Clock + AllocGlobal, W: Wire> Asker<'a, R, W> {
         }
     }
 
-    // By a clock that stands still if it can't be read.
+    // A clock that can't be read stands still.
     fn now(&self) -> Duration {
         self.rt.monotonic().unwrap_or(Duration::ZERO)
     }

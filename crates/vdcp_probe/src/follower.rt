@@ -9,18 +9,15 @@ use std::marker::Model;
 use vdcp_port::{Catalogue, Kept, Port};
 use vdcp_value::{ClipId, Timecode};
 
-/// What happened at a port by itself.
 #[derive(Clone, Copy, Debug, PartialEq, Eq)]
 pub enum Meanwhile {
     Nothing,
-    /// The cue got done.
     CueDone,
-    /// The clip on air ended.
     ClipEnded,
     Both,
 }
 
-/// What may have happened, the least first.
+// What may have happened, the least first.
 const ALL: [Meanwhile; 4] = [
     Meanwhile::Nothing,
     Meanwhile::CueDone,
@@ -28,7 +25,6 @@ const ALL: [Meanwhile; 4] = [
     Meanwhile::Both,
 ];
 
-/// The clips of a catalogue that is lent.
 #[derive(Clone, Copy)]
 struct Lent<'a, C>(&'a C);
 
@@ -40,7 +36,7 @@ impl<C: Catalogue> Catalogue for Lent<'_, C> {
     }
 }
 
-/// The port that a server is held against: it gets the bursts that the server gets.
+/// A port that gets the bursts that a server gets.
 #[derive(Drop)]
 pub struct Follower<'a, C: Catalogue> {
     catalogue: &'a C,
@@ -59,7 +55,6 @@ impl<'a, C: Catalogue> Model for Follower<'a, C> {
 }
 
 impl<'a, C: Catalogue> Follower<'a, C> {
-    /// A new port with the catalogue's clips, this unit address and this number.
     pub fn new(catalogue: &'a C, unit: u8, number: u8) -> Self
         requires { unit ≤ 15 }
         ensures { result ≡ new_port (C.clips catalogue.now) unit number 1 }
@@ -68,14 +63,12 @@ impl<'a, C: Catalogue> Follower<'a, C> {
         Follower { catalogue, kept }
     }
 
-    // The port as it stands.
     fn port(&self) -> Port<Lent<'a, C>>
         ensures { result ≡ self.now }
     {
         Port::of_kept(Lent(self.catalogue), &self.kept)
     }
 
-    // The same with this port.
     fn moved_to(&self, port: &Port<Lent<'a, C>>) -> Self
         requires { port.now.clips ≡ self.now.clips }
         ensures { result ≡ port.now }
@@ -86,14 +79,12 @@ impl<'a, C: Catalogue> Follower<'a, C> {
         }
     }
 
-    /// The port's state byte.
     pub fn status_byte(&self) -> u8
         ensures { result ≡ state_byte self.now.state }
     {
         self.port().status_byte()
     }
 
-    // What comes for a burst if this happened before it, and the port then.
     fn answer_after(
         &self,
         alloc: Global,
@@ -111,7 +102,7 @@ impl<'a, C: Catalogue> Follower<'a, C> {
         Ok((answer, self.moved_to(&port)))
     }
 
-    /// The port after a burst, if what came is what it may answer.
+    /// The port after a burst, if it may answer what came; None if it may not.
     pub fn after(
         &self,
         alloc: Global,
@@ -130,7 +121,7 @@ impl<'a, C: Catalogue> Follower<'a, C> {
         Ok(None)
     }
 
-    /// What may come for a burst, each of it once.
+    /// What the port may answer, each answer once.
     pub fn may_come(&self, alloc: Global, burst: &[u8]) -> Result<Vec<Vec<u8>>, AllocError> {
         let mut answers = Vec::new(alloc);
         for meanwhile in ALL {
@@ -141,7 +132,6 @@ impl<'a, C: Catalogue> Follower<'a, C> {
     }
 }
 
-/// This happens at the port.
 fn change<C: Catalogue>(meanwhile: Meanwhile, port: &mut Port<C>)
     ensures { port.new ≡ changed_by meanwhile port.old }
 {

@@ -18,22 +18,19 @@ use vdcp_value::{ClipId, Item, Rate, Timecode};
 use vdcp_wire::{Wire, address_of};
 use vdcp_words::{Command, Reply};
 
-/// What a server is asked with.
 #[derive(Clone, Copy, Debug, PartialEq, Eq)]
 pub struct AskSettings {
     /// The server's unit address, 0 to 15.
     pub unit: u8,
-    /// The frame rate of time codes.
+    /// The rate of the list's time codes.
     pub rate: Rate,
-    /// How long the line has to be silent for an answer to have ended, in milliseconds, 1 to 60,000. It has also ended
-    /// once bytes have come for 16 times as long.
+    /// An answer ends with such a silence, or after 16 times as long: 1 to 60,000 milliseconds.
     pub silence: u32,
 }
 
-/// Why a server isn't asked to the end.
 #[derive(Clone, Copy)]
 enum AskFault<'a> {
-    /// What it says of this clip says neither that it has it nor that it hasn't, or gives no length.
+    // It says neither that the server has the clip nor that it hasn't, or gives no length.
     Answer(Rate, ClipId),
     Failed(Failure<'a>),
 }
@@ -45,7 +42,6 @@ impl<'a> From<Failure<'a>> for AskFault<'a> {
 }
 
 impl AskFault<'_> {
-    // Reports it to `err` in one line, and gives the status.
     fn report<E: io::Write>(self, err: &mut E) -> u8
         ensures { result ≤ 3 }
     {
@@ -60,14 +56,14 @@ impl AskFault<'_> {
     }
 }
 
-/// Asks the server at `address`, an IPv4 address, a colon and a TCP port, whether it has each clip of a playlist, and how
-/// long it is. `out` gets how many events there are and how many of their clips the server has, and then the lines that
-/// `do_check` writes of events that can't be played. Only ID REQUEST and ID SIZE REQUEST go out, each clip's once, and
-/// again if nothing comes: the port needn't be open, and stays as it is.
+/// Asks the server at `address`, an IPv4 address, a colon and a TCP port, for each clip of a playlist, and its length.
+/// `out` gets how many events there are and how many of their clips the server has, and the lines that `do_check` writes
+/// of events that can't be played. Only ID REQUEST and ID SIZE REQUEST go out, once for a clip, or again if nothing comes:
+/// the port needn't be open, and stays as it is.
 ///
-/// The status is 0 if each event can be played, and 1 if one can't, or if a row of the list is refused. It is 2
-/// if the address is none, which is tested first; and 3 if the list can't be read, memory was refused, nobody takes
-/// the connection, it is closed or fails, a clip's answer never comes or says neither yes nor no, or a writer failed. For each of these but the last `err` gets a line.
+/// The status is 0 if each event can be played, 1 if one can't or a row is refused, 2 if the address is none (tested
+/// first), and 3 if a file, memory, the connection or a writer fails, or a clip's answer doesn't come or says neither yes
+/// nor no. `err` gets a line of each failure but a writer's.
 pub fn do_ask<R: Net + Clock + AllocGlobal, L: io::Read + Drop, W: io::Write, E: io::Write>(
     rt: &R,
     address: &str,
@@ -89,7 +85,6 @@ pub fn do_ask<R: Net + Clock + AllocGlobal, L: io::Read + Drop, W: io::Write, E:
     }
 }
 
-// Reads the list, asks for its clips, writes what was found, and says whether each event can be played.
 fn ask_at<'a, R: Net + Clock + AllocGlobal, L: io::Read + Drop, W: io::Write>(
     rt: &R,
     address: &str,
@@ -109,7 +104,6 @@ fn ask_at<'a, R: Net + Clock + AllocGlobal, L: io::Read + Drop, W: io::Write>(
     ask_events(&events, settings, &mut asker, out)
 }
 
-// Asks for the clips of all events, and writes what was found.
 fn ask_events<'a, S: Source, R: Clock + AllocGlobal, T: Wire, W: io::Write>(
     events: &S,
     settings: AskSettings,
@@ -137,7 +131,6 @@ fn ask_events<'a, S: Source, R: Clock + AllocGlobal, T: Wire, W: io::Write>(
     }
 }
 
-// Whether no event before this one has this ID.
 fn is_first<S: Source>(events: &S, k: usize, id: ClipId) -> bool
     requires { k ≤ length (S.items events.now) }
 {
@@ -149,7 +142,6 @@ fn is_first<S: Source>(events: &S, k: usize, id: ClipId) -> bool
     true
 }
 
-// How long a clip is, by what the server says; None if it hasn't got it.
 fn length_at<'a, R: Clock + AllocGlobal, T: Wire>(
     id: ClipId,
     settings: AskSettings,
@@ -173,7 +165,6 @@ fn length_at<'a, R: Clock + AllocGlobal, T: Wire>(
     }
 }
 
-// The first reply that comes to a command, if what comes begins with one.
 fn reply_to<R: Clock + AllocGlobal, T: Wire>(
     command: Command,
     unit: u8,
@@ -187,7 +178,6 @@ fn reply_to<R: Clock + AllocGlobal, T: Wire>(
     Ok(first_reply(answer.bytes.as_slice(), unit))
 }
 
-// The reply of a unit that a burst begins with, if it begins with one.
 fn first_reply(came: &[u8], unit: u8) -> Option<Reply> {
     let message = Messages::of(came).next()?;
     match Heard::of_message(&message, unit) {

@@ -1,10 +1,8 @@
-//! The subcommands `probe` and `ask`: does a server's port keep the port's table, on which as-run lists rest, and does it
-//! have the clips of a list?
+//! The subcommands `probe` and `ask` (`do_probe`, `do_ask`): does a server's port keep the port's table, on which as-run
+//! lists rest, and does it have the clips of a list?
 //!
-//! `do_ask` asks for the clips of a list. `do_probe` puts `rows` of the table. A `Row` brings the port to a `Start`, and then
-//! takes its `Step`s. Each burst that a step sends is also given to a `Follower`, a port of `vdcp_port`, and `hold_answer`
-//! holds what comes against what that may answer, whatever got done or ended by itself before the burst. Both ask by an
-//! `Asker`, whose answers end at last: by a silence, or by the clock.
+//! A `Row` of the table brings the port to a `Start` and takes `Step`s. A `Follower`, a port of `vdcp_port`, gets the same
+//! bursts, and `hold_answer` holds what comes against what it may answer, whatever got done or ended before the burst.
 //!
 //! Files, in reading order: `row`, `table`, `naming`, `asking`, `follower`, `walk`, `reading`, `report`, `settings`,
 //! `probe`, `inventory`.

@@ -15,7 +15,6 @@ use vdcp_words::Command;
 pub struct Naming {
     /// The unit address, 0 to 15.
     pub unit: u8,
-    /// The port's number.
     pub port: u8,
     pub first: ClipId,
     pub second: ClipId,
@@ -23,7 +22,6 @@ pub struct Naming {
 }
 
 impl Naming {
-    /// The command of this.
     pub fn command(&self, ask: &Ask) -> Command
         ensures { result ≡ command_for self.now ask.now }
     {
@@ -63,7 +61,6 @@ impl Naming {
         }
     }
 
-    /// Appends what a step adds to the burst.
     pub fn add_step(&self, step: &Step, burst: &mut Vec<u8>) -> Result<(), AllocError>
         requires { self.now.unit ≤ 15 }
         ensures { OnOk result (burst.new.items ≡ burst.old.items ++ step_bytes self.now step.now) }
@@ -83,7 +80,6 @@ impl Naming {
         }
     }
 
-    /// Appends the bytes of a command.
     pub fn add_ask(&self, ask: &Ask, burst: &mut Vec<u8>) -> Result<(), AllocError>
         requires { self.now.unit ≤ 15 }
         ensures { OnOk result (burst.new.items ≡ burst.old.items ++ ask_bytes self.now.unit self.now ask.now) }
@@ -106,14 +102,12 @@ fn other_unit(unit: u8) -> u8
     if unit == 15 { 0 } else { unit + 1 }
 }
 
-// The bytes without the last one.
 fn cut(bytes: &[u8]) -> &[u8]
     ensures { result.now ≡ cut bytes.now }
 {
     &bytes[..bytes.len().saturating_sub(1)]
 }
 
-// Appends the bytes with another last one.
 fn add_damaged(bytes: &[u8], burst: &mut Vec<u8>) -> Result<(), AllocError>
     ensures { OnOk result (burst.new.items ≡ burst.old.items ++ damaged bytes.now) }
 {
@@ -122,7 +116,6 @@ fn add_damaged(bytes: &[u8], burst: &mut Vec<u8>) -> Result<(), AllocError>
     burst.extend_from_slice(&[last.wrapping_add(1)])
 }
 
-// The bytes of a framed message.
 fn framed(unit: u8, kind: u8, code: u8, rest: &[u8]) -> ArrayVec<u8, 258>
     requires { unit ≤ 15 }
     ensures { result.items ≡ spelling (framed (kind % 16) unit code (take (min (length rest.now) 253) rest.now)) }

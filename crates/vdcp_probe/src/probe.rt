@@ -19,18 +19,15 @@ use vdcp_text::{Failure, NameText};
 use vdcp_value::ClipId;
 use vdcp_wire::{Wire, address_of};
 
-/// How often a row that differs is put again at most, and how often rows are in vain: a server that is wrong in most rows
-/// isn't asked several times for all of them.
+// How often a row that differs is put again, and how often that may be in vain: a server that is wrong in most rows isn't
+// asked several times for all of them.
 const MOST_AGAIN: u32 = 4;
 
 const MOST_IN_VAIN: u32 = 8;
 
-/// Why a server isn't probed, or not to the end.
 #[derive(Clone, Copy)]
 enum ProbeFault<'a> {
-    /// Nobody has said that the port may be stopped.
     MayNotStop,
-    /// The catalogue of this name has fewer than two clips.
     FewClips(&'a str),
     Failed(Failure<'a>),
 }
@@ -42,7 +39,6 @@ impl<'a> From<Failure<'a>> for ProbeFault<'a> {
 }
 
 impl ProbeFault<'_> {
-    // Reports it to `err` in one line, and gives the status.
     fn report<E: io::Write>(self, err: &mut E) -> u8
         ensures { result ≤ 3 }
     {
@@ -67,16 +63,16 @@ impl ProbeFault<'_> {
     }
 }
 
-/// Puts rows of the port's table to a server at `address`: an IPv4 address, a colon and a TCP port. It stops
-/// what its port plays. `out` gets a line for each row, as soon as it is known, and at last one with how many rows
-/// were put, how many were kept, how many differ, and how many of these can falsify an as-run list. A row that may
-/// differ since an answer came late is put again. `err` gets a line that names those that were kept then, and one that
-/// names those that a server can't keep which waits for the rest of a cut command, if there are any.
+/// Puts rows of the port's table to the server at `address`, an IPv4 address, a colon and a TCP port. It stops what the
+/// port plays. `out` gets a line for each row as soon as it is known, and at last how many rows there are, how many were
+/// kept, how many differ, and how many of these can falsify an as-run list. A row that may differ since an answer came late
+/// is put again. `err` gets a line of the rows that were kept only then, and one of those that a server can't keep which
+/// waits for the rest of a cut command.
 ///
-/// The status is 0 if no row differs, and 1 if one does, if a row of the catalogue is refused, and if
-/// it has fewer than two clips. It is 2 if the port may not be stopped, and if the address is none, which is
-/// tested next; and 3 if the catalogue can't be read, memory was refused, nobody takes the connection, it is closed
-/// or fails, nothing is ever answered, bytes still come 16 silences after a burst, or a writer failed. For each of these but the last `err` gets a line.
+/// The status is 0 if no row differs, and 1 if one does, a row of the catalogue is refused, or it has fewer than two clips.
+/// It is 2 if the port may not be stopped or the address is none (tested in that order), and 3 if a file, memory, the
+/// connection or a writer fails, nothing is ever answered, or bytes still come 16 silences after a burst. `err` gets a line
+/// of each failure but a writer's.
 pub fn do_probe<R: Net + Clock + AllocGlobal, C: io::Read + Drop, W: io::Write, E: io::Write>(
     rt: &R,
     address: &str,
@@ -126,7 +122,6 @@ fn probe<'a, R: Net + Clock + AllocGlobal, C: io::Read + Drop, W: io::Write>(
     )?)
 }
 
-// Reads the catalogue, and what the commands name of it.
 fn read_clips<'a, C: io::Read + Drop>(
     alloc: Global,
     catalogue: NamedFile<'a, C>,
@@ -151,8 +146,6 @@ fn read_clips<'a, C: io::Read + Drop>(
     Ok((clips, naming))
 }
 
-// Asks a server for its state until it answers, and puts those rows to it that `only` has. Writes what is found of each, and then
-// the counts.
 fn probe_rows<C: Catalogue, R: Clock + AllocGlobal, T: Wire, W: io::Write>(
     clips: &C,
     naming: &Naming,
@@ -179,7 +172,6 @@ fn probe_rows<C: Catalogue, R: Clock + AllocGlobal, T: Wire, W: io::Write>(
     Ok(all)
 }
 
-// Asks for the state until something comes.
 fn test_answers<R: Clock + AllocGlobal, T: Wire>(
     naming: &Naming,
     asker: &mut Asker<'_, R, T>,
@@ -194,7 +186,6 @@ fn test_answers<R: Clock + AllocGlobal, T: Wire>(
     Ok(())
 }
 
-// Puts a row, writes what is found of it, and adds that.
 fn put_row<C: Catalogue, R: Clock + AllocGlobal, T: Wire, W: io::Write>(
     clips: &C,
     naming: &Naming,
@@ -232,8 +223,7 @@ fn put_row<C: Catalogue, R: Clock + AllocGlobal, T: Wire, W: io::Write>(
     Ok(())
 }
 
-// Puts a row that differs again as long as something may have come too late: whether it is kept then. It isn't put in vain
-// more often than is spare.
+// A row that differs is put again as long as something may have come too late, and in vain no more often than is spare.
 fn is_kept_again<C: Catalogue, R: Clock + AllocGlobal, T: Wire>(
     clips: &C,
     naming: &Naming,

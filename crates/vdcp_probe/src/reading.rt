@@ -4,7 +4,6 @@ use std::fmt::Write;
 use vdcp_frame::Messages;
 use vdcp_text::{EndText, HexText, MeaningText, MessageText};
 
-/// What was sent, what came, and what may come.
 pub fn difference(
     alloc: Global,
     sent: &[u8],
@@ -25,7 +24,6 @@ pub fn difference(
     Ok(text)
 }
 
-// Appends a burst's reading in one line, or that nothing came.
 fn show_reading(burst: &[u8], text: &mut String) -> Result<(), AllocError> {
     if burst.is_empty() {
         return write!(text, "silence");

@@ -2,16 +2,15 @@
 use crate::row::{Group, Row};
 use std::io;
 
-/// What was found of a row: it was kept, or this differs.
 #[derive(Drop)]
 pub struct Told {
     pub row: Row,
     pub differs: Option<Difference>,
-    /// It differed, and was kept when it was put again.
+    /// It differed at first, and was kept when it was put again.
     pub again: bool,
 }
 
-/// What came for a burst, and isn't what may come.
+/// How what came for a burst differs from what may come.
 #[derive(Drop)]
 pub struct Difference {
     /// What was sent, what came, and what may come.
@@ -19,20 +18,18 @@ pub struct Difference {
     pub cause: Cause,
 }
 
-/// How an answer differs.
 #[derive(Clone, Copy, Debug, PartialEq, Eq)]
 pub enum Cause {
     Otherwise,
-    /// It is a beginning of what may come, so the rest may be late; or that stands behind what may have been late.
+    /// It is a beginning of what may come, so the rest may be late; or it ends with that, behind a rest that was late.
     Late,
-    /// It lacks NAK 80h, which says that a command was cut, and nothing else: the server waits for the rest of it.
+    /// Only NAK 80h is lacking, which says that a command was cut: the server waits for the rest of it.
     Awaiting,
-    /// The state that was asked for didn't come.
+    /// The awaited state didn't come.
     Overdue,
 }
 
 impl Difference {
-    /// Whether it may be one of time alone.
     pub fn may_be_late(&self) -> bool {
         match self.cause {
             Cause::Late | Cause::Awaiting => true,
@@ -42,7 +39,7 @@ impl Difference {
     }
 }
 
-/// Writes the line of a row, and if it differs and can falsify a list, a second one that says how.
+/// Writes a row's line, and a second one if it differs and can falsify a list.
 pub fn write_told<W: io::Write>(told: &Told, out: &mut W) -> io::Result<()> {
     let name = told.row.name;
     let Some(difference) = &told.differs else {
@@ -58,7 +55,6 @@ pub fn write_told<W: io::Write>(told: &Told, out: &mut W) -> io::Result<()> {
     writeln!(out, "unsafe {name}: {harm}")
 }
 
-/// Writes the counts.
 pub fn write_counts<W: io::Write>(told: &[Told], out: &mut W) -> io::Result<()> {
     let (rows, differ) = (told.len(), differing_in(told));
     let ok = rows.saturating_sub(differ);
@@ -69,14 +65,13 @@ pub fn write_counts<W: io::Write>(told: &[Told], out: &mut W) -> io::Result<()> 
     writeln!(out, "rows {rows} ok {ok} differ {differ} unsafe {bad}")
 }
 
-/// Tells in a line each, if there are any, which rows were right when they were put again, and which ones a server that
-/// waits for the rest of a cut command can't keep.
+/// Writes a line of the rows that were kept only when put again, and one of those that a server can't keep which waits for
+/// the rest of a cut command, if there are any.
 pub fn write_hints<E: io::Write>(told: &[Told], err: &mut E) -> io::Result<()> {
     write_hint(Hint::Late, told, err)?;
     write_hint(Hint::Awaiting, told, err)
 }
 
-// What is told of several rows at once.
 #[derive(Clone, Copy)]
 enum Hint {
     Late,
@@ -93,7 +88,6 @@ impl Hint {
         }
     }
 
-    // Whether it is told of this row.
     fn is_of(self, told: &Told) -> bool {
         match (self, &told.differs) {
             (Hint::Late, None) => told.again,
@@ -117,7 +111,6 @@ fn write_hint<E: io::Write>(hint: Hint, told: &[Told], err: &mut E) -> io::Resul
     if is_begun { writeln!(err) } else { Ok(()) }
 }
 
-/// How many rows differ.
 pub fn differing_in(told: &[Told]) -> usize {
     told.iter().filter(|told| told.differs.is_some()).count()
 }

@@ -9,7 +9,7 @@ use crate::row::Step::{Ask, Bytes, Cut, Damaged, Elsewhere, Framed};
 use std::alloc::{AllocError, Global};
 use vdcp_text::Failure;
 
-// Rows of one group: each a name, what the port is brought to, and the bursts that it gets then.
+// A row has a name, what the port is brought to, and the bursts that it gets then.
 macro_rules! rows {
     ($group:ident; $($name:literal $start:ident $([$($step:expr),+] $(until $awaited:ident)?)+;)+) => {
         [$($crate::row::Row {
@@ -25,7 +25,6 @@ mod harmful;
 
 use harmful::{UNAIRED, UNLISTED};
 
-// Times of a part, in bytes.
 pub(crate) const START: [u8; 4] = [0x00, 0x00, 0x00, 0x00];
 
 pub(crate) const FRAME: [u8; 4] = [0x01, 0x00, 0x00, 0x00];
@@ -34,7 +33,6 @@ const DAY: [u8; 4] = [0x23, 0x59, 0x59, 0x23];
 
 const NO_TIME: [u8; 4] = [0xff, 0xff, 0xff, 0xff];
 
-// Rows of a port that isn't selected.
 const UNSELECTED: [Row; 19] = rows! {
     Safe;
     "closed-open" Closed [Ask(Open(Own))];
@@ -58,7 +56,6 @@ const UNSELECTED: [Row; 19] = rows! {
     "open-exists" Open [Ask(Exists(First))];
 };
 
-// Rows of commands to one that is.
 const SELECTED: [Row; 18] = rows! {
     Safe;
     "selected-open" Selected [Ask(Open(Own))] [Ask(Status(1))];
@@ -81,7 +78,6 @@ const SELECTED: [Row; 18] = rows! {
     "part-without-time" Selected [Ask(CuePart(First, NO_TIME, FRAME))] [Ask(Status(1))];
 };
 
-// Rows of words and bursts.
 const BURSTS: [Row; 18] = rows! {
     Safe;
     "unknown-type" Selected [Framed(7, 0x01, &[])];
@@ -104,7 +100,7 @@ const BURSTS: [Row; 18] = rows! {
     "answers-before-cut" Selected [Ask(Exists(First)), Cut(Size(First))];
 };
 
-/// The rows of the program, those that can falsify no list first.
+/// The rows, those that can falsify no list first.
 pub fn rows(alloc: Global) -> Result<Vec<Row>, Failure<'static>> {
     let mut rows = Vec::new(alloc);
     add_unselected(&mut rows)?;
@@ -115,7 +111,7 @@ pub fn rows(alloc: Global) -> Result<Vec<Row>, Failure<'static>> {
     Ok(rows)
 }
 
-// (each table in a function of its own, since together they are too much for one proof)
+// Each table has a function of its own, since together they are too much for one proof.
 fn add_unselected(rows: &mut Vec<Row>) -> Result<(), AllocError> {
     rows.extend_from_slice(&UNSELECTED)
 }

@@ -20,10 +20,9 @@ use vdcp_text::Failure;
 use vdcp_wire::Wire;
 use vdcp_words::state::{CUE_DONE, PLAYING};
 
-/// How often the state is asked for until it is as awaited.
 const MOST_POLLS: u32 = 250;
 
-// The steps that bring a port there from wherever it is.
+// They lead there from any state of a port.
 fn steps_to(start: Start) -> &'static [Step] {
     match start {
         Start::Closed =>
@@ -36,8 +35,7 @@ fn steps_to(start: Start) -> &'static [Step] {
     }
 }
 
-/// Puts a row to a server whose port has these clips. If what comes for a burst is none of what the port that got
-/// the same bursts may answer, the row is over, and the answer is the difference.
+/// Puts a row to a server whose port has these clips, up to the first difference.
 pub fn walk_row<C: Catalogue, R: Clock + AllocGlobal, W: Wire>(
     catalogue: &C,
     naming: &Naming,
@@ -53,7 +51,6 @@ pub fn walk_row<C: Catalogue, R: Clock + AllocGlobal, W: Wire>(
     walk(catalogue, naming, steps.as_slice(), asker)
 }
 
-// Takes steps, one after another, from a new port.
 fn walk<C: Catalogue, R: Clock + AllocGlobal, W: Wire>(
     catalogue: &C,
     naming: &Naming,
@@ -101,7 +98,6 @@ fn take_step<C: Catalogue, R: Clock + AllocGlobal, W: Wire>(
     }
 }
 
-// Asks for the state until it is as awaited.
 fn wait<C: Catalogue, R: Clock + AllocGlobal, W: Wire>(
     naming: &Naming,
     awaited: Awaited,
@@ -131,7 +127,6 @@ fn wait<C: Catalogue, R: Clock + AllocGlobal, W: Wire>(
     Ok(Some(Difference { text, cause }))
 }
 
-// Whether a state byte is as awaited.
 fn is_reached(awaited: Awaited, state: u8) -> bool
     ensures { result ≡ is_reached awaited state }
 {
@@ -141,7 +136,7 @@ fn is_reached(awaited: Awaited, state: u8) -> bool
     }
 }
 
-// What is said of a state that didn't become as awaited: the first of what may come came each time.
+// A state that may come came each time, but never the awaited one.
 fn overdue(alloc: Global, status: &[u8], answers: &[Vec<u8>]) -> Result<String, AllocError> {
     match answers {
         [first, rest @ ..] => difference(alloc, status, first.as_slice(), rest),
@@ -149,7 +144,6 @@ fn overdue(alloc: Global, status: &[u8], answers: &[Vec<u8>]) -> Result<String, 
     }
 }
 
-// Sends a burst to a server, and holds what comes against the port that got the same before.
 fn hold<C: Catalogue, R: Clock + AllocGlobal, W: Wire>(
     burst: &[u8],
     follower: &mut Follower<C>,
@@ -162,8 +156,8 @@ fn hold<C: Catalogue, R: Clock + AllocGlobal, W: Wire>(
     Ok(hold_answer(asker.alloc(), burst, came.as_slice(), follower)?)
 }
 
-/// Holds what came for a burst against what the port may answer that got the same before. If it is none of this, that is
-/// the difference; else the port has got the burst, too.
+/// Holds what came for a burst against what the follower may answer. If it may, the follower has got the burst, too; else
+/// the answer is the difference.
 pub fn hold_answer<C: Catalogue>(
     alloc: Global,
     burst: &[u8],
@@ -186,7 +180,6 @@ pub fn hold_answer<C: Catalogue>(
     Ok(Some(Difference { text, cause }))
 }
 
-// How that differs which came for a burst.
 fn cause_of<C: Catalogue>(
     alloc: Global,
     burst: &[u8],
@@ -205,7 +198,7 @@ fn cause_of<C: Catalogue>(
     }
 }
 
-// Whether this would be one of these answers if its rest, or that of an answer before, weren't late.
+// What is late may be its own rest, or the rest of an answer before.
 fn may_be_late(came: &[u8], answers: &[Vec<u8>]) -> bool {
     for k in 0..answers.len() {
         let answer = answers[k].as_slice();

@@ -16,14 +16,13 @@ use vdcp_auto::{Captured, Source, Way, captured_in};
 use vdcp_files::{NamedFile, lines_in, next_line};
 use vdcp_text::{Failure, ScriptLineFault};
 
-/// Something captured, with the number of its line, from 1.
+// Lines count from 1.
 #[derive(Clone, Copy, Debug, PartialEq, Eq)]
 pub struct Piece {
     pub line: usize,
     pub captured: Captured,
 }
 
-/// Reads a capture, line by line, and gives what each says to what is found.
 pub fn read_capture<'a, R: io::Read + Drop, S: Source>(
     alloc: Global,
     capture: NamedFile<'a, R>,
@@ -49,7 +48,6 @@ pub fn read_capture<'a, R: io::Read + Drop, S: Source>(
     Err(Failure::Read(name))
 }
 
-/// What the line of this number says.
 #[tactic(auto, using(crate::proofs::JudgeLoops::says_nothing, crate::proofs::JudgeLoops::says_row))]
 fn said_in<'a>(
     alloc: Global,
@@ -74,7 +72,6 @@ fn said_in<'a>(
     }
 }
 
-/// The way of a row, and its digits.
 #[tactic(auto, using(crate::proofs::JudgeLoops::is_row))]
 fn row_in(text: &str) -> Option<(Way, &str)>
     ensures { IfSome result (λ row. (time : List ℕ) × (text.now ≡ row_text time row.0 row.1.now)) }
@@ -84,14 +81,12 @@ fn row_in(text: &str) -> Option<(Way, &str)>
     Some((way_in(way)?, digits))
 }
 
-/// What stands before the first comma, and what after it.
 fn split(text: &str) -> Option<(&str, &str)>
     ensures { IfSome result (λ parts. text.now ≡ parts.0.now ++ 0x2C ∷ parts.1.now) }
 {
     text.split_once(',')
 }
 
-/// The way that has this name.
 fn way_in(name: &str) -> Option<Way>
     ensures { IfSome result (λ way. name.now ≡ way_text way) }
 {
@@ -102,7 +97,6 @@ fn way_in(name: &str) -> Option<Way>
     }
 }
 
-/// What a burst says that went this way.
 fn said_by(alloc: Global, unit: u8, way: Way, burst: &[u8]) -> Result<Vec<Captured>, AllocError>
     ensures { IfOk result (λ said. said.items ≡ said_by unit way burst.now) }
 {
@@ -114,7 +108,6 @@ fn said_by(alloc: Global, unit: u8, way: Way, burst: &[u8]) -> Result<Vec<Captur
     captured_in(alloc, unit, way, burst)
 }
 
-/// Gives what the line of this number says to what is found.
 fn add<S: Source>(
     number: usize,
     said: &[Captured],

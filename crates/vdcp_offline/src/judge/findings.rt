@@ -14,7 +14,6 @@ use std::alloc::{AllocError, Global};
 use vdcp_auto::{Captured, Exchange, Ruling, Source, exchange_ended};
 use vdcp_words::Command;
 
-/// An exchange, with the line of its command, and what the rule book says of it where it stands.
 #[derive(Clone, Copy, Debug, PartialEq, Eq)]
 pub struct Finding {
     pub line: usize,
@@ -22,18 +21,16 @@ pub struct Finding {
     pub ruling: Ruling,
 }
 
-/// What is found of a capture so far.
 #[derive(Drop)]
 pub struct Found<'e, S: Source> {
     pub told: Told<'e, S>,
-    /// The command whose exchange goes on, and the line of the last command.
+    // The command whose exchange goes on.
     pub awaited: Option<Command>,
     pub line: usize,
     pub has_message: bool,
 }
 
 impl<'e, S: Source> Found<'e, S> {
-    /// Nothing is found yet, of an automation that plays these events.
     pub fn new(alloc: Global, events: &'e S, settings: JudgeSettings) -> Self
         ensures { HasFound S.items settings (S.items events.now) [] result }
     {
@@ -45,7 +42,6 @@ impl<'e, S: Source> Found<'e, S> {
         }
     }
 
-    /// Takes the piece that comes next.
     pub fn add(&mut self, piece: &Piece) -> Result<(), AllocError>
         ensures { (settings : JudgeSettings) (items : List Item) (pieces : List Piece)
             → HasFound S.items settings items pieces self.old →
@@ -60,7 +56,7 @@ impl<'e, S: Source> Found<'e, S> {
         Ok(())
     }
 
-    /// What is to be printed of the whole capture. A command that has heard nothing by its end went unanswered.
+    /// A command that has heard nothing by the end of the capture went unanswered.
     pub fn end(self) -> Result<Told<'e, S>, AllocError>
         ensures { (settings : JudgeSettings) (items : List Item) (pieces : List Piece)
             → HasFound S.items settings items pieces self.entry → IfOk result (λ told. (findings : List Finding)
@@ -77,7 +73,6 @@ impl<'e, S: Source> Found<'e, S> {
     }
 }
 
-/// The exchange of the command that is awaited, which has heard nothing.
 fn last_exchange(awaited: Option<Command>) -> Option<Exchange>
     ensures { result ≡ last_exchange awaited }
 {
@@ -90,7 +85,6 @@ fn last_exchange(awaited: Option<Command>) -> Option<Exchange>
     }
 }
 
-/// The line of the last command, by a piece and the line before it.
 fn line_after(before: usize, piece: &Piece) -> usize
     ensures { result ≡ line_after before piece.now }
 {
@@ -100,7 +94,6 @@ fn line_after(before: usize, piece: &Piece) -> usize
     }
 }
 
-/// It is a message, and no silence.
 fn is_message(captured: &Captured) -> bool
     ensures { result ≡ is_message captured.now }
 {

@@ -17,7 +17,6 @@ use vdcp_auto::{Exchange, Judge, Source};
 use vdcp_text::ItemText;
 use vdcp_value::{Item, Rate};
 
-/// What is to be printed of the exchanges so far.
 #[derive(Drop)]
 pub struct Told<'e, S: Source> {
     pub settings: JudgeSettings,
@@ -25,14 +24,11 @@ pub struct Told<'e, S: Source> {
     pub judge: Judge<&'e S>,
     pub exchanges: usize,
     pub forbidden: usize,
-    /// The lines of the commands that were forbidden.
     pub forbidden_text: String,
-    /// The lines of the events that are reported.
     pub reported_text: String,
 }
 
 impl<'e, S: Source> Told<'e, S> {
-    /// That of no exchange yet, for an automation that plays these events.
     pub fn new(alloc: Global, events: &'e S, settings: JudgeSettings) -> Self
         ensures { Tells S.items settings (S.items events.now) [] result }
     {
@@ -47,7 +43,7 @@ impl<'e, S: Source> Told<'e, S> {
         }
     }
 
-    /// Tells of the exchange that has ended, if one has, whose command stands in this line.
+    /// `line` is that of the exchange's command.
     pub fn add_ended(&mut self, line: usize, ended: Option<Exchange>) -> Result<(), AllocError>
         ensures { (settings : JudgeSettings) (items : List Item) (findings : List Finding)
             → Tells S.items settings items findings self.old → OnOk result ((more : List Finding)
@@ -89,7 +85,6 @@ impl<'e, S: Source> Told<'e, S> {
         Ok(())
     }
 
-    /// All that is printed: the forbidden commands, the reported events, and the counts.
     pub fn text(self) -> Result<String, AllocError>
         ensures { (settings : JudgeSettings) (items : List Item) (findings : List Finding)
             → Tells S.items settings items findings self.entry →
@@ -113,7 +108,6 @@ impl<'e, S: Source> Told<'e, S> {
     }
 }
 
-/// One more, if the command was forbidden.
 fn count_forbidden(forbidden: usize, finding: &Finding) -> usize
     ensures { forbidden + 1 < 2 ^ 64 → result ≡ (if is_forbidden finding.now then forbidden + 1 else forbidden) }
 {
@@ -124,7 +118,6 @@ fn count_forbidden(forbidden: usize, finding: &Finding) -> usize
     }
 }
 
-/// Adds the line of a command that was forbidden.
 fn show_forbidden(finding: &Finding, text: &mut String) -> Result<(), AllocError>
     ensures { OnOk result (string_bytes text.new
         ≡ string_bytes text.old ++ (if is_forbidden finding.now then forbidden_line finding.now else [])) }
@@ -139,7 +132,6 @@ fn show_forbidden(finding: &Finding, text: &mut String) -> Result<(), AllocError
     writeln!(text, "line {line}: forbidden {command}")
 }
 
-/// Adds the line of an exchange that settles event k.
 fn show_event<S: Source>(
     rate: Rate,
     events: &S,
@@ -163,7 +155,6 @@ fn show_event<S: Source>(
     }
 }
 
-/// The event of this number, if the list has it.
 #[tactic(auto, using(crate::proofs::JudgeLoops::none_there))]
 fn event_at<S: Source>(events: &S, k: usize) -> Option<Item>
     ensures { result ≡ slice_get (S.items events.now) k }

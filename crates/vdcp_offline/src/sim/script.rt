@@ -8,7 +8,6 @@ use vdcp_files::NamedFile;
 use vdcp_text::{Failure, ScriptLineFault};
 use vdcp_world::{Event, ScriptFault, read_script};
 
-/// Reads a script.
 pub fn read_events<'a, R: io::Read + Drop>(
     alloc: Global,
     script: NamedFile<'a, R>,
@@ -25,7 +24,6 @@ pub fn read_events<'a, R: io::Read + Drop>(
     read_script(alloc, text).map_err(|fault| script_failure(name, fault))
 }
 
-// Why the script of this name isn't one.
 fn script_failure<'a>(name: &'a str, fault: ScriptFault) -> Failure<'a>
     ensures { IsScriptFailure name.entry result }
 {

@@ -6,7 +6,6 @@ use crate::row::Number::Own;
 use crate::row::Row;
 use crate::row::Step::{Ask, Bytes, Cut, Damaged, Elsewhere, Framed};
 
-// Rows by which a list may name what didn't air.
 pub(crate) const UNAIRED: [Row; 20] = rows! {
     Unaired;
     "state-idle" Selected [Ask(Status(1))];
@@ -31,7 +30,6 @@ pub(crate) const UNAIRED: [Row; 20] = rows! {
     "stop-after-fault" Cued [Bytes(&[0xff]), Ask(Stop)] [Ask(Status(1))];
 };
 
-// Rows by which what a list doesn't name may air.
 pub(crate) const UNLISTED: [Row; 21] = rows! {
     Unlisted;
     "play-nothing" Selected [Ask(Play)] [Ask(Status(1))] [Ask(Active)];
