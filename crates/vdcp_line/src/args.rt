@@ -45,20 +45,19 @@ Example, in three terminals:
   vdcp lossy 127.0.0.1:7401 127.0.0.1:7400 --seed 7 --lose 20 --within 150
   vdcp run 127.0.0.1:7401 examples/playlist.csv --silence 200 --limit 20";
 
-// An argument of a subcommand. The last text of each is its help.
+// Each begins with its name and ends with its help.
 #[derive(Clone, Copy)]
 enum Argument {
-    // One that has to be there: its name.
+    // It has to be there.
     Required(&'static str, &'static str),
-    // One that may be left out: its name.
+    // It may be left out.
     Optional(&'static str, &'static str),
-    // Any number of words: their name.
+    // Any number of words.
     Words(&'static str, &'static str),
-    // An option without a value: its name.
     Flag(&'static str, &'static str),
-    // An option with a value: its name, and what the value is called.
+    // An option and what its value is called.
     Value(&'static str, &'static str, &'static str),
-    // One that needs another option: its name, what the value is called, and the other one's name.
+    // The same, and the option that it needs.
     ValueWith(&'static str, &'static str, &'static str, &'static str),
     Number(&'static NumberOption),
     Rate,
@@ -80,10 +79,8 @@ const CAPTURE: Argument = Argument::Value(
     "Makes this file, with all that the automation sends and hears, for judge; an older one stays as FILE.~N~",
 );
 
-// Where `run` and `probe` find a server.
 const SERVER: Argument = Argument::Required("ADDR", "Where the server listens, as 127.0.0.1:7400");
 
-// A subcommand, with its arguments in their order.
 #[derive(Clone, Copy)]
 struct Subcommand {
     name: &'static str,
@@ -340,10 +337,8 @@ static VECTORS: Subcommand = Subcommand {
     arguments: &[Argument::Required("FILE", "The file of bursts and their readings")],
 };
 
-// How many subcommands there are.
 const SUBCOMMANDS: usize = 12;
 
-// The subcommand at this place of the help.
 fn subcommand_at(place: usize) -> &'static Subcommand {
     match place {
         0 => &SHOW,
@@ -361,7 +356,7 @@ fn subcommand_at(place: usize) -> &'static Subcommand {
     }
 }
 
-/// What the command line may be. If its first word is a subcommand's name, no other one is made.
+/// The command line. If its first word is a subcommand's name, no other one is made.
 pub fn command<'a>(alloc: Global, first: Option<&str>) -> Result<Command<'a>, AllocError> {
     let mut command = Command::new(alloc, "vdcp")
         .bin_name("vdcp")?
@@ -378,7 +373,6 @@ pub fn command<'a>(alloc: Global, first: Option<&str>) -> Result<Command<'a>, Al
     Ok(command)
 }
 
-// The place of the subcommand of this name.
 fn place_of(name: Option<&str>) -> Option<usize> {
     for place in 0..SUBCOMMANDS {
         if Some(subcommand_at(place).name) == name {
@@ -388,7 +382,6 @@ fn place_of(name: Option<&str>) -> Option<usize> {
     None
 }
 
-// A subcommand, as `clap` has it.
 fn made<'a>(alloc: Global, subcommand: &Subcommand) -> Result<Command<'a>, AllocError> {
     let mut command = Command::new(alloc, subcommand.name)
         .about(subcommand.about)
@@ -399,7 +392,6 @@ fn made<'a>(alloc: Global, subcommand: &Subcommand) -> Result<Command<'a>, Alloc
     Ok(command)
 }
 
-// An argument, likewise.
 fn argument_of<'a>(alloc: Global, argument: &Argument) -> Result<Arg<'a>, AllocError> {
     match *argument {
         Argument::Required(name, help) => Ok(Arg::new(alloc, name).required(true).help(help)),
@@ -419,7 +411,6 @@ fn argument_of<'a>(alloc: Global, argument: &Argument) -> Result<Arg<'a>, AllocE
     }
 }
 
-// An option without a value.
 fn flag<'a>(alloc: Global, name: &'a str, help: &'a str) -> Arg<'a> {
     Arg::new(alloc, name)
         .long(name)
@@ -427,7 +418,6 @@ fn flag<'a>(alloc: Global, name: &'a str, help: &'a str) -> Arg<'a> {
         .help(help)
 }
 
-// An option whose value is called so.
 fn option<'a>(alloc: Global, name: &'a str, value: &'a str, help: &'a str) -> Arg<'a> {
     Arg::new(alloc, name)
         .long(name)

@@ -12,8 +12,7 @@ use std::rt::Files;
 use vdcp_files::NamedFile;
 use vdcp_text::Failure;
 
-/// Opens the file that the argument of this name says. `Memory` if memory is refused, else `Open` of the
-/// file's name.
+/// Opens the file that this argument names. The failure is `Memory` or `Open` of the name.
 pub fn open_file<'a, R: Files<File = File>>(
     rt: &R,
     matches: &'a ArgMatches<'_>,

@@ -6,14 +6,14 @@ ghost use Rattle.vdcp_line.specs.Options.{GivesNumber, WritesNumber};
 use clap::{Arg, ArgMatches, value_parser};
 use std::alloc::{AllocError, Global};
 
-/// An option whose value is a number, in decimal digits, from `least` to `most`.
+/// An option whose value is a number in decimal digits.
 pub struct NumberOption {
     pub name: &'static str,
     /// What stands for the number in help.
     pub value_name: &'static str,
     pub least: u32,
     pub most: u32,
-    /// As text, the number if the option is left out; None: it says no number then.
+    /// What the option is if it is left out; None: no number.
     pub default: Option<&'static str>,
     pub help: &'static str,
 }
@@ -198,7 +198,6 @@ pub const FROM: NumberOption = NumberOption {
     help: "Begins with this event of the list, the first being 0; with --resume, whatever may have aired",
 };
 
-/// The option, for the command line.
 pub fn number_option<'a>(alloc: Global, option: &NumberOption) -> Arg<'a> {
     let range = i64::from(option.least)..=i64::from(option.most);
     let arg = Arg::new(alloc, option.name)
@@ -212,12 +211,12 @@ pub fn number_option<'a>(alloc: Global, option: &NumberOption) -> Arg<'a> {
     }
 }
 
-/// The option `--poll`, for the command line: it needs `--prompt`.
+/// `--poll` needs `--prompt`.
 pub fn poll_option<'a>(alloc: Global) -> Result<Arg<'a>, AllocError> {
     number_option(alloc, &POLL).requires_arg("prompt")
 }
 
-/// For how many seconds a connection may be idle, if that is bounded; left out, it is if the port stays.
+/// For how many seconds a connection may be idle; None: for ever.
 pub fn idle_of(matches: &ArgMatches, stay: bool) -> Option<u32>
     ensures least { IfSome result (λ seconds. 1 ≤ seconds) }
     ensures most { IfSome result (λ seconds. seconds ≤ 86400) }
@@ -233,14 +232,12 @@ pub fn idle_of(matches: &ArgMatches, stay: bool) -> Option<u32>
     }
 }
 
-/// The event to begin with, if it is said.
 pub fn from_of(matches: &ArgMatches) -> Option<usize> {
     let text = matches.get_str("from")?;
     Some(number_in(text, 0, u32::MAX) as usize)
 }
 
-/// The number that the option's text writes; `clap` lets no text through that writes none in the range. Left out, it is
-/// the default, or `least` if the option has none.
+/// The number that the option's text writes (`clap` lets no other text through). Left out, it is the default, or `least`.
 pub fn number_of(matches: &ArgMatches, option: &NumberOption) -> u32
     requires { option.now.least ≤ option.now.most }
     ensures least { option.now.least ≤ result }
@@ -254,7 +251,6 @@ pub fn number_of(matches: &ArgMatches, option: &NumberOption) -> u32
     }
 }
 
-// The number that the text writes, if that is in the range.
 fn number_in(text: &str, least: u32, most: u32) -> u32
     requires { least ≤ most }
     ensures least { least ≤ result }
@@ -267,19 +263,16 @@ fn number_in(text: &str, least: u32, most: u32) -> u32
     }
 }
 
-/// The unit address.
 pub fn unit_of(matches: &ArgMatches) -> u8
     ensures most { result ≤ 15 }
 {
     number_of(matches, &UNIT) as u8
 }
 
-/// The port's number.
 pub fn port_of(matches: &ArgMatches) -> u8 {
     number_of(matches, &PORT) as u8
 }
 
-/// After how many unanswered exchanges in a row the controller gives up.
 pub fn limit_of(matches: &ArgMatches) -> u32
     ensures least { 1 ≤ result }
     ensures most { result ≤ 1000 }
@@ -287,7 +280,6 @@ pub fn limit_of(matches: &ArgMatches) -> u32
     number_of(matches, &LIMIT)
 }
 
-/// How many frames a cue takes.
 pub fn cue_frames_of(matches: &ArgMatches) -> u32
     ensures least { 1 ≤ result }
     ensures most { result ≤ 1000 }
@@ -295,7 +287,7 @@ pub fn cue_frames_of(matches: &ArgMatches) -> u32
     number_of(matches, &CUE_FRAMES)
 }
 
-/// After how many milliseconds without a byte an answer has ended.
+/// In milliseconds.
 pub fn run_silence_of(matches: &ArgMatches) -> u32
     ensures least { 1 ≤ result }
     ensures most { result ≤ 60000 }
@@ -303,17 +295,15 @@ pub fn run_silence_of(matches: &ArgMatches) -> u32
     number_of(matches, &RUN_SILENCE)
 }
 
-/// After how many milliseconds at the earliest the state is asked again.
+/// In milliseconds.
 pub fn poll_of(matches: &ArgMatches) -> u32 {
     number_of(matches, &POLL)
 }
 
-/// After how many waits for bytes or for a silence a run gives up.
 pub fn listens_of(matches: &ArgMatches) -> u32 {
     number_of(matches, &LISTENS)
 }
 
-/// After how many waits for bytes or for a silence a server or a line ends.
 pub fn turns_of(matches: &ArgMatches) -> u32 {
     number_of(matches, &TURNS)
 }

@@ -11,7 +11,6 @@ use vdcp_journal::Moment;
 use vdcp_log::Screen;
 use vdcp_text::{Failure, NameText};
 
-/// A writer of a log, a progress line or a capture.
 #[derive(Drop)]
 pub enum Output<'a> {
     Terminal(Screen<Stderr>),
@@ -19,17 +18,15 @@ pub enum Output<'a> {
     Capture(Capture<'a>),
 }
 
-/// A terminal that shows a run. Before it shows anything it says how to go on with the journal: a run that is ended by
-/// Ctrl-C can't say it any more.
+/// A terminal that first says how to go on with the journal: a run that is ended by Ctrl-C can't say it any more.
 #[derive(Drop)]
 pub struct Resumable<'a> {
     screen: Screen<Stderr>,
-    // Its name, if there is one, and it wasn't told yet.
+    // Its name, until it was told.
     journal: Option<&'a str>,
 }
 
 impl<'a> Resumable<'a> {
-    /// One of a run with this journal, if it has one.
     pub fn new(screen: Screen<Stderr>, journal: Option<&'a str>) -> Self {
         Resumable { screen, journal }
     }
@@ -45,7 +42,7 @@ impl<'a> Resumable<'a> {
     }
 }
 
-/// The file of a capture. Each row begins with the time at which it is written.
+/// Each row begins with the time at which it is written.
 #[derive(Drop)]
 pub struct Capture<'a> {
     system: &'a System<'a>,
@@ -53,7 +50,7 @@ pub struct Capture<'a> {
     place: Place,
 }
 
-/// Where in a row the next byte comes.
+// Where in a row the next byte comes.
 #[derive(Clone, Copy, PartialEq, Eq)]
 enum Place {
     Start,
@@ -96,8 +93,8 @@ impl Write for Output<'_> {
     }
 }
 
-/// Makes the file that `--capture` names, if it names one. An older one with bytes is kept beside, as `FILE.~N~`.
-/// `Exists` if it is what one of these other arguments names; else `Open` or `Memory`.
+/// Makes the file that `--capture` names, if it names one; an older one with bytes becomes `FILE.~N~`. The failure is
+/// `Exists` if one of the `others` names the same file, `Open` or `Memory`.
 pub fn capture_of<'a, 'm>(
     system: &'a System<'_>,
     matches: &'m ArgMatches<'_>,
@@ -124,7 +121,7 @@ pub fn capture_of<'a, 'm>(
     }
 }
 
-// Makes the file of this name, and keeps an older one. What is no file, as a pipe, is written to.
+// What is no file, as a pipe, is written to.
 fn make_anew(system: &System<'_>, name: &str) -> io::Result<File> {
     match fs::metadata(system, name) {
         Ok(found) if found.is_file() && found.len() > 0 => {

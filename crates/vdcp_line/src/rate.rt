@@ -8,7 +8,6 @@ use clap::{Arg, ArgMatches};
 use std::alloc::Global;
 use vdcp_value::Rate;
 
-/// The option `--rate`, for the command line.
 pub fn rate_option<'a>(alloc: Global) -> Arg<'a> {
     Arg::new(alloc, "rate")
         .long("rate")
@@ -18,7 +17,7 @@ pub fn rate_option<'a>(alloc: Global) -> Arg<'a> {
         .help("The frame rate of time codes; 30df is drop frame")
 }
 
-/// The frame rate; `clap` lets no text through that names none.
+/// `clap` lets no text through that names none.
 pub fn rate_of(matches: &ArgMatches) -> Rate
     ensures { (rate : Rate) → GivesRate (found_of matches.now) (codes "rate") rate → result ≡ rate }
 {
@@ -28,7 +27,6 @@ pub fn rate_of(matches: &ArgMatches) -> Rate
     }
 }
 
-// The rate of this name.
 fn rate_named(name: &str) -> Option<Rate>
     ensures some { IfSome result (NamesRate name.now) }
     ensures none { (rate : Rate) → NamesRate name.now rate → result ≢ None }

@@ -9,14 +9,12 @@ use std::rt::{Clock, Files};
 use std::time::Duration;
 use vdcp_text::NameText;
 
-/// The system, and what it refused, if it refused the last address or file.
 #[derive(Drop)]
 pub struct System<'a> {
     pub rt: &'a HostRuntime,
     refused: Cell<Option<Refusal>>,
 }
 
-// What was refused, and the system's reason.
 #[derive(Drop)]
 struct Refusal {
     what: Refused,
@@ -25,14 +23,11 @@ struct Refusal {
 
 #[derive(Drop)]
 enum Refused {
-    // Nobody listens at it, or it can't be listened at.
     Address(SocketAddr),
-    // It can't be opened.
     File(String),
 }
 
 impl<'a> System<'a> {
-    /// With nothing refused yet.
     pub fn new(rt: &'a HostRuntime) -> Self {
         System {
             rt,

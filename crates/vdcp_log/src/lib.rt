@@ -1,8 +1,6 @@
 //! Logs of a live channel, by writers that never block either end.
 //!
-//! A `Log` gets a line for each message (`Logged`, a wire over another one, which reads as an end hears) and each that it is
-//! told; and a capture's rows, with the bytes. `Lines` and `Screen` are writers
-//! that don't wait for their reader; `Readiness` tells which would.
+//! A `Log` gets a line of each message that passes a `Logged` wire, and those that it is told; a capture gets rows of bytes.
 //!
 //! Files, in reading order: `log`, `row`, `lines`, `screen`.
 #![tactic(auto)]

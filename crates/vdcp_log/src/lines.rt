@@ -4,15 +4,12 @@ use arrayvec::{ArrayString, ArrayVec};
 use std::fmt::Write;
 use std::io;
 
-/// Most bytes that are held of a line.
 const MOST_BYTES: usize = 1024;
 
-/// Lines that never wait for their reader. Each goes to the writer once it has ended, or has more than 1,023 bytes.
-/// If the writer takes nothing (`WouldBlock`), the line that is going out goes on later, and each further one is
-/// dropped meanwhile; the next line that goes out is then `dropped` and how many. (Of a longer line the rest is left
-/// out then.)
+/// Writes lines that never wait for their reader. Each goes to the writer once it has ended, or has more than 1,023 bytes.
 ///
-/// Err if the writer fails.
+/// If the writer takes nothing (`WouldBlock`), the rest of the line waits, and further lines are dropped; the next that
+/// goes out is then `dropped` and how many. (Of a line that is longer the rest is left out.) It fails if the writer fails.
 #[derive(Drop)]
 pub struct Lines<W: io::Write> {
     writer: W,
@@ -21,19 +18,16 @@ pub struct Lines<W: io::Write> {
     dropped: u64,
 }
 
-/// What becomes of the bytes that come.
 #[derive(Clone, Copy)]
 enum Stage {
-    /// They are held, up to the end of their line.
     Held,
-    /// They begin a line. This many of the held bytes of the one before it went out.
+    // They begin a line. So many of the held bytes of the one before it went out.
     Ended(usize),
-    /// They are dropped, up to the end of their line. This many of the held bytes went out.
+    // They are dropped, up to the end of their line. So many of the held bytes went out.
     Dropped(usize),
 }
 
 impl<W: io::Write> Lines<W> {
-    /// No line yet.
     pub fn new(writer: W) -> Self {
         Lines {
             writer,
@@ -43,7 +37,6 @@ impl<W: io::Write> Lines<W> {
         }
     }
 
-    // A line begins, and this many bytes of the one before it went out.
     fn begin(&mut self, gone: usize) -> io::Result<Stage> {
         let gone = self.go_on(gone)?;
         if gone < self.line.len() {
@@ -62,7 +55,6 @@ impl<W: io::Write> Lines<W> {
         Ok(Stage::Held)
     }
 
-    // Holds the line of how many were dropped.
     fn hold_count(&mut self) {
         let mut count = ArrayString::<32>::new();
         let dropped = self.dropped;
@@ -72,7 +64,7 @@ impl<W: io::Write> Lines<W> {
         self.dropped = 0;
     }
 
-    // Holds the bytes; those of a long line go out before. If these would wait, the line ends with them.
+    // A long line goes out before it ends. If it would wait, it ends here.
     fn hold(&mut self, bytes: &[u8]) -> io::Result<Stage> {
         for byte in bytes {
             if self.line.remaining_capacity() <= 1 {
@@ -88,7 +80,6 @@ impl<W: io::Write> Lines<W> {
         Ok(Stage::Held)
     }
 
-    // Holds the bytes that end a line.
     fn hold_last(&mut self, bytes: &[u8]) -> io::Result<Stage> {
         match self.hold(bytes)? {
             Stage::Held => {
@@ -99,7 +90,7 @@ impl<W: io::Write> Lines<W> {
         }
     }
 
-    // Writes what the writer takes of the line, of which this many bytes went out, and says how many did then.
+    // `gone` bytes of the line went out before; the result counts all that went out by now.
     fn go_on(&mut self, gone: usize) -> io::Result<usize> {
         let line = self.line.as_slice();
         let left = &line[gone.min(line.len())..];
@@ -115,7 +106,6 @@ impl<W: io::Write> Lines<W> {
 }
 
 impl<W: io::Write> io::Write for Lines<W> {
-    // The bytes up to the first end of a line.
     fn write(&mut self, bytes: &[u8]) -> io::Result<usize> {
         if bytes.is_empty() {
             return Ok(0);

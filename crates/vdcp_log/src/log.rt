@@ -17,40 +17,32 @@ pub enum Telling<L> {
     Nothing,
     /// Each fault of a line that a server outlives.
     Faults(L),
-    /// Each message, item that goes to air and connection, too.
+    /// Also each message, each connection, and each item that goes to air.
     All(L),
 }
 
-/// At which end of a line it is listened to.
+/// Where a line is listened to: at the automation's end commands go out, at the server's they come in.
 #[derive(Clone, Copy, Debug, PartialEq, Eq)]
 pub enum Side {
-    /// The automation's: commands go out.
     Automation,
-    /// The server's: commands come in.
     Server,
 }
 
-/// What is told of a channel: a log, whose lines are for people, and a capture, whose rows `judge` reads. Either goes to
-/// its writer, as `Lines` writes it, until that fails: from then on nothing goes there, and nothing else comes of the
-/// failure, since the channel goes on without its log.
-///
-/// The writers are in cells, since a wire and what tells of its end share one log.
+/// A log, whose lines are for people, and a capture, whose rows `judge` reads. A writer that fails gets nothing more, and
+/// nothing else comes of that: the channel goes on without its log.
 #[derive(Drop)]
 pub struct Log<L: io::Write> {
-    // None if nothing goes there, or no more.
+    // In cells, since a wire and what tells of its end share one log. None if nothing goes there, or no more.
     lines: Cell<Option<Lines<L>>>,
     rows: Cell<Option<Lines<L>>>,
-    // Not faults alone.
     tells_all: bool,
-    // What passes on the line is read: each message is told or captured.
+    // Whether what passes on the line is read, for the log or the capture.
     reads: bool,
-    // Bytes have come at all.
     heard: Cell<bool>,
     pub(crate) side: Side,
 }
 
 impl<L: io::Write + Drop> Log<L> {
-    /// A log that tells this, with this writer of a capture, of a line that is listened to at this side.
     pub fn new(telling: Telling<L>, capture: Option<L>, side: Side) -> Self {
         let (tells_all, lines) = match telling {
             Telling::Nothing => (false, None),
@@ -67,7 +59,6 @@ impl<L: io::Write + Drop> Log<L> {
         }
     }
 
-    /// Whether bytes have come over the line at all.
     pub fn has_heard(&self) -> bool {
         self.heard.get()
     }
@@ -79,18 +70,15 @@ impl<L: io::Write + Drop> Log<L> {
         }
     }
 
-    /// Adds the line of a fault.
     pub fn tell_fault<T: fmt::Display>(&self, line: &T) {
         write_to(&self.lines, &format_args!("{line}\n"));
     }
 
-    /// Adds a part of a row.
     pub(crate) fn capture<T: fmt::Display>(&self, part: &T) {
         write_to(&self.rows, part);
     }
 }
 
-// Writes to what is in the cell, and leaves that out if it fails.
 fn write_to<L: io::Write + Drop, T: fmt::Display>(cell: &Cell<Option<Lines<L>>>, text: &T) {
     let Some(mut lines) = cell.replace(None) else {
         return;
@@ -100,7 +88,6 @@ fn write_to<L: io::Write + Drop, T: fmt::Display>(cell: &Cell<Option<Lines<L>>>,
     }
 }
 
-/// Which way a message goes, as a line of a log shows it at its front.
 #[derive(Clone, Copy)]
 pub enum Direction {
     In,
@@ -126,20 +113,17 @@ impl fmt::Display for Direction {
     }
 }
 
-/// A wire that tells what came by another wire or went out there: to a log each message, and each end of a burst that
-/// isn't clean, which are the lines of the burst's reading with words, but for `clean`; to a capture all bytes, and each
-/// silence after which an automation waits no longer. If neither is told, nothing is read.
+/// Tells what passes another wire: the log gets each message, and each end of a burst that isn't clean; a capture gets all
+/// bytes, and each silence after which an automation waits no longer. If neither is told, nothing is read.
 ///
-/// What comes is read as it is heard. If that is at once, reading begins anew after each message, so a burst may have
-/// any length, and what a silence has torn is read on. A row of a capture has the bytes of one message as it was heard, or
-/// all those up to a silence that can't be read.
+/// If it hears at once, reading begins anew after each message, so that a burst may have any length and what a silence
+/// has torn is read on. A row of a capture is one message as it was heard, or all up to a silence that can't be read.
 #[derive(Drop)]
 pub struct Logged<'a, W: Wire, L: io::Write> {
-    /// The wire below.
     pub wire: W,
     log: &'a Log<L>,
     hearing: Hearing,
-    // none after a fault, until a silence
+    // None after a fault, until a silence.
     came: Option<Reader>,
     row: Row,
     // Whether something went out after the last silence.
@@ -147,7 +131,6 @@ pub struct Logged<'a, W: Wire, L: io::Write> {
 }
 
 impl<'a, W: Wire, L: io::Write + Drop> Logged<'a, W, L> {
-    /// A wire over this one, at the start of a burst; what comes is heard so.
     pub fn new(wire: W, log: &'a Log<L>, hearing: Hearing) -> Self
         ensures { result.wire ≡ wire }
     {
@@ -161,7 +144,6 @@ impl<'a, W: Wire, L: io::Write + Drop> Logged<'a, W, L> {
         }
     }
 
-    // Whether a silence ends nothing that is read.
     fn reads_on(&self) -> bool {
         self.hearing == Hearing::AtOnce && self.came.is_some()
     }
@@ -221,7 +203,6 @@ impl<W: Wire, L: io::Write + Drop> Wire for Logged<'_, W, L> {
     ghost tells = { λ act old new. W.tells act old.wire new.wire };
 }
 
-// Tells a piece of a burst: the messages that it completes, and a fault that it shows, after which nothing is read.
 fn tell_piece<L: io::Write + Drop>(
     log: &Log<L>,
     hearing: Hearing,
@@ -262,7 +243,6 @@ fn tell_message<L: io::Write + Drop>(log: &Log<L>, direction: Direction, message
     log.tell(&format_args!("{direction} {text}{meaning}"));
 }
 
-// The burst ends: tells where it was cut.
 fn tell_end<L: io::Write + Drop>(log: &Log<L>, reader: &mut Option<Reader>, row: &mut Row) {
     let ended = match reader {
         Some(begun) => begun.silence(),
@@ -280,7 +260,7 @@ fn tell_burst_fault<L: io::Write + Drop>(log: &Log<L>, direction: Direction, end
     log.tell(&format_args!("{direction} {end}"));
 }
 
-// A capture has the silence after which an automation waits no longer. (A server's silences don't say that.)
+// A server's silences don't say that an automation waits no longer.
 fn tell_silence<L: io::Write + Drop>(log: &Log<L>, awaits: &mut bool) {
     if *awaits && log.side == Side::Automation {
         log.capture(&",up,\n");

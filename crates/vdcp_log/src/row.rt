@@ -4,22 +4,17 @@ use arrayvec::ArrayVec;
 use std::io;
 use vdcp_text::HexText;
 
-/// Most bytes that are held of a row.
 const MOST_HELD: usize = 512;
 
-/// The row of a burst that is under way. It is written at the burst's end; if the burst is long, its first bytes are
-/// before. TIME is empty there.
+/// A burst's row, whose TIME is empty. It is written at the burst's end; of a long burst the first bytes are written before.
 #[derive(Drop)]
 pub struct Row {
     pub direction: Direction,
-    // Bytes that aren't written yet.
     held: ArrayVec<u8, MOST_HELD>,
-    // Whether some were.
     is_begun: bool,
 }
 
 impl Row {
-    /// Of no bytes yet.
     pub fn new(direction: Direction) -> Self {
         Row {
             direction,
@@ -28,7 +23,6 @@ impl Row {
         }
     }
 
-    /// Adds bytes.
     pub fn add<L: io::Write + Drop>(&mut self, log: &Log<L>, bytes: &[u8]) {
         for byte in bytes {
             if self.held.is_full() {
@@ -38,7 +32,6 @@ impl Row {
         }
     }
 
-    /// Ends the row, if it has any byte.
     pub fn end<L: io::Write + Drop>(&mut self, log: &Log<L>) {
         if self.is_begun || !self.held.is_empty() {
             self.put(log);
@@ -54,7 +47,6 @@ impl Row {
         }
     }
 
-    // Writes what is held, after what begins a row.
     fn put<L: io::Write + Drop>(&mut self, log: &Log<L>) {
         let digits = HexText(self.held.as_slice());
         if self.is_begun {

@@ -10,10 +10,10 @@ use std::net::Net;
 use std::os::fd::{AsRawFd, RawFd};
 use std::time::Duration;
 
-/// Most bytes that go out at once: a pipe or a terminal that takes any takes as many.
+// A pipe or a terminal that takes any bytes takes so many at once.
 const PIECE: usize = 255;
 
-/// Tells of a descriptor whether a read or a write there would wait.
+/// Tells whether a read or a write at a descriptor would wait.
 #[derive(Drop)]
 pub struct Readiness {
     poll: Poll,
@@ -22,7 +22,7 @@ pub struct Readiness {
 }
 
 impl Readiness {
-    /// That of a descriptor. Err if the system doesn't watch it, as that of a file.
+    /// Fails if the system doesn't watch the descriptor, as that of a file.
     pub fn of<R: Net + AllocGlobal>(
         rt: &R,
         descriptor: RawFd,
@@ -39,7 +39,7 @@ impl Readiness {
         })
     }
 
-    /// `WouldBlock` if what it tells of would wait now at this descriptor.
+    /// Fails with `WouldBlock` if that would wait now.
     pub fn test(&mut self, descriptor: RawFd) -> io::Result<()> {
         // (asked anew, since an event comes at a change alone)
         self.poll
@@ -53,8 +53,7 @@ impl Readiness {
     }
 }
 
-/// A terminal, or what stands in its place, that never makes its writer wait: if a pipe or a terminal takes nothing,
-/// since nobody reads there, a write is refused with `WouldBlock`. (A file always takes what is written.)
+/// A writer that refuses with `WouldBlock` what would wait, since nobody reads the pipe or terminal. A file takes all.
 #[derive(Drop)]
 pub struct Screen<W> {
     writer: W,
@@ -63,7 +62,6 @@ pub struct Screen<W> {
 }
 
 impl<W: Write + AsRawFd> Screen<W> {
-    /// A screen on which this writer's bytes go out.
     pub fn new<R: Net + AllocGlobal>(rt: &R, writer: W) -> Self {
         let room = Readiness::of(rt, writer.as_raw_fd(), Interest::WRITABLE).ok();
         Screen { writer, room }
@@ -84,8 +82,7 @@ impl<W: Write + AsRawFd> Write for Screen<W> {
     }
 }
 
-/// Writes as many of the bytes as the writer takes, up to one that would wait, and says how many. A write that was
-/// interrupted is made again. Err if the writer fails.
+/// Writes as many of the bytes as the writer takes without waiting, and says how many. An interrupted write is made again.
 pub fn write_at_once<W: Write>(writer: &mut W, bytes: &[u8]) -> io::Result<usize>
     ensures within { IfOk result (λ n. n ≤ length bytes.now) }
     ensures beginning { IfOk result (λ n. Appends (W.contents writer.old) (W.contents writer.new) (take n bytes.now)) }

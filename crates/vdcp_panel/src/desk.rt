@@ -15,18 +15,18 @@ use http::{HeaderName, HeaderValue, Request, StatusCode, header};
 use http_server::{Response, Service};
 use std::alloc::{AllocError, Global};
 
-/// Only what the page itself has, and no frame round it.
+// A page gets only what is its own, and no frame may hold it.
 const POLICY: &'static str =
     "default-src 'none'; style-src 'unsafe-inline'; script-src 'unsafe-inline'; connect-src 'self'; img-src data:; frame-ancestors 'none'; base-uri 'none'; form-action 'none'";
 
-/// Answers requests from what is to be seen, and holds the calls that were asked for.
+/// Answers requests by a view, and holds the calls that they make.
 #[derive(Drop)]
 pub struct Desk<'a, V: View> {
     pub alloc: Global,
     pub gate: Gate<'a>,
     pub view: &'a V,
     pub calls: Calls,
-    /// A request that came by the connection whose turn it is had the token.
+    /// Whether a request by the connection whose turn it is had the token.
     pub is_known: bool,
 }
 
@@ -69,7 +69,6 @@ impl<V: View> Desk<'_, V> {
         }
     }
 
-    // Holds a call, if there is room, and gives the status that says so.
     fn hold(&mut self, call: Call) -> StatusCode
         ensures stays { self.new ≡ record self.old { calls = self.new.calls } }
         ensures held { self.new.calls.items ≡ calls_after self.old.calls.items (Some call) }
@@ -93,7 +92,7 @@ fn refuse(response: &mut Response, status: StatusCode) -> Result<(), AllocError>
     Ok(())
 }
 
-// What each answer has, so that no other page shows it or makes anything of it.
+// These keep other pages from showing an answer or making anything of it.
 fn add_guards(response: &mut Response) -> Result<(), AllocError>
     ensures status { response.new.status ≡ response.old.status }
     ensures body { response.new.body ≡ response.old.body }

@@ -7,7 +7,6 @@ use http::header::GetAll;
 use http::uri::Authority;
 use http::{HeaderValue, Request};
 
-/// A name of the server.
 #[derive(Clone, Copy, Debug)]
 pub struct Name<'a> {
     /// As `127.0.0.1:8080`.
@@ -16,7 +15,7 @@ pub struct Name<'a> {
     pub origin: &'a str,
 }
 
-/// Lets in requests to one of these names, from no other page than one of that name, and for a call with the token.
+/// Lets in a request to one of these names that no page of another name makes; a call needs the token, too.
 #[derive(Clone, Copy, Debug)]
 pub struct Gate<'a> {
     pub address: Name<'a>,
@@ -25,7 +24,6 @@ pub struct Gate<'a> {
 }
 
 impl Name<'_> {
-    // The request is to this name, and from no page of another one.
     fn is_of(&self, request: &Request<Bytes>) -> bool
         ensures { result ≡ is_of self.now request.now }
     {
@@ -37,21 +35,19 @@ impl Name<'_> {
 }
 
 impl Gate<'_> {
-    /// The request is for this server, and from no page of another one.
+    /// Whether the request is for this server, and from no page of another one.
     pub fn lets_in(&self, request: &Request<Bytes>) -> bool
         ensures { result ≡ is_let_in self.now request.now }
     {
         self.address.is_of(request) || self.local.is_of(request)
     }
 
-    /// The request has the token.
     pub fn has_token(&self, request: &Request<Bytes>) -> bool
         ensures { result ≡ has_token self.now request.now }
     {
         is_text(request.headers().get("x-panel-token"), self.token)
     }
 
-    /// The request is let in, and has the token.
     pub fn shows_token(&self, request: &Request<Bytes>) -> bool
         ensures { result ≡ shows_token self.now request.now }
     {
@@ -59,7 +55,6 @@ impl Gate<'_> {
     }
 }
 
-/// Whether a header is there, and has this text.
 pub fn is_text(value: Option<&HeaderValue>, text: &str) -> bool
     ensures { result ≡ is_text (option_copied value.entry) text.now }
 {
@@ -69,7 +64,6 @@ pub fn is_text(value: Option<&HeaderValue>, text: &str) -> bool
     }
 }
 
-// Whether the target has this host, if it has one.
 fn may_be_at(target: Option<&Authority>, host: &str) -> bool
     ensures { result ≡ may_be_at (option_copied target.entry) host.now }
 {
@@ -79,7 +73,7 @@ fn may_be_at(target: Option<&Authority>, host: &str) -> bool
     }
 }
 
-// Whether a header has this text, and stands once, if it is there.
+// The header may be missing, but not stand twice.
 fn may_be_text(values: GetAll<'_, HeaderValue>, text: &str) -> bool
     ensures { result ≡ may_be_text values.entry text.now }
 {

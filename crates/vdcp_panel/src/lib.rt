@@ -1,7 +1,7 @@
 //! A page in a browser over a loop that runs for something else: it shows a state, follows it, and may take calls.
 //!
 //! The loop calls `Panel::serve_some` at any moment, with what is to be seen then. That does what can be done without
-//! waiting, bounded in each call, and returns; so no request can hold the loop up.
+//! waiting, bounded in each call: no request can hold the loop up.
 //!
 //! ```text
 //! let mut panel = Panel::bind(&rt, address)?; // or `open_panel`, which tells where the page is
@@ -12,7 +12,7 @@
 //! }
 //! ```
 //!
-//! Files, in reading order: `view`, `call`, `gate`, `wish`, `desk`, `peer`, `peers`, `panel`, `open`; `page` has the text that every page has.
+//! Files, in reading order: `view`, `call`, `gate`, `wish`, `desk`, `peer`, `peers`, `panel`, `open`; `page` for all pages.
 #![tactic(auto)]
 
 mod call;

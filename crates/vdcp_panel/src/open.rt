@@ -8,10 +8,11 @@ use std::net::{Net, SocketAddrV4};
 use std::random::RandomSource;
 use std::rt::Clock;
 
-/// Opens a panel at this address: an IPv4 address of this machine alone, a colon and a TCP port (0: the system chooses
-/// one). `err` gets the page's address and, if calls are taken, `#` and the token that they need; what follows a `#` a
-/// browser keeps to itself. If the panel can't be opened, `err` gets the reason, and the error is the status: 2 if the text
-/// is no such address, 3 if it can't be listened at or the writer failed.
+/// Opens a panel at an IPv4 address of this machine alone, a colon and a TCP port (0: the system chooses one). `err` gets
+/// the page's address and, if calls are taken, `#` and their token: a browser sends nobody what follows a `#`.
+///
+/// An error is the status, and its reason is in `err`: 2 if the text is no such address, 3 if it can't be listened at or
+/// the writer failed.
 pub fn open_panel<R: Net + AllocGlobal + RandomSource + Clock, E: io::Write>(
     rt: &R,
     text: &str,
@@ -37,7 +38,6 @@ pub fn open_panel<R: Net + AllocGlobal + RandomSource + Clock, E: io::Write>(
     }
 }
 
-// The status, or 3 if its line wasn't told.
 fn told(line: io::Result<()>, status: u8) -> u8 {
     match line {
         Ok(()) => status,
@@ -45,7 +45,7 @@ fn told(line: io::Result<()>, status: u8) -> u8 {
     }
 }
 
-// The address that a text writes, if it is one that this machine alone reaches.
+// None if other machines could reach it.
 fn loopback_address(text: &str) -> Option<SocketAddrV4>
     ensures { IfSome result (λ address. IsLoopbackV4 address.ip) }
 {

@@ -1,6 +1,6 @@
 //! Style and script that all pages share.
 
-/// A page of this title, with its own styles, body and script after those of every page.
+/// A page of this title: its styles, body and script stand behind those of every page.
 #[macro_export]
 macro_rules! page {
     ($title:literal, $style:literal, $body:literal, $script:literal) => {

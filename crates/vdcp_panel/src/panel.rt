@@ -18,16 +18,15 @@ use std::rt::Clock;
 use std::time::{Duration, Instant};
 use std::{io, mem};
 
-/// Most connections that one call takes. Only a flood has as many, and of one only the last are answered.
+// One call takes no more connections. Only a flood has so many, and of a flood only the last are answered.
 const MOST_NEW: usize = 256;
 
-/// How many times as long as a call took the next ones do nothing: so a panel has a twentieth of the time at most.
+// After a call nothing is done for so many times as long as it took: a panel has a twentieth of the time at most.
 const REST: u64 = 19;
 
-/// How many bytes of chance a token has.
+// In bytes.
 const TOKEN: usize = 16;
 
-/// A listener and its connections.
 #[derive(Drop)]
 pub struct Panel {
     alloc: Global,
@@ -35,25 +34,22 @@ pub struct Panel {
     peers: Peers<TcpStream>,
     poll: Poll,
     events: Events<Global>,
-    /// The texts that requests are held against.
     pub names: Names,
-    // The last call did something, so that there may be more to do.
+    // Whether the last call did something: then there may be more to do.
     is_busy: bool,
     began: Instant,
-    // Before this, in nanoseconds since then, nothing is done, and at that time, in milliseconds, something is to be.
+    // Nothing is done before `next`, in nanoseconds since `began`; something is to be done at `due`, in milliseconds.
     next: u64,
     due: u64,
 }
 
-/// The texts of a gate.
 #[derive(Drop)]
 pub struct Names {
-    /// Where it listens, as `127.0.0.1:8080`.
     pub address: String,
     pub address_origin: String,
     pub local: String,
     pub local_origin: String,
-    /// What a request to make a call has to have.
+    /// What a request for a call has to have.
     pub token: String,
 }
 
@@ -84,9 +80,9 @@ impl Panel {
         })
     }
 
-    /// Shows this, as far as that can be done without waiting: takes up to 256 connections, and of each one
-    /// makes a write, a read, an answer and a write. The calls gain those that were asked for. After a call that took some
-    /// time nothing is done for nineteen times as long. (By a clock that can't be read no time passes.)
+    /// Shows a view as far as that can be done without waiting: takes up to 256 connections, and of each makes a write, a
+    /// read, an answer and a write. `calls` gains those that were asked for. Afterwards nothing is done for nineteen times as
+    /// long as this took. (With a clock that can't be read, no time passes.)
     pub fn serve_some<R: Clock, V: View>(&mut self, clock: &R, view: &V, calls: &mut Calls)
         ensures { ServesSome V.page_bytes V.state_bytes V.about self.old.names view.now calls.old.items calls.new.items }
     {
@@ -115,14 +111,13 @@ impl Panel {
         }
     }
 
-    // Whether there may be something to do.
     fn has_work(&mut self, now: u64) -> bool
         ensures { self.new.names ≡ self.old.names }
     {
         self.is_busy || self.due <= now || self.has_news()
     }
 
-    // Whether the system tells of a change since it was asked last.
+    // If the system can't say, something may have changed.
     fn has_news(&mut self) -> bool
         ensures { self.new.names ≡ self.old.names }
     {
@@ -132,7 +127,6 @@ impl Panel {
         }
     }
 
-    // Takes connections that wait, and says whether there was one.
     fn take_some(&mut self, now: u64) -> bool
         ensures { self.new.names ≡ self.old.names }
     {
@@ -147,7 +141,7 @@ impl Panel {
         took
     }
 
-    // Takes a connection, unless the system refuses to watch it.
+    // A connection that the system refuses to watch is dropped.
     fn take(&mut self, stream: TcpStream, now: u64)
         ensures { self.new.names ≡ self.old.names }
     {
@@ -161,7 +155,6 @@ impl Panel {
     }
 }
 
-// A listener at this address, and what tells of its connections.
 fn listen_at<R: Net>(rt: &R, address: SocketAddrV4) -> io::Result<(TcpListener, Poll)> {
     let poll = Poll::new(rt)?;
     let mut listener = TcpListener::bind(rt, SocketAddr::V4(address))?;
@@ -217,14 +210,12 @@ fn desk_over<'a, V: View>(alloc: Global, names: &'a Names, view: &'a V, calls: C
     }
 }
 
-// Bytes that nobody guesses.
 fn draw<R: RandomSource>(rt: &R) -> io::Result<[u8; TOKEN]> {
     let mut bytes = [0; TOKEN];
     rt.fill_bytes(&mut bytes)?;
     Ok(bytes)
 }
 
-// Their text.
 fn token_text(alloc: Global, bytes: &[u8; TOKEN]) -> Result<String, AllocError>
     ensures hex { IfOk result (λ text. string_bytes text ≡ encode_lower bytes.now) }
     ensures long { IfOk result (λ text. length (string_bytes text) ≡ 32) }

@@ -10,29 +10,25 @@ use crate::view::View;
 use http_server::{Connection, Service};
 use std::io::{self, ErrorKind, Read, Write};
 
-/// For how long a request may be under way and its answer wait to be taken, and for how long none may come, in
-/// milliseconds.
+// A connection is closed so many milliseconds after its last answer was made.
 const PATIENCE: u64 = 10_000;
 
-/// A connection.
 #[derive(Drop)]
 pub struct Peer<T: Read + Write> {
-    /// What HTTP makes of it.
     pub connection: Connection,
     /// Whether a request that came by it had the token.
     pub is_known: bool,
     stream: T,
-    // Each request that came was answered, and the answers went out.
+    // Whether all that came was answered, and the answers went out.
     is_rested: bool,
     stay: Stay,
-    // A read or a write of the last turn would have waited: only then is the next change reported.
+    // Whether a read or a write of the last turn would have waited: only then the next change is reported.
     is_blocked: bool,
-    // When the last answer was made, and when bytes moved last, in milliseconds.
+    // In milliseconds: when the last answer was made, and when bytes moved last.
     answered: u64,
     active: u64,
 }
 
-/// What becomes of a connection.
 #[derive(Clone, Copy, PartialEq, Eq)]
 enum Stay {
     Active,
@@ -41,7 +37,6 @@ enum Stay {
 }
 
 impl<T: Read + Write> Peer<T> {
-    /// A connection that was taken then.
     pub fn new(stream: T, connection: Connection, now: u64) -> Self
         ensures connection { result.connection ≡ connection }
         ensures unknown { result.is_known ≡ false }
@@ -63,7 +58,7 @@ impl<T: Read + Write> Peer<T> {
         self.active
     }
 
-    /// When it is given up, in milliseconds, if no answer is made before.
+    /// When it is given up, in milliseconds, unless an answer is made before.
     pub fn due(&self) -> u64 {
         self.answered.saturating_add(PATIENCE)
     }
@@ -73,12 +68,11 @@ impl<T: Read + Write> Peer<T> {
         !self.is_blocked && !self.is_gone()
     }
 
-    /// Whether it is to be closed.
     pub fn is_gone(&self) -> bool {
         self.stay == Stay::Gone
     }
 
-    /// Does what can be done now: a write, a read, a request and a write.
+    /// Does what can be done now: a write, a read, an answer and a write.
     pub fn turn<V: View>(&mut self, desk: &mut Desk<'_, V>, now: u64)
         ensures { HasTurned (AnswersAtDesk V.page_bytes V.state_bytes V.about) desk.old self.old self.new desk.new }
     {
@@ -93,7 +87,7 @@ impl<T: Read + Write> Peer<T> {
         }
     }
 
-    // Writes, reads, answers and writes. It reads only if every request that came was answered.
+    // It reads only if every request that came was answered.
     fn step<S: Service>(&mut self, service: &mut S, now: u64) -> Stay
         ensures { Calls S.answers service.old service.new (calls_at self.old) (calls_at self.new) }
     {
@@ -108,7 +102,6 @@ impl<T: Read + Write> Peer<T> {
         read.and(wrote)
     }
 
-    // Answers what came, if something did or is left.
     #[tactic(auto, using(crate::proofs::Gained::no_calls))]
     fn answer<S: Service>(&mut self, service: &mut S, has_come: bool, now: u64)
         ensures { Calls S.answers service.old service.new (calls_at self.old) (calls_at self.new) }
@@ -124,7 +117,6 @@ impl<T: Read + Write> Peer<T> {
         }
     }
 
-    // Writes once, if something is pending.
     fn write(&mut self) -> Stay
         ensures { calls_at self.new ≡ calls_at self.old }
     {
@@ -138,7 +130,6 @@ impl<T: Read + Write> Peer<T> {
         }
     }
 
-    // Reads once, if all that came was answered.
     fn read(&mut self) -> Stay
         ensures { calls_at self.new ≡ calls_at self.old }
     {
@@ -151,7 +142,6 @@ impl<T: Read + Write> Peer<T> {
         }
     }
 
-    // What comes of an error of a read or a write: one that says to wait is none.
     fn wait(&mut self, error: &io::Error) -> Stay
         ensures { self.new.connection ≡ self.old.connection }
     {

@@ -12,10 +12,9 @@ use std::alloc::{AllocError, Global};
 use std::hash::RandomState;
 use std::io::{Read, Write};
 
-/// Most connections at once.
 pub const MOST_PEERS: usize = 8;
 
-/// A request has at most 8 KiB of head, and no answer is made while one waits to be sent.
+// `max_pending`: no answer is made while one waits to be sent.
 const CONFIG: Config = Config {
     limits: Limits {
         max_head_len: 8192,
@@ -27,7 +26,6 @@ const CONFIG: Config = Config {
     read_size: 2048,
 };
 
-/// Connections, eight at most.
 #[derive(Drop)]
 pub struct Peers<T: Read + Write> {
     pub peers: Vec<Peer<T>>,
@@ -36,7 +34,6 @@ pub struct Peers<T: Read + Write> {
 }
 
 impl<T: Read + Write + Drop> Peers<T> {
-    /// With nobody connected.
     pub fn new(alloc: Global, keys: RandomState) -> Result<Self, AllocError>
         ensures { IfOk result (λ peers. peers.peers.items ≡ []) }
     {
@@ -44,8 +41,7 @@ impl<T: Read + Write + Drop> Peers<T> {
         Ok(Peers { peers, alloc, keys })
     }
 
-    /// Adds a connection that was taken then. If there are eight, of those that aren't known that at which nothing moved
-    /// for longest is closed, or if all are known, of them.
+    /// Adds a connection. A ninth closes the one at which nothing moved for longest, a known one only if all are known.
     pub fn add(&mut self, stream: T, now: u64)
         ensures known { length (known_of self.old.peers.items) < 8 →
             known_of self.new.peers.items ≡ known_of self.old.peers.items }
@@ -57,7 +53,6 @@ impl<T: Read + Write + Drop> Peers<T> {
         drop(self.peers.push(Peer::new(stream, connection, now)));
     }
 
-    // Closes that at which nothing moved for longest, a known one only if all are.
     fn drop_idlest(&mut self)
         ensures known { length (known_of self.old.peers.items) < length self.old.peers.items →
             known_of self.new.peers.items ≡ known_of self.old.peers.items }
@@ -69,7 +64,6 @@ impl<T: Read + Write + Drop> Peers<T> {
         }
     }
 
-    // Where nothing moved for longest, of those that are known or of those that aren't, and when it did.
     fn idlest(&self, is_known: bool) -> Option<(usize, u64)>
         ensures there { IfSome result (λ found. IsKnownAt self.now.peers.items found.0 is_known) }
         ensures none { result ≡ None → IsNoneBefore self.now.peers.items (length self.now.peers.items) is_known }
@@ -84,7 +78,6 @@ impl<T: Read + Write + Drop> Peers<T> {
         idlest
     }
 
-    /// Each connection has its turn, one after another.
     pub fn turn_each<V: View>(&mut self, desk: &mut Desk<'_, V>, now: u64)
         ensures { HaveTurned (AnswersAtDesk V.page_bytes V.state_bytes V.about) desk.old self.old.peers.items self.new.peers.items desk.new }
     {
@@ -95,12 +88,10 @@ impl<T: Read + Write + Drop> Peers<T> {
         }
     }
 
-    /// Closes those that are to be closed.
     pub fn drop_gone(&mut self) {
         self.peers.retain(|peer| !peer.is_gone());
     }
 
-    /// Whether there may be more to do at once.
     pub fn are_busy(&self) -> bool {
         let mut are_busy = false;
         for place in 0..self.peers.len() {
@@ -109,7 +100,7 @@ impl<T: Read + Write + Drop> Peers<T> {
         are_busy
     }
 
-    /// When one of them is given up, if nothing moves before; the end of time if there is none.
+    /// When the next one is given up, unless an answer is made before; the end of time if there is none.
     pub fn due(&self) -> u64 {
         let mut due = u64::MAX;
         for place in 0..self.peers.len() {
@@ -119,7 +110,7 @@ impl<T: Read + Write + Drop> Peers<T> {
     }
 }
 
-// Of a place that was found before, and another one, each with when bytes moved there last: the one where that is longer ago.
+// Each place comes with the time at which bytes moved there last: the earlier one wins.
 fn idler(found: Option<(usize, u64)>, other: (usize, u64)) -> (usize, u64)
     ensures { (result ≡ other) ⊎ (found ≡ Some result) }
 {

@@ -2,22 +2,21 @@
 use std::alloc::{AllocError, Global};
 use std::rt::Clock;
 
-/// What is to be seen: a page that stays, and a state that it follows.
+/// A page that stays, and a state that it follows.
 pub trait View {
     ghost use Rattle.std.specs.Prelude.{◌≡◌, ℕ, IfOk, List, Option, string_bytes};
 
-    /// The page's bytes, the state's, and which event a call is about, if calls are taken.
     ghost page_bytes: { Self → List ℕ };
 
     ghost state_bytes: { Self → List ℕ };
 
     ghost about: { Self → Option ℕ };
 
-    /// The page, in HTML.
+    /// In HTML.
     fn page(&self) -> &'static str
         ensures { result.now ≡ page_bytes self.now };
 
-    /// The state, in JSON.
+    /// In JSON.
     fn state(&self, alloc: Global) -> Result<String, AllocError>
         ensures { IfOk result (λ text. string_bytes text ≡ state_bytes self.now) };
 

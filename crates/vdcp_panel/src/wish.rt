@@ -9,7 +9,6 @@ use bytes::Bytes;
 use http::Request;
 use itoa::Buffer;
 
-/// What a method does.
 #[derive(Clone, Copy)]
 pub enum Verb {
     Read,
@@ -17,7 +16,6 @@ pub enum Verb {
     Other,
 }
 
-/// Where a path leads.
 #[derive(Clone, Copy)]
 pub enum Place {
     Page,
@@ -26,17 +24,16 @@ pub enum Place {
     Nowhere,
 }
 
-/// What a request gets.
 #[derive(Clone, Copy)]
 pub enum Wish {
     Page,
     State,
     Call(Call),
-    /// It isn't let in, or has no token.
+    /// The request isn't let in, or has no token.
     Forbidden,
     NotFound,
     NotAllowed,
-    /// It is about another event.
+    /// The call is about another event.
     Conflict,
 }
 
@@ -73,7 +70,7 @@ impl Place {
 }
 
 impl Wish {
-    /// What a request gets if a call is about this event.
+    /// `event` is the one that a call has to be about.
     pub fn of(gate: &Gate<'_>, event: Option<u64>, request: &Request<Bytes>) -> Wish
         ensures call { wish_call result ≡ called gate.now event request.now }
         ensures shows { (page state : List ℕ) → shown_by page state result ≡ shown gate.now page state request.now }
@@ -93,7 +90,6 @@ impl Wish {
     }
 }
 
-// What a request to make this call gets.
 fn wish_to(call: Call, gate: &Gate<'_>, event: Option<u64>, request: &Request<Bytes>) -> Wish
     ensures call { wish_call result
         ≡ (if has_token gate.now request.now && is_about event request.now then Some call else None) }
@@ -111,7 +107,6 @@ fn wish_to(call: Call, gate: &Gate<'_>, event: Option<u64>, request: &Request<By
     Wish::Call(call)
 }
 
-// Whether a request names this event.
 fn is_about(event: Option<u64>, request: &Request<Bytes>) -> bool
     ensures { result ≡ is_about event request.now }
 {

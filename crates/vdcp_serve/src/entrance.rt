@@ -21,13 +21,13 @@ use vdcp_log::{Log, Logged};
 use vdcp_text::Failure;
 use vdcp_wire::{Duplex, StreamWire, Waits, WireFault};
 
-/// For how long a listen waits if frames pass by the clock, in milliseconds.
+// How many milliseconds a listen waits if frames pass by the clock.
 const TICK: u32 = 5;
 
-/// For how many seconds a send waits if the other end takes nothing, unless a line may be idle for another time.
+// How many seconds a send waits for an end that takes nothing, if the settings don't say how long a line may be idle.
 const SENDING: u32 = 10;
 
-/// Listens at an address and takes one connection after another. The system has those wait that come meanwhile.
+/// Listens at an address and takes one connection after another; the system has the others wait.
 #[derive(Drop)]
 pub struct Entrance<'a, R: Net, L: io::Write> {
     listener: R::Listener,
@@ -35,15 +35,13 @@ pub struct Entrance<'a, R: Net, L: io::Write> {
     events: Events<Global>,
     settings: ServeSettings,
     log: &'a Log<L>,
-    // The address at the other end of the last connection.
     from: Option<SocketAddr>,
-    // The system refuses to wait.
+    // Whether the system refuses to wait.
     is_refused: bool,
 }
 
 impl<'a, R: Net + AllocGlobal, L: io::Write + Drop> Entrance<'a, R, L> {
-    /// With this listener. A wait for a connection is no longer than a silence of one, or by the clock than a frame; the
-    /// log is told of each connection, of its messages and of its end.
+    /// The log is told of each connection and of its end.
     pub fn new(
         rt: &R,
         listener: R::Listener,
@@ -67,7 +65,6 @@ impl<'a, R: Net + AllocGlobal, L: io::Write + Drop> Entrance<'a, R, L> {
         })
     }
 
-    // Waits until a connection comes, no longer than a pause. Err if the system refuses to.
     fn pause(&mut self) -> Result<(), WireFault>
         ensures { IfErr result (λ _. IsTrue self.new.is_refused) }
     {
@@ -80,7 +77,7 @@ impl<'a, R: Net + AllocGlobal, L: io::Write + Drop> Entrance<'a, R, L> {
         Ok(())
     }
 
-    // Takes a connection that waits. (If none can be taken now, none has come.)
+    // If none can be taken now, none has come.
     fn take(&mut self) -> Option<R::Stream> {
         match self.listener.accept() {
             Ok((stream, from)) => {
@@ -97,7 +94,6 @@ impl<'a, R: Net + AllocGlobal, L: io::Write + Drop> Connections<
 > for Entrance<'a, R, L> {
     fn wait(&mut self) -> Result<Coming<Logged<'a, StreamWire<R::Stream>, L>>, WireFault>
         ensures works { IfOk result (λ coming. IfLine coming (λ line. failures_of line.wire.connection ≡ 0)) }
-        // No connection fails a wait.
         ensures refused { IfErr result (λ _. IsTrue self.new.is_refused) }
     {
         let mut taken = self.take();
@@ -133,7 +129,7 @@ impl<'a, R: Net + AllocGlobal, L: io::Write + Drop> Connections<
     }
 }
 
-/// The line over a connection, which tells a log what passes. Err if the connection refuses to be one.
+/// The line over a connection, which tells a log what passes. It fails if the connection refuses to be one.
 pub fn line_over<S: Duplex + Drop, L: io::Write + Drop>(
     stream: S,
     settings: ServeSettings,
@@ -145,7 +141,7 @@ pub fn line_over<S: Duplex + Drop, L: io::Write + Drop>(
     Ok(Logged::new(wire, log, hearing_of(settings)))
 }
 
-// How long a line waits. By the clock a listen is short, so that a frame passes in time; several are a silence.
+// By the clock a listen is short, so that a frame passes in time; several are a silence.
 fn waits_of(settings: ServeSettings) -> Waits
     ensures at_silences { settings.by_clock ≡ false → (as_nanos result.read ≡ settings.silence * 1000000) × (result.reads ≡ 1) }
     ensures by_clock { settings.by_clock ≡ true → (as_nanos result.read ≡ TICK * 1000000)
@@ -161,7 +157,7 @@ fn waits_of(settings: ServeSettings) -> Waits
     Waits { read, reads, send }
 }
 
-// How long a frame is that passes while there is no line: by the clock the least time after which one is over.
+// A frame passes at each pause while there is no line. By the clock a pause is the least time after which one is over.
 fn pause_of(settings: ServeSettings) -> Duration
     ensures at_silences { settings.by_clock ≡ false → as_nanos result ≡ settings.silence * 1000000 }
     ensures by_clock { settings.by_clock ≡ true → (frames_after settings.rate (as_nanos result) ≡ 1)

@@ -5,17 +5,15 @@ ghost use Rattle.vdcp_value.specs.Clock.{frames_after};
 
 use vdcp_value::Rate;
 
-/// The frames that have passed on a line.
 #[derive(Clone, Copy)]
 pub struct FrameClock {
     rate: Rate,
-    // When the line began, in nanoseconds.
+    // In nanoseconds.
     began: u64,
     frames: u128,
 }
 
 impl FrameClock {
-    /// None yet, on a line that begins at this time.
     pub fn new(rate: Rate, began: u64) -> Self
         ensures { result ≡ record { rate = rate; began = began; frames = 0 } }
     {
@@ -26,8 +24,7 @@ impl FrameClock {
         }
     }
 
-    /// Counts a frame if one more is over at this time: so they are never ahead of it, and where none is counted none is
-    /// over.
+    /// Counts a frame if one more is over: so the count is never ahead of the clock, and where it stays none is over.
     pub fn count(&mut self, now: u64) -> bool
         ensures over { result ≡ is_frame_over now self.old }
         ensures counts { self.new ≡ counted result self.old }

@@ -13,20 +13,16 @@ use vdcp_port::{Catalogue, Port};
 use vdcp_text::ItemText;
 use vdcp_value::{Item, Rate};
 
-/// Says what is due by its timing, tells a log what goes to air, and shows a panel, if there is one, how the port is.
 #[derive(Drop)]
 pub struct Hooks<'a, R: Clock, L: io::Write> {
-    /// When frames pass, and when the line is given up.
     pub timing: Timing<'a, R>,
     log: &'a Log<L>,
     rate: Rate,
-    // How many items went to air.
     aired: u64,
     panel: Option<PortPanel<'a, R>>,
 }
 
 impl<'a, R: Clock + AllocGlobal, L: io::Write + Drop> Hooks<'a, R, L> {
-    /// Of a port that has put nothing to air yet.
     pub fn new(rt: &'a R, log: &'a Log<L>, rate: Rate, panel: Option<PortPanel<'a, R>>) -> Self {
         Hooks {
             timing: Timing::new(rt),
@@ -37,7 +33,6 @@ impl<'a, R: Clock + AllocGlobal, L: io::Write + Drop> Hooks<'a, R, L> {
         }
     }
 
-    /// From here the port is driven now, or nobody drives it.
     pub fn connected(&mut self, from: Option<SocketAddr>)
         ensures { self.new.timing ≡ self.old.timing }
     {
@@ -46,7 +41,7 @@ impl<'a, R: Clock + AllocGlobal, L: io::Write + Drop> Hooks<'a, R, L> {
         }
     }
 
-    /// The port is as it is now, and this went to air.
+    /// Shows the port as it is now, and notes what went to air.
     pub fn show<C: Catalogue>(&mut self, port: &Port<C>, aired: Option<Item>)
         ensures timing { self.new.timing ≡ self.old.timing }
         ensures noted { Notes aired self.old.aired (aired_on self.old.panel) (aired_on self.new.panel) }
@@ -59,7 +54,6 @@ impl<'a, R: Clock + AllocGlobal, L: io::Write + Drop> Hooks<'a, R, L> {
         }
     }
 
-    // This went to air, counted from 0.
     fn note(&mut self, item: Item)
         ensures timing { self.new.timing ≡ self.old.timing }
         ensures noted { IsNoted item self.old.aired (aired_on self.old.panel) (aired_on self.new.panel) }

@@ -1,7 +1,4 @@
-//! The subcommand `serve`: the server's end of a playout channel over TCP.
-//!
-//! `do_serve` waits for one automation at an address, or for one after another, and serves it with a new port. Each
-//! fault has a line on standard error, and the exit status is given.
+//! The subcommand `serve` (`do_serve`): the server's end of a playout channel over TCP.
 //!
 //! Files, in reading order: `serve`, `stay`, `entrance`, `hooks`, `timing`, `frame_clock`, `panel`, `page`.
 #![tactic(auto)]

@@ -2,7 +2,7 @@
 
 use vdcp_panel::page;
 
-/// It asks for `/state` four times a second.
+// It asks for `/state` four times a second.
 pub const PAGE: &'static str = page!(
     "VDCP port",
     r#".stale main { opacity: .45; }

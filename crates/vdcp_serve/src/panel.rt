@@ -15,26 +15,23 @@ use vdcp_port::{Access, Catalogue, Clip, Kept, Port};
 use vdcp_text::ItemText;
 use vdcp_value::{Item, Rate};
 
-/// How many of the items that went to air last are shown.
+// How many of the items that went to air last are shown.
 const MOST_AIRED: usize = 50;
 
-/// An item that went to air.
 #[derive(Clone, Copy, Debug)]
 pub struct Airing {
-    /// Its number, from 0.
+    /// Counted from 0.
     pub number: u64,
     pub item: Item,
-    /// When, in milliseconds since 1970.
+    /// In milliseconds since 1970.
     pub at: u64,
 }
 
-/// What is to be seen of a port.
 #[derive(Clone, Copy)]
 pub struct PortView<'a> {
     pub page: &'static str,
     pub rate: Rate,
     pub kept: Kept,
-    /// The state byte.
     pub state: u8,
     /// The items that went to air last, in order.
     pub aired: &'a [Airing],
@@ -42,7 +39,6 @@ pub struct PortView<'a> {
     pub from: &'a Option<String>,
 }
 
-/// A panel that shows a port.
 #[derive(Drop)]
 pub struct PortPanel<'a, R: Clock> {
     rt: &'a R,
@@ -53,7 +49,6 @@ pub struct PortPanel<'a, R: Clock> {
 }
 
 impl<'a, R: Clock + AllocGlobal> PortPanel<'a, R> {
-    /// A panel of a port that has put nothing to air yet.
     pub fn new(rt: &'a R, panel: Panel, rate: Rate) -> Result<Self, AllocError> {
         Ok(PortPanel {
             rt,
@@ -64,7 +59,7 @@ impl<'a, R: Clock + AllocGlobal> PortPanel<'a, R> {
         })
     }
 
-    /// From here the port is driven now, or nobody drives it.
+    /// Notes which address drives the port now, if one does.
     pub fn connected(&mut self, from: Option<SocketAddr>) {
         self.from = match from {
             Some(address) => format!(in self.rt.alloc(); "{address}").ok(),
@@ -72,7 +67,7 @@ impl<'a, R: Clock + AllocGlobal> PortPanel<'a, R> {
         };
     }
 
-    /// This went to air as that number.
+    /// Notes what went to air, as this number, counted from 0.
     pub fn note(&mut self, number: u64, item: Item)
         ensures noted { IsNoted item number self.old.aired.items self.new.aired.items }
         ensures keeps { self.new ≡ record self.old { aired = self.new.aired } }

@@ -18,54 +18,37 @@ use vdcp_text::Failure;
 use vdcp_value::Rate;
 use vdcp_wire::{AcceptFault, accept_one, address_of, listen_at};
 
-/// What a channel is served with.
 #[derive(Clone, Copy, Debug, PartialEq, Eq)]
 pub struct ServeSettings {
     /// The unit address, 0 to 15.
     pub unit: u8,
-    /// The port's number.
     pub port: u8,
     /// How many frames a cue takes, 1 to 1,000.
     pub cue_frames: u32,
-    /// The frame rate of time codes.
+    /// The rate of the catalogue's time codes, and of frames by the clock.
     pub rate: Rate,
-    /// Whether frames pass by the clock, and what comes is heard at once. Else it is heard at silences, and a frame
-    /// passes at each.
+    /// Whether frames pass by the clock, and what comes is heard at once. Else both go by silences.
     pub by_clock: bool,
-    /// The silence that ends a burst, in milliseconds, 1 to 60,000.
+    /// The silence that ends a burst, 1 to 60,000 milliseconds.
     pub silence: u32,
-    /// The most turns that are made, each a wait for bytes or for a silence, or for the next connection.
+    /// How many turns are made at most, each a wait for bytes, for a silence, or for the next connection.
     pub turns: u32,
     /// Whether the port is kept for the next connection when one ends.
     pub stay: bool,
-    /// For how many seconds nothing may come by a connection, nor go out if something is to, 1 to 86,400; None: as
-    /// long as nobody closes it, but what is to go out fails after ten seconds.
+    /// For how many seconds nothing may come, nor go out if something has to, 1 to 86,400. None: a connection may be idle
+    /// for ever, and a send fails after ten seconds.
     pub idle: Option<u32>,
 }
 
-/// Serves a new port with the clips of a catalogue to the first automation that connects to `address`: an
-/// IPv4 address, a colon and a TCP port, 0 for one that the system chooses. `out` gets a line with the
-/// address that is listened at, which is flushed before the connection is taken, and then one that says
-/// whether the automation has `closed` the connection, it was `idle` for too long, or the turns are `spent`. The other
-/// connections are refused from then on.
+/// Serves a new port with a catalogue's clips at `address`, an IPv4 address, a colon and a TCP port (0: the system chooses
+/// one): to the first automation that connects, or with `stay` to one after another, which find the port as it is.
+/// `docs/vdcp.1` has what `out` and the log get; `capture` gets rows that `judge` reads. A log or capture that fails gets
+/// no more.
 ///
-/// A server that stays keeps its port when a connection ends, is idle for too long or fails, and takes the next one,
-/// which finds the port as it is; meanwhile frames pass. It ends when the turns are spent.
-///
-/// By the clock a frame passes when its time is over, whatever comes meanwhile, and a wait for bytes is five
-/// milliseconds at most.
-///
-/// If all is told, the writer gets a line for each message that came (`<-`) and went out (`->`), with the words
-/// that it has, one for each burst that is at fault or cut, and one for each item that goes to air (`aired` and its
-/// number from 0); and from a server that stays one for each connection that is `taken`, and `closed` or `idle`. Its
-/// fault line goes there too if a line fails. The writer of a capture gets rows of what came and went out, as `judge`
-/// reads them. If either writer fails, it gets no more.
-///
-/// The status is 0 if the connection was served to its end, or if a server that stays has spent its turns. It
-/// is 2 if `address` isn't one, 1 if a row of the catalogue is refused, and 3 if the catalogue can't be read,
-/// memory was refused, the address can't be listened at, no connection is taken, or the only line failed; `err` gets a
-/// line of these. The address is tested first, and then the catalogue is read. The status is 3 if `out` failed, to
-/// which nothing more is written.
+/// The status is 0 if the connection was served to its end, or with `stay` once the turns are spent. It is 2 if `address`
+/// is none (tested first), 1 if a row of the catalogue is refused, and 3 if it can't be read, memory was refused, the
+/// address can't be listened at, no connection comes, or the only line failed; `err` gets a line of these. It is 3 if `out`
+/// failed, which gets nothing more.
 pub fn do_serve<
     R: Net + AllocGlobal + Clock,
     C: io::Read + Drop,
@@ -94,7 +77,6 @@ pub fn do_serve<
     }
 }
 
-// Reads the catalogue, serves it, and tells how that ended.
 fn serve<'a, R: Net + AllocGlobal + Clock, C: io::Read + Drop, L: io::Write + Drop, W: io::Write>(
     rt: &R,
     address: &str,
@@ -124,7 +106,6 @@ fn serve<'a, R: Net + AllocGlobal + Clock, C: io::Read + Drop, L: io::Write + Dr
     }
 }
 
-// The new port of a catalogue.
 fn new_port<C: Catalogue>(catalogue: C, settings: ServeSettings) -> Port<C>
     requires unit { settings.unit ≤ 15 }
     requires some_frames { 1 ≤ settings.cue_frames }
@@ -134,7 +115,6 @@ fn new_port<C: Catalogue>(catalogue: C, settings: ServeSettings) -> Port<C>
     Port::with_clock(catalogue, settings.unit, settings.port, settings.cue_frames)
 }
 
-// Takes a connection, and serves it.
 fn serve_first<
     'a,
     R: Net + AllocGlobal + Clock,
@@ -164,7 +144,6 @@ fn serve_first<
     }
 }
 
-// Takes one connection after another, and serves them.
 fn serve_each<
     'a,
     R: Net + AllocGlobal + Clock,
@@ -207,13 +186,11 @@ fn failure_of(fault: AcceptFault) -> Failure<'static> {
     }
 }
 
-// Tells how the turns of a server ended.
 fn write_end<W: io::Write>(end: TurnsEnd, out: &mut W) -> io::Result<()> {
     writeln!(out, "{}", word_of(end))?;
     out.flush()
 }
 
-/// The word of how a server's turns ended.
 pub(crate) fn word_of(end: TurnsEnd) -> &'static str {
     match end {
         TurnsEnd::Closed => "closed",

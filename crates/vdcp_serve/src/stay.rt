@@ -11,14 +11,11 @@ use vdcp_drive::{DriveFault, Hearing, Server, TurnsEnd};
 use vdcp_port::{Catalogue, Port};
 use vdcp_wire::{Wire, WireFault};
 
-/// What a wait for a connection brings.
 #[derive(Drop)]
 pub enum Coming<W> {
-    /// Nobody came for the time of a silence, or by the clock of a frame.
     Nobody,
-    /// Somebody came, and the line failed at once.
+    /// The line of a new connection failed at once.
     Failed,
-    /// The new connection.
     Line(W),
 }
 
@@ -27,22 +24,20 @@ pub trait Connections<W: Wire> {
     ghost use Rattle.std.specs.Prelude.{◌≡◌, IfOk};
     ghost use Rattle.vdcp_serve.specs.Stay.{IfLine};
 
-    /// Waits for the next line, no longer than a silence or, by the clock, a frame lasts.
+    /// Waits for the next line, no longer than a silence or, by the clock, a frame.
     fn wait(&mut self) -> Result<Coming<W>, WireFault>
         ensures { IfOk result (λ coming. IfLine coming (λ line. W.failures line ≡ 0)) };
 
-    /// The address at the other end of the last line, if it is known.
     fn from(&self) -> Option<SocketAddr>;
 
-    /// It is told how the last connection ended, or that it failed, also to be a line.
+    /// Is told how the last connection ended, also that it failed or couldn't be a line.
     fn tell_end(&mut self, end: Result<TurnsEnd, DriveFault>);
 }
 
-/// Serves a port over one line after another, for the turns of the settings in all, each a wait for a line, a listen or a
-/// frame. While there is no line a frame passes at each wait. A line ends if the other end closes it, if it is
-/// given up since nothing comes for too long, and if it fails; the port stays as it is, and `connections` is told of each
-/// end. A line that waited while the one before it was idle for too long is given up after its first listen in vain.
-/// Err if nobody can be waited for.
+/// Serves a port over one line after another, for `turns` of the settings in all, each a wait for a line, a listen or a
+/// frame. While there is no line a frame passes at each wait. A line ends if the other end closes it, if nothing comes for
+/// too long, and if it fails; the port stays as it is. A line that waited behind one that was idle for too long is given up
+/// after its first listen in vain. The fault is that nobody can be waited for.
 pub fn stay<
     C: Catalogue + Drop,
     W: Wire + Drop,
@@ -85,7 +80,7 @@ pub fn stay<
     Ok(port)
 }
 
-/// Serves a port over a line from there, for this many turns at most: gives the port as it is then, and how they ended.
+/// Serves a port over a line, for so many turns at most, and gives the port as it is then.
 pub fn serve_over<C: Catalogue + Drop, W: Wire + Drop, R: Clock + AllocGlobal, L: io::Write + Drop>(
     port: Port<C>,
     line: W,
@@ -106,7 +101,6 @@ pub fn serve_over<C: Catalogue + Drop, W: Wire + Drop, R: Clock + AllocGlobal, L
     (port, end)
 }
 
-/// How a server hears.
 pub fn hearing_of(settings: ServeSettings) -> Hearing
     ensures { result ≡ hearing_of settings }
 {

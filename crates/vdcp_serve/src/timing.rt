@@ -8,20 +8,18 @@ use std::rt::Clock;
 use vdcp_drive::{DriveFault, Due, Turned};
 use vdcp_wire::{Came, Stopwatch};
 
-/// The patience with a line: it is given up once nothing has come for too long, and a listen that began then has brought
-/// nothing either. (So what waits is read before.)
+/// A line is given up once nothing has come for too long and a listen that began then was in vain: so what waits is read
+/// before.
 #[derive(Clone, Copy)]
 pub struct Patience {
-    // For how many seconds nothing may come; None: for ever.
     seconds: Option<u32>,
-    // When something came last, in nanoseconds.
+    // In nanoseconds: when something came last.
     heard: u64,
     gives_up: bool,
 }
 
 impl Patience {
-    // With the next line, from this time on; but if the one before it was given up, it has waited all the while, and
-    // nothing came from it either.
+    // If the line before was given up, the next one has waited all the while, and nothing came from it either.
     fn with_next_line(self, seconds: Option<u32>, now: u64) -> Patience
         ensures { result ≡ with_next_line seconds now self }
     {
@@ -32,7 +30,6 @@ impl Patience {
         }
     }
 
-    // After a turn that began at one time and ended at the other one.
     fn after_turn(self, turned: Result<Turned, DriveFault>, began: u64, ended: u64) -> Patience
         ensures { result ≡ after_turn turned began ended self }
     {
@@ -49,7 +46,6 @@ impl Patience {
         }
     }
 
-    // Whether nothing had come for too long at this time.
     fn is_too_long(self, time: u64) -> bool
         ensures { result ≡ is_too_long time self }
     {
@@ -60,19 +56,16 @@ impl Patience {
     }
 }
 
-/// What a server's turns over a line go by.
 #[derive(Drop)]
 pub struct Timing<'a, R: Clock> {
     stopwatch: Stopwatch<&'a R>,
     // None if frames pass at silences.
     frames: Option<FrameClock>,
     patience: Patience,
-    // How many turns the line has had.
     turns: u64,
 }
 
 impl<'a, R: Clock> Timing<'a, R> {
-    /// Before the first line.
     pub fn new(clock: &'a R) -> Self {
         Timing {
             stopwatch: Stopwatch::new(clock),
@@ -86,7 +79,6 @@ impl<'a, R: Clock> Timing<'a, R> {
         }
     }
 
-    /// The next line begins.
     pub fn begin_line(&mut self, settings: ServeSettings)
         ensures { LineBegins settings self.old self.new }
     {
@@ -103,14 +95,13 @@ impl<'a, R: Clock> Timing<'a, R> {
         self.patience.gives_up = false;
     }
 
-    /// How many turns the line has had.
     pub fn turns(&self) -> u64
         ensures { result ≡ self.now.turns }
     {
         self.turns
     }
 
-    // The time, which is read only if something goes by it.
+    // It is read only if something goes by it.
     fn now(&mut self) -> u64
         ensures time { result ≡ self.new.stopwatch.now }
         ensures later { self.old.stopwatch.now ≤ self.new.stopwatch.now }
@@ -122,7 +113,6 @@ impl<'a, R: Clock> Timing<'a, R> {
         self.stopwatch.read()
     }
 
-    /// What is due: the line is given up, or a frame passes if one is over, or it is listened to.
     pub fn due(&mut self) -> Due
         ensures { WasAsked result self.old self.new }
     {
@@ -139,7 +129,6 @@ impl<'a, R: Clock> Timing<'a, R> {
         Due::Listen
     }
 
-    /// A turn is over, which was this.
     pub fn note(&mut self, turned: Result<Turned, DriveFault>)
         ensures { WasTold turned self.old self.new }
     {
@@ -149,7 +138,6 @@ impl<'a, R: Clock> Timing<'a, R> {
     }
 }
 
-// The frames of a line that begins now, if they pass by the clock.
 fn frames_of(settings: ServeSettings, now: u64) -> Option<FrameClock>
     ensures { result ≡ frames_of settings now }
 {
