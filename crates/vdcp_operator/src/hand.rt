@@ -24,26 +24,25 @@ use vdcp_list::Rest;
 use vdcp_panel as panel;
 use vdcp_words::Command;
 
-/// How long a wait is cut into at most, so that requests for the page are answered meanwhile, in nanoseconds.
+// In nanoseconds: a wait is cut into such pieces, between which requests for the page are answered.
 const PIECE: u64 = 20_000_000;
 
-/// How long before the start the connection is made, in milliseconds.
+// The first command goes out so many milliseconds before the start, in time for the cue.
 const LEAD: u64 = 2_000;
 
-/// How many pieces of time the page is shown once the run has ended, so that a browser that follows it sees that.
+// Once the run has ended the page is shown for so many pieces, so that a browser sees the end.
 const LINGER: u64 = 50;
 
-/// The hand that an operator has in a run: what is typed, the page, and when commands may go out. A run without an operator
-/// has one too, by which a STATUS waits.
+/// Reads calls, answers requests for the page, and holds commands back: a STATUS also in a run without an operator.
 #[derive(Drop)]
 pub struct Hand<'a, R: Clock, I: Read, E: Write> {
     clock: &'a R,
     typed: Option<Typed<I>>,
     told: E,
     page: Option<RunPage>,
-    // The first PLAY goes out then, since 1970, unless it has gone out.
+    // When the first PLAY goes out, since 1970, if that is waited for.
     start: Option<Duration>,
-    // What the clock showed when it was read last for the start, since 1970. (None if it can't be read.)
+    // What the clock last showed, since 1970; None if it couldn't be read.
     time: Option<Duration>,
     polling: Polling<'a, R>,
     commands: u64,
@@ -54,7 +53,7 @@ pub struct Hand<'a, R: Clock, I: Read, E: Write> {
 /// Until when calls are asked for.
 #[derive(Clone, Copy)]
 enum Until {
-    /// It is this time since 1970.
+    /// Since 1970.
     Time(Duration),
     /// The state may be asked again.
     Poll,
@@ -63,8 +62,8 @@ enum Until {
 }
 
 impl<'a, R: Clock, I: Read + Drop, E: Write> Hand<'a, R, I, E> {
-    /// A hand that reads calls there, has this page, and puts the first event to air then, since 1970, each if it is
-    /// there. What is typed and is no call is reported. From one STATUS to the next it takes `poll` milliseconds at least.
+    /// Calls are read from `typed`, and `told` gets a line for what is no call. The first event goes to air at `start`,
+    /// since 1970. From one STATUS to the next at least `poll` milliseconds pass.
     pub fn new(
         clock: &'a R,
         typed: Option<I>,
@@ -96,14 +95,12 @@ impl<'a, R: Clock, I: Read + Drop, E: Write> Hand<'a, R, I, E> {
         }
     }
 
-    /// A start is waited for.
     pub fn awaits_start(&self) -> bool
         ensures { result ≡ is_some self.now.start }
     {
         self.start.is_some()
     }
 
-    /// Shows on the page what a journal says of these events.
     pub fn set_before(&mut self, before: Vec<EventBefore>)
         ensures { self.new ≡ record self.old { page = option_map (λ (page : RunPage). record page { before = before }) self.old.page } }
     {
@@ -112,7 +109,7 @@ impl<'a, R: Clock, I: Read + Drop, E: Write> Hand<'a, R, I, E> {
         }
     }
 
-    /// Waits until it is time to connect: two seconds before the start, if one is set, or at a call, which is held.
+    /// Waits until two seconds before the start, if one is set, or until a call, which it holds.
     pub fn await_lead<S: Source>(&mut self, controller: &Controller<Rest<S>>)
         ensures asks { self.old.held ≡ None →
             Asks S.items I.remaining controller.now self.old.page self.old.typed self.new.held self.new.page self.new.typed }
@@ -124,8 +121,7 @@ impl<'a, R: Clock, I: Read + Drop, E: Write> Hand<'a, R, I, E> {
         self.held = self.ask_until(controller, Until::Time(lead_of(start)));
     }
 
-    /// The call that is held, once the operator was asked for a later one, unless it is stop: what was called then is
-    /// held. Requests for the page are answered.
+    /// Unless stop is held, answers requests for the page and holds the next call, if there is one. Gives what is held.
     pub fn heed<S: Source>(&mut self, controller: &Controller<Rest<S>>) -> Option<Call>
         ensures held { result ≡ self.new.held }
         ensures stop { self.old.held ≡ Some Call.Stop → self.new ≡ self.old }
@@ -145,20 +141,17 @@ impl<'a, R: Clock, I: Read + Drop, E: Write> Hand<'a, R, I, E> {
         }
     }
 
-    /// Waits until the next command may go out, and gives a call that is held or made meanwhile, which ends the wait, also
-    /// that for the start: what the call comes to waits for nothing. Requests for the page are answered.
+    /// Waits until the next command may go out, and answers requests for the page meanwhile. A call that is held or made
+    /// ends the wait, and is given: what it comes to waits for nothing, not even for the start.
     pub fn call<S: Source>(&mut self, controller: &Controller<Rest<S>>) -> Option<Call>
-        // What is held is given; else what is asked for then.
         ensures held { (call : Call) → self.old.held ≡ Some call →
             (result ≡ Some call) × (self.new.page ≡ self.old.page) × (self.new.typed ≡ self.old.typed) }
         ensures asks { self.old.held ≡ None →
             Asks S.items I.remaining controller.now self.old.page self.old.typed result self.new.page self.new.typed }
         ensures once { self.new.held ≡ None }
-        // Where nobody calls there is no call.
         ensures unattended { self.old.held ≡ None → self.old.page ≡ None → self.old.typed ≡ None →
             (result ≡ None) × (self.new.page ≡ None) × (self.new.typed ≡ None) }
         ensures start { IsSome result → self.new.start ≡ None }
-        // A PLAY waits for the start, and those after it have none.
         ensures starts { (start : Duration) → result ≡ None → self.old.start ≡ Some start →
             given (plan_of (items_left S.items) controller.now) controller.now.state ≡ Some Command.Play →
             HasCome start self.new.time }
@@ -189,7 +182,7 @@ impl<'a, R: Clock, I: Read + Drop, E: Write> Hand<'a, R, I, E> {
         None
     }
 
-    /// Shows how the run ended, for a second.
+    /// Shows for a second how the run ended.
     pub fn show_end<S: Source>(
         &mut self,
         controller: &Controller<Rest<S>>,
@@ -204,7 +197,6 @@ impl<'a, R: Clock, I: Read + Drop, E: Write> Hand<'a, R, I, E> {
         }
     }
 
-    // Nothing is held, nobody calls, and no start is waited for.
     fn is_alone(&self) -> bool
         ensures held { IsTrue result → self.now.held ≡ None }
         ensures page { IsTrue result → self.now.page ≡ None }
@@ -214,7 +206,6 @@ impl<'a, R: Clock, I: Read + Drop, E: Write> Hand<'a, R, I, E> {
         self.held.is_none() && self.page.is_none() && self.typed.is_none() && self.start.is_none()
     }
 
-    // The next call, if one is made before that.
     fn ask_until<S: Source>(
         &mut self,
         controller: &Controller<Rest<S>>,
@@ -240,7 +231,6 @@ impl<'a, R: Clock, I: Read + Drop, E: Write> Hand<'a, R, I, E> {
         None
     }
 
-    // The next call that was made, if there is one. Requests for the page are answered.
     fn next<S: Source>(&mut self, controller: &Controller<Rest<S>>) -> Option<Call>
         ensures next { IsNext S.items I.remaining controller.now self.old.page self.old.typed result self.new.page self.new.typed }
         ensures held { self.new.held ≡ self.old.held }
@@ -253,7 +243,6 @@ impl<'a, R: Clock, I: Read + Drop, E: Write> Hand<'a, R, I, E> {
         }
     }
 
-    // The next call from the page, which is shown first.
     fn page_call<S: Source>(&mut self, controller: &Controller<Rest<S>>) -> Option<panel::Call>
         ensures page { PageCalls S.items controller.now self.old.page result self.new.page }
         ensures rest { self.new ≡ record self.old { page = self.new.page } }
@@ -266,7 +255,6 @@ impl<'a, R: Clock, I: Read + Drop, E: Write> Hand<'a, R, I, E> {
         page.next_call()
     }
 
-    // The next call that is typed, if what was typed is one; if it is none, that is reported.
     fn typed_call(&mut self) -> Option<Call>
         ensures typed { TypedCalls I.remaining self.old.typed result self.new.typed }
         ensures rest { self.new ≡ record self.old { typed = self.new.typed; told = self.new.told } }
@@ -285,7 +273,6 @@ impl<'a, R: Clock, I: Read + Drop, E: Write> Hand<'a, R, I, E> {
         }
     }
 
-    // Waits until then, but for a piece of time at most. Answers whether it is over.
     fn wait_piece(&mut self, until: Until) -> bool
         ensures over { IsTrue result → IsOver until self.new.time self.old.polling.due self.new.polling.stopwatch.now }
         ensures paces { Paces None self.old.polling self.new.polling }
@@ -298,7 +285,7 @@ impl<'a, R: Clock, I: Read + Drop, E: Write> Hand<'a, R, I, E> {
         }
     }
 
-    // Waits for this time since 1970, but for a piece of time at most. Answers whether it has come.
+    // Waits for one piece at most, and answers whether this time, since 1970, has come.
     fn wait_for(&mut self, time: Duration) -> bool
         ensures come { IsTrue result ↔ HasCome time self.new.time }
         ensures rest { self.new ≡ record self.old { time = self.new.time } }
@@ -315,7 +302,6 @@ impl<'a, R: Clock, I: Read + Drop, E: Write> Hand<'a, R, I, E> {
         false
     }
 
-    // A call is made now.
     fn note_call(&mut self)
         ensures { self.new ≡ record self.old { start = None; polling = record self.old.polling { due = 0 } } }
     {
@@ -323,7 +309,7 @@ impl<'a, R: Clock, I: Read + Drop, E: Write> Hand<'a, R, I, E> {
         self.polling.hurry();
     }
 
-    // This command goes out now, if there is one: a STATUS once it may.
+    // A STATUS waits here until it may go out.
     fn note_sent(&mut self, command: Option<Command>)
         ensures paces { Paces command self.old.polling self.new.polling }
         ensures play { command ≡ Some Command.Play → self.new.start ≡ None }
@@ -338,7 +324,6 @@ impl<'a, R: Clock, I: Read + Drop, E: Write> Hand<'a, R, I, E> {
     }
 }
 
-// Until when this command waits.
 fn until_for(command: Option<Command>, start: Option<Duration>) -> Until
     ensures { result ≡ until_for command start }
 {
@@ -349,21 +334,18 @@ fn until_for(command: Option<Command>, start: Option<Duration>) -> Until
     }
 }
 
-// How long is slept at once of what is left.
 fn piece_of(left: Duration) -> Duration
     ensures { as_nanos result ≡ min (as_nanos left) 20000000 }
 {
     left.min(Duration::from_nanos(PIECE))
 }
 
-// When the connection is made for a start.
 fn lead_of(start: Duration) -> Duration
     ensures { as_nanos result ≡ as_nanos start - 2000000000 }
 {
     start.saturating_sub(Duration::from_millis(LEAD))
 }
 
-// A time in milliseconds.
 fn millis_of(time: Option<Duration>) -> Option<u64> {
     u64::try_from(time?.as_millis()).ok()
 }

@@ -5,8 +5,7 @@ use std::net::Net;
 use std::os::fd::AsRawFd;
 use vdcp_log::Readiness;
 
-/// A keyboard, or what stands in its place, that never makes its reader wait: while nothing has come, a read is refused
-/// with `WouldBlock`. (A file always has its bytes, or its end.)
+/// While nothing has been typed a read fails with `WouldBlock`. (A file always has its bytes, or its end.)
 #[derive(Drop)]
 pub struct Keys<I> {
     reader: I,
@@ -15,7 +14,6 @@ pub struct Keys<I> {
 }
 
 impl<I: Read + AsRawFd> Keys<I> {
-    /// The keys that this reader reads.
     pub fn new<R: Net + AllocGlobal>(rt: &R, reader: I) -> Self {
         let news = Readiness::of(rt, reader.as_raw_fd(), Interest::READABLE).ok();
         Keys { reader, news }

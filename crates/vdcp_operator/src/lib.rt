@@ -1,11 +1,9 @@
-//! The operator of a run: calls that are typed, calls from a page, a start by the clock, and the progress line.
+//! The operator of a run: typed calls, calls from a page, a start by the clock, and the progress line.
 //!
-//! `Hand` is for the hooks of a driver, also without an operator: before each listen it reads what was typed (`Typed`, by
+//! The hooks of a driver call `Hand` before each listen, also without an operator: it reads what was typed (`Typed`, by
 //! `Keys`, which never wait), answers requests for the page (`RunPage`), and waits until the next command may go out.
-//! `Progress` shows in a terminal how far a run is.
 //!
-//! Files, in reading order: `keys`, `typed`, `channel`, `seen`, `shown`, `page`, `start`, `polling`, `hand`,
-//! `progress`.
+//! Files, in reading order: `keys`, `typed`, `channel`, `seen`, `shown`, `page`, `start`, `polling`, `hand`, `progress`.
 #![tactic(auto)]
 
 mod channel;

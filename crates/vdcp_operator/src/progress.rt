@@ -10,55 +10,47 @@ use vdcp_log::write_at_once;
 use vdcp_value::ClipId;
 use vdcp_words::Command;
 
-/// If nothing changed, the line is drawn again no sooner than after this time, in milliseconds.
+// In milliseconds, if nothing changed.
 const REDRAWN_AFTER: u128 = 100;
 
-/// The columns of a line at most, so that no terminal breaks it in two.
+// No terminal breaks a line of so many columns in two.
 const MOST_COLUMNS: usize = 79;
 
-/// How long an answer may take to come, beside the silences round it, before it is said that there is none, in
-/// milliseconds.
+// In milliseconds: an answer that takes longer, beside the silences round it, is said to be missing.
 const PATIENCE: u64 = 1_000;
 
-/// Puts the cursor at the front of its line, and erases that.
 const ERASE: &'static str = "\r\x1b[K";
 
-/// A line of a terminal that shows how far a run is: the item on air, as far as answers show, and for how long; the event
-/// that is next, the command whose answer is awaited, for how long nothing was answered, if that is long, how many events
-/// are reported (with the numbers of the whole list), and the time so far. It is drawn again if something changed, and ten
-/// times a second at most if nothing did.
+/// A terminal's line: the item on air, by the answers, and for how long; the next event and the command sent; a long time
+/// without an answer; how many events of the whole list are reported; the time so far. If nothing changes it is drawn ten
+/// times a second at most.
 #[derive(Drop)]
 pub struct Progress<'a, R: Clock, V: io::Write> {
     clock: &'a R,
     patience: Duration,
-    // None once it has failed, or the clock has: nothing more is drawn.
+    // None once it or the clock has failed, or the line is cleared.
     terminal: Option<V>,
     work: Work,
     // When the first command went out that wasn't answered.
     asked: Option<Instant>,
     // How many events are reported, and since when; None if they were when the run began.
     reported: Option<(usize, Option<Instant>)>,
-    // When the first line was drawn.
     begun: Option<Instant>,
-    // What stands on the terminal, if anything does, and when it was drawn.
     drawn: Option<(Glance, Instant)>,
 }
 
-/// What is done.
 #[derive(Clone, Copy, PartialEq, Eq)]
 enum Work {
     /// The port is asked whether it is empty.
     Questions,
-    /// A controller awaits an answer.
     List {
-        /// The clip on air, if one is: that of the last event that is reported.
+        /// The clip of the last event that is reported, if it is on air.
         on_air: Option<ClipId>,
-        /// The event that is reported next, if one is left.
         event: Option<ClipId>,
         command: Command,
-        /// The first event that isn't reported, by its number in the whole list.
+        /// How many events are reported, counted from the whole list's first.
         reported: usize,
-        /// How many events the whole list has.
+        /// Of the whole list.
         events: usize,
     },
 }
@@ -67,14 +59,14 @@ enum Work {
 #[derive(Clone, Copy, PartialEq, Eq)]
 struct Glance {
     work: Work,
-    /// For how many seconds the last event has been reported, if that is known.
+    /// For how many seconds the last event has been reported.
     reported: Option<u64>,
-    /// For how many seconds nothing was answered, if that is long.
+    /// For how many seconds, if that is long.
     unanswered: Option<u64>,
 }
 
 impl<'a, R: Clock, V: io::Write + Drop> Progress<'a, R, V> {
-    /// Nothing is drawn yet. A silence has this many milliseconds.
+    /// `silence` is in milliseconds.
     pub fn new(clock: &'a R, terminal: V, silence: u32) -> Self {
         Progress {
             clock,
@@ -88,22 +80,19 @@ impl<'a, R: Clock, V: io::Write + Drop> Progress<'a, R, V> {
         }
     }
 
-    /// A command goes out.
     pub fn note_sent(&mut self) {
         if self.asked.is_none() {
             self.asked = Instant::now(self.clock).ok();
         }
     }
 
-    /// An exchange has ended: this was heard, or nothing in time.
     pub fn note_end(&mut self, heard: Option<Heard>) {
         if heard.is_some() {
             self.asked = None;
         }
     }
 
-    /// Draws the line, if it is to be drawn now. Until a controller is seen that awaits an answer, the port is asked
-    /// whether it is empty.
+    /// Draws the line, if it is time to. Until a controller awaits an answer the line says that the port is asked.
     pub fn see<S: Source>(&mut self, controller: &Controller<Rest<S>>) {
         if let Some(command) = controller.awaited() {
             let reported = controller.source().from() + controller.settled();
@@ -115,7 +104,7 @@ impl<'a, R: Clock, V: io::Write + Drop> Progress<'a, R, V> {
         }
     }
 
-    /// Erases the line. Nothing more is drawn.
+    /// Erases the line; nothing more is drawn.
     pub fn clear(&mut self) {
         let Some(mut terminal) = self.terminal.take() else {
             return;
@@ -126,7 +115,6 @@ impl<'a, R: Clock, V: io::Write + Drop> Progress<'a, R, V> {
         }
     }
 
-    // Draws what is seen now, if it is to be drawn.
     fn show(&mut self) -> io::Result<()> {
         let since = match self.reported {
             Some((_, since)) => since,
@@ -155,7 +143,6 @@ impl<'a, R: Clock, V: io::Write + Drop> Progress<'a, R, V> {
         Ok(())
     }
 
-    // Notes how many events are reported, and when that number last changed.
     fn note_reported(&mut self, reported: usize) {
         match self.reported {
             None => self.reported = Some((reported, None)),
@@ -165,7 +152,6 @@ impl<'a, R: Clock, V: io::Write + Drop> Progress<'a, R, V> {
     }
 }
 
-// How many seconds have passed since then, if that is known, and at least this long ago.
 fn seconds_since(then: Option<Instant>, now: Instant, least: Duration) -> Option<u64> {
     let passed = now.duration_since(then?);
     if passed < least {
@@ -174,7 +160,7 @@ fn seconds_since(then: Option<Instant>, now: Instant, least: Duration) -> Option
     Some(passed.as_secs())
 }
 
-// Writes the line at once, so that it doesn't flicker. What the terminal doesn't take then is never drawn.
+// The line is written at once, so that it doesn't flicker. What the terminal doesn't take then is never drawn.
 fn draw<V: io::Write>(glance: &Glance, seconds: u64, terminal: &mut V) -> io::Result<()> {
     let mut line = ArrayString::<256>::new();
     let _ = write!(line, "{ERASE}{glance}, ");
@@ -186,7 +172,6 @@ fn draw<V: io::Write>(glance: &Glance, seconds: u64, terminal: &mut V) -> io::Re
 }
 
 impl Work {
-    // Of a controller that awaits the answer to this command.
     fn of<S: Source>(controller: &Controller<Rest<S>>, command: Command, reported: usize) -> Work {
         let rest = controller.source();
         let settled = controller.settled();
@@ -208,8 +193,7 @@ impl Work {
     }
 }
 
-// Whether the clip of the last event that is reported is on air while the controller stands so: it is followed by no PLAY,
-// STOP or CLOSE.
+// Whether the last clip that is reported is on air: no PLAY, STOP or CLOSE has followed it.
 fn shows_clip(standing: Standing) -> bool {
     let (Standing::Ready(phase) | Standing::Awaiting(phase)) = standing else {
         return false;
@@ -221,8 +205,6 @@ fn shows_clip(standing: Standing) -> bool {
     }
 }
 
-// Shows what is on air and for how long, the event that is reported next, the command, for how long nothing was answered, and how many events are
-// reported.
 impl fmt::Display for Glance {
     fn fmt<W: fmt::Write>(&self, f: &mut fmt::Formatter<W>) -> fmt::Result {
         match self.work {
@@ -261,7 +243,6 @@ impl fmt::Display for Glance {
     }
 }
 
-// Writes an event's number and its clip, after a word.
 fn write_event<W: fmt::Write>(word: &str, number: usize, id: ClipId, f: &mut W) -> fmt::Result {
     let mut text = ArrayString::<18>::new();
     id.show(&mut text);
@@ -276,7 +257,6 @@ fn write_unanswered<W: fmt::Write>(seconds: Option<u64>, f: &mut W) -> fmt::Resu
     Ok(())
 }
 
-// Writes hours, minutes and seconds.
 fn write_time<W: fmt::Write>(seconds: u64, f: &mut W) -> fmt::Result {
     let hours = seconds / 3600;
     let minutes = seconds / 60 % 60;

@@ -18,91 +18,77 @@ use vdcp_value::{Item, Rate, Timecode};
 #[derive(Clone, Copy, Debug, PartialEq, Eq)]
 pub enum Record {
     Aired,
-    /// It may have aired, and isn't reported.
+    /// It isn't reported, but may have aired.
     MayHaveAired,
     /// It neither aired nor may have aired.
     LeftOut,
 }
 
-/// An event of a list before the one with which a run goes on, by its journal. Times are in milliseconds since 1970.
+/// What a journal says of an event that a run no longer plays. Its number is from 0, times in milliseconds since 1970.
 #[derive(Clone, Copy, Debug)]
 pub struct EventBefore {
-    /// Its number, from 0.
     pub number: u64,
     pub kept: Record,
     /// When it was played, if it aired.
     pub at: Option<u64>,
-    /// When its end was first seen, if it was.
+    /// When its end was first seen.
     pub until: Option<u64>,
 }
 
-/// How a clip ended.
 #[derive(Clone, Copy, Debug, PartialEq, Eq)]
 pub enum Ending {
-    /// Nothing played any more before the next command that ends a clip.
+    /// By itself, before a command that ends a clip.
     RanOut,
-    /// The next event was taken.
     Taken,
-    /// STOP was sent.
     Stopped,
 }
 
-/// An event of a list. Times are in milliseconds since 1970.
+/// An event that a page shows. Its number is from 0, times in milliseconds since 1970.
 #[derive(Clone, Copy, Debug)]
 pub struct EventSeen {
-    /// Its number, from 0.
     pub number: u64,
     pub item: Item,
-    /// What the journal says of this event, if it comes before those that a resumed run still plays.
+    /// What the journal says, if the event comes before those that a run still plays.
     pub kept: Option<Record>,
-    /// When it was seen to have gone to air, or was played by the journal.
+    /// When it was seen to go to air, or was played by the journal.
     pub at: Option<u64>,
-    /// When its end was first seen, if it was.
+    /// When its end was first seen.
     pub until: Option<u64>,
-    /// How it ended, if that was seen.
     pub ending: Option<Ending>,
 }
 
-/// How a run was begun, as its command line says it.
+/// What the command line says of a run. `server` is an address; `channel` and `journal` are empty if it names none.
 #[derive(Drop)]
 pub struct RunNames {
-    /// What its channel is called; empty if it has no name.
     pub channel: String,
-    /// The address of the port's server.
     pub server: String,
-    /// The file of the list.
     pub list: String,
-    /// The journal; empty if there is none.
     pub journal: String,
 }
 
-/// What is to be seen of a run.
+/// What a page shows of a run. Events have their numbers in the whole list; times are in milliseconds since 1970.
 #[derive(Clone, Copy)]
 pub struct RunSeen<'a> {
     pub page: &'static str,
     pub names: &'a RunNames,
     pub rate: Rate,
-    /// The clips of a catalogue, if there is one.
     pub clips: &'a Option<Table>,
-    /// All that the controller knows.
     pub snapshot: Snapshot,
-    /// Nothing more is done.
     pub is_over: bool,
-    /// How it ended, if its controller has, with the number that the event has in the list.
+    /// None if its controller hasn't ended.
     pub outcome: Option<Outcome>,
-    /// The event with which the run began, by its number in the list.
+    /// The event with which the run began.
     pub from: u64,
-    /// The first event that isn't reported, by its number in the list: a call is about it.
+    /// The first event that isn't reported: a call is about it.
     pub event: u64,
-    /// How many events the list has.
+    /// How many the list has.
     pub events: u64,
-    /// Those round that event.
+    /// Those round `event`.
     pub rows: &'a [EventSeen],
-    /// How many commands went out.
+    /// How many went out.
     pub commands: u64,
-    /// When the first event goes to air, in milliseconds since 1970, if that is waited for.
+    /// When the first event goes to air, if that is waited for.
     pub start: Option<u64>,
-    /// What the clock shows, in milliseconds since 1970.
     pub clock: u64,
 }
 
@@ -147,7 +133,6 @@ impl RunSeen<'_> {
         })
     }
 
-    // What stays, and how the line is.
     fn run(&self, alloc: Global) -> Result<Value, AllocError>
         ensures { IfOk result (λ v. view v ≡ run_data self.now) }
     {
@@ -173,7 +158,6 @@ fn outcome_of(alloc: Global, outcome: Option<Outcome>) -> Result<Value, AllocErr
     Value::try_from_str(alloc, text.as_str())
 }
 
-// What a controller does that stands so.
 fn stage_text(standing: Standing) -> &'static str
     ensures { result.now ≡ stage_text standing }
 {
@@ -280,7 +264,7 @@ fn record_text(kept: Record) -> &'static str
     }
 }
 
-// How long an item lasts by a catalogue, in milliseconds, if there is one with its clip.
+// In milliseconds; None if no catalogue has the clip.
 fn length_by(clips: &Option<Table>, item: Item) -> Option<u64>
     ensures { result ≡ length_by clips.now item }
 {

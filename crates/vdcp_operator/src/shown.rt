@@ -15,10 +15,9 @@ use vdcp_value::{Item, Rate};
 /// How many events before the one that is next are shown.
 pub const ROWS_BEFORE: usize = 20;
 
-/// How many from it on.
+// How many are shown from it on.
 const AFTER: usize = 40;
 
-/// A page that shows a run.
 #[derive(Drop)]
 pub struct RunPage {
     alloc: Global,
@@ -26,9 +25,8 @@ pub struct RunPage {
     names: RunNames,
     rate: Rate,
     clips: Option<Table>,
-    // Those before the one with which the run went on, by its journal.
     before: Vec<EventBefore>,
-    // Those round the event that is next, which that is, and how the controller stood.
+    // What the last look showed: the events round the next one, which one that was, and how the controller stood.
     rows: Vec<EventSeen>,
     event: Option<u64>,
     standing: Option<Standing>,
@@ -36,8 +34,7 @@ pub struct RunPage {
 }
 
 impl RunPage {
-    /// A page that nobody has seen yet. With the clips of a catalogue it shows how long what is on air goes on, and when
-    /// what comes goes to air.
+    /// By the `clips` of a catalogue the page says how long what is on air still lasts, and when the next events come.
     pub fn new(
         alloc: Global,
         panel: Panel,
@@ -59,15 +56,13 @@ impl RunPage {
         }
     }
 
-    /// From now on shows what a journal says of these events.
     pub fn set_before(&mut self, before: Vec<EventBefore>)
         ensures { self.new ≡ record self.old { before = before } }
     {
         self.before = before;
     }
 
-    /// Answers requests for the page by the controller as it is now. `end` is how it ended, if the run is over: None if the
-    /// controller hasn't come to an end.
+    /// Answers requests for the page. `end` is None while the run goes on, Some(None) if it is over without an outcome.
     pub fn show<R: Clock, S: Source>(
         &mut self,
         clock: &R,
@@ -100,7 +95,7 @@ impl RunPage {
         self.panel.serve_some(clock, &seen, &mut self.calls);
     }
 
-    /// The call that was asked for first, which is held no more.
+    /// Takes the oldest call.
     pub fn next_call(&mut self) -> Option<Call>
         ensures calls { self.old.calls.items ≡ option_to_list result ++ self.new.calls.items }
         ensures none { result ≡ None → self.old.calls.items ≡ [] }
@@ -112,8 +107,7 @@ impl RunPage {
         Some(self.calls.remove(0))
     }
 
-    // Shows the events round the one that is next, which it gives. Those before it that weren't seen to go to air before
-    // went now, and so is it with an end.
+    // Gives the next event. What went to air or ended since the last look is taken to have done so now.
     fn follow<S: Source>(&mut self, controller: &Controller<Rest<S>>, now: u64) -> u64
         ensures event { result ≡ event_of controller.now }
         ensures rows { AreRound (S.items controller.now.source.source) (event_of controller.now) self.new.rows.items }
@@ -150,8 +144,7 @@ impl RunPage {
     }
 }
 
-/// Which event was next at the last look and is at this one, which is now, and how what was on air has ended, if that is
-/// seen.
+// Which event was next at the last look (`since`) and is now, and how what was on air has ended, if that is seen.
 #[derive(Clone, Copy)]
 struct News {
     since: u64,
@@ -161,7 +154,6 @@ struct News {
 }
 
 impl News {
-    // The event of this number, by the older rows, or else by what the journal says.
     fn row(self, older: &[EventSeen], before: &[EventBefore], number: u64, item: Item) -> EventSeen
         ensures number { with_number result ≡ (number, item) }
         ensures kept { HasRecord before.now result }
@@ -191,7 +183,6 @@ impl News {
         }
     }
 
-    // When the event of this number went to air, if that is new.
     fn at(self, number: u64) -> Option<u64> {
         if self.since <= number && number < self.event {
             Some(self.now)
@@ -200,7 +191,6 @@ impl News {
         }
     }
 
-    // How the event of this number ended, if that is new.
     fn ending_of(self, number: u64) -> Option<Ending> {
         if number.checked_add(1) == Some(self.event) {
             self.ending
@@ -210,7 +200,6 @@ impl News {
     }
 }
 
-// What is said of the event of this number, if it is among these.
 fn before_of(before: &[EventBefore], number: u64) -> Option<EventBefore>
     ensures { result ≡ before_of before.now number }
 {
@@ -226,8 +215,7 @@ fn before_of(before: &[EventBefore], number: u64) -> Option<EventBefore>
     }
 }
 
-// How what was on air has ended, if this look shows it, by how the controller stood at the look before. If the next event
-// isn't taken its PLAY goes out once a state has shown that nothing plays.
+// If the next event isn't taken, its PLAY goes out once a state has shown that nothing plays: the clip ran out.
 fn ending_seen(before: Option<Standing>, now: &Snapshot) -> Option<Ending> {
     match (before?, now.standing) {
         (
@@ -252,7 +240,7 @@ fn ending_seen(before: Option<Standing>, now: &Snapshot) -> Option<Ending> {
     }
 }
 
-// Whether it was known what was on air: no PLAY that wasn't answered had gone out, and no STOP.
+// Whether no STOP had gone out, and no PLAY that wasn't answered.
 fn is_on_air_known(standing: Standing) -> bool {
     match standing {
         Standing::Ready(phase) => !matches!(phase, Phase::Probe(_) | Phase::HaltClose),
@@ -263,7 +251,7 @@ fn is_on_air_known(standing: Standing) -> bool {
     }
 }
 
-// How a clip ended of which this was known, and this is new: a take that a stop has overtaken is none.
+// A take that a stop has overtaken doesn't count.
 fn ending_after(known: Option<Ending>, new: Option<Ending>) -> Option<Ending> {
     match (known, new) {
         (Some(Ending::Taken), Some(Ending::Stopped)) | (None, _) => new,
@@ -271,7 +259,7 @@ fn ending_after(known: Option<Ending>, new: Option<Ending>) -> Option<Ending> {
     }
 }
 
-// The events round this one. If memory is refused fewer are shown.
+// If memory is refused, fewer events are shown.
 fn rows_round<S: Source>(
     alloc: Global,
     list: &S,
@@ -297,7 +285,6 @@ fn rows_round<S: Source>(
     rows
 }
 
-// The first event that isn't reported, by its number in the list.
 fn event_of<S: Source>(controller: &Controller<Rest<S>>) -> u64
     ensures { result ≡ event_of controller.now }
 {

@@ -12,7 +12,6 @@ use std::str::FromStr;
 use std::time::Duration;
 use thiserror::Error;
 
-/// Why a run doesn't start at a time.
 #[derive(Clone, Copy, Debug, PartialEq, Eq, Error)]
 pub enum StartFault {
     #[error("at: no time")]
@@ -24,8 +23,8 @@ pub enum StartFault {
     NoZone,
 }
 
-/// The time that a text means, since 1970: one by RFC 3339; or `HH:MM:SS`, the next time at which a clock shows that in the
-/// zone that `TZ` names, or else the system's.
+/// The time since 1970 that a text means: one of RFC 3339, or `HH:MM:SS`, the next time at which a clock shows that in
+/// the zone that `TZ` names, or else in the system's.
 pub fn start_of<R: Env + Files + Clock + AllocGlobal + Clone + Drop>(
     rt: &R,
     text: &str,
@@ -45,7 +44,6 @@ pub fn start_of<R: Env + Files + Clock + AllocGlobal + Clone + Drop>(
     }
 }
 
-// The time that a text means, if it is this time now.
 fn meant_by<R: Env + Files + AllocGlobal + Clone + Drop>(
     rt: &R,
     now: Timestamp,
@@ -68,7 +66,6 @@ fn since_1970(time: Timestamp) -> Option<Duration>
     }
 }
 
-// The next time after this one at which a clock shows this text.
 fn time_of_day<R: Env + Files + AllocGlobal + Clone + Drop>(
     rt: &R,
     now: Timestamp,
@@ -85,7 +82,6 @@ fn time_of_day<R: Env + Files + AllocGlobal + Clone + Drop>(
     }
 }
 
-// The next time after this one at which a clock shows that, in the zone that is set.
 fn next_at<R: Env + Files + AllocGlobal + Clone + Drop>(
     rt: &R,
     now: Timestamp,
@@ -103,7 +99,6 @@ fn next_at<R: Env + Files + AllocGlobal + Clone + Drop>(
     }
 }
 
-// The same in this zone: today, or else tomorrow.
 fn next_in(zone: TimeZone<'_>, now: Timestamp, time: Time) -> Result<Timestamp, StartFault>
     ensures { IfOk result (λ then. IsNextAt (plain_zone zone.entry) now time then) }
 {
@@ -117,14 +112,12 @@ fn next_in(zone: TimeZone<'_>, now: Timestamp, time: Time) -> Result<Timestamp, 
     }
 }
 
-// The date that a clock of a zone shows then.
 fn date_in(zone: TimeZone<'_>, now: Timestamp) -> Date
     ensures { IsDateAt (plain_zone zone.entry) now result }
 {
     zone.to_datetime(now).date()
 }
 
-// The first of these two that is later than now.
 fn first_after(
     now: Timestamp,
     on_today: Option<Timestamp>,
@@ -147,7 +140,6 @@ fn if_after(now: Timestamp, then: Option<Timestamp>) -> Option<Timestamp>
     }
 }
 
-// When a clock of a zone shows this time on that day, if there is such an instant.
 fn on_day(day: Date, time: Time, zone: TimeZone<'_>) -> Option<Timestamp>
     ensures { IsOnDay day time (plain_zone zone.entry) result }
 {

@@ -8,18 +8,15 @@ use arrayvec::ArrayVec;
 use std::io::{self, Read};
 use vdcp_drive::Call;
 
-/// Most bytes of a line that are held; a longer one says nothing.
+// A longer line is no call.
 const MOST_BYTES: usize = 64;
 
-/// What a line says.
 #[derive(Clone, Copy, Debug, PartialEq, Eq)]
 pub enum Said {
     Call(Call),
-    /// No call.
     Other,
 }
 
-/// What comes of one byte.
 #[derive(Clone, Copy)]
 enum Got {
     Line(Said),
@@ -33,12 +30,10 @@ enum Got {
 pub struct Typed<I> {
     // None once it has ended.
     reader: Option<I>,
-    // How the line begins that isn't whole yet.
     line: ArrayVec<u8, MOST_BYTES>,
 }
 
 impl<I: Read + Drop> Typed<I> {
-    /// No line yet.
     pub fn new(reader: I) -> Self {
         Typed {
             reader: Some(reader),
@@ -46,8 +41,8 @@ impl<I: Read + Drop> Typed<I> {
         }
     }
 
-    /// What the next line says, if it has come whole; the end of the input ends the last one. It reads 64 bytes at most, and
-    /// what doesn't wait.
+    /// What the next line says, if it is whole; the input's end ends the last one. It reads 64 bytes at most, and only
+    /// what has come.
     #[tactic(auto, using(crate::proofs::Typing::says_more, crate::proofs::Typing::says_nothing))]
     pub fn next(&mut self) -> Option<Said>
         ensures { SaysOn self.old.line.items (left I.remaining self.old.reader) (option_to_list result)
@@ -63,7 +58,6 @@ impl<I: Read + Drop> Typed<I> {
         None
     }
 
-    // Reads a byte, if one has come.
     #[tactic(auto, using(crate::proofs::Typing::read_part))]
     fn read_byte(&mut self) -> Got
         ensures { SaysOn self.old.line.items (left I.remaining self.old.reader) (said_by result)
@@ -79,12 +73,11 @@ impl<I: Read + Drop> Typed<I> {
                 self.hold(byte);
                 Got::Part
             }
-            // (nothing waits there)
+            // (none has come yet)
             Err(_) => Got::Nothing,
         }
     }
 
-    // Holds one more byte of a line, if there is room.
     fn hold(&mut self, byte: u8)
         ensures short { length self.old.line.items < 64 → self.new.line.items ≡ self.old.line.items ++ byte ∷ [] }
         ensures full { 64 ≤ length self.old.line.items → self.new.line.items ≡ self.old.line.items }
@@ -93,7 +86,6 @@ impl<I: Read + Drop> Typed<I> {
         let _ = self.line.try_push(byte);
     }
 
-    // The line that has come.
     fn take_line(&mut self) -> Said
         ensures said { result ≡ said_in self.old.line.items }
         ensures line { self.new.line.items ≡ [] }
@@ -104,7 +96,6 @@ impl<I: Read + Drop> Typed<I> {
         said
     }
 
-    // Nothing more comes.
     fn end(&mut self) -> Got
         ensures said { said_by result ≡ said_from self.old.line.items [] }
         ensures line { self.new.line.items ≡ [] }
@@ -118,7 +109,6 @@ impl<I: Read + Drop> Typed<I> {
     }
 }
 
-// The next byte of a reader; None at its end.
 fn next_byte<I: Read>(reader: &mut I) -> io::Result<Option<u8>>
     ensures byte { IfOk result (λ byte. Consumes (I.remaining reader.old) (I.remaining reader.new) (option_to_list byte)) }
     ensures end { IfOk result (λ byte. byte ≡ None → IsAtEnd (I.remaining reader.new)) }
@@ -131,7 +121,6 @@ fn next_byte<I: Read>(reader: &mut I) -> io::Result<Option<u8>>
     }
 }
 
-// What this line says.
 fn said_in(line: &[u8]) -> Said
     ensures { result ≡ said_in line.now }
 {
