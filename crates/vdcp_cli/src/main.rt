@@ -1,10 +1,8 @@
-//! The program `vdcp`: it shows, makes and tests messages of the Video Disk Communications Protocol, checks
-//! playlists, and plays them: over a line that is run from a script, and over TCP, of which it can be either end,
-//! and also what damages it between them.
+//! The program `vdcp`: it shows, makes and tests messages of the Video Disk Communications Protocol, checks playlists,
+//! and plays them, by a script or over TCP; there it can be either end, and also what damages the line between them.
 //!
-//! Files, in reading order: `main` (which subcommand, and the exit status), `run`, `told`, `start`. The words of the command line and
-//! the other subcommands are those of `vdcp_options`. `args` and `stdout`, beside `src/`, are the words of one run and
-//! what it prints.
+//! Files, in reading order: `main`, `run`, `told`, `start`. The words of the command line are in `vdcp_line`, the other
+//! subcommands in `vdcp_options`. `args` and `stdout`, beside `src/`, are the words of one run and what it prints.
 #![tactic(auto)]
 
 mod run;
@@ -31,10 +29,9 @@ fn main(rt: HostRuntime) -> ExitCode {
     ExitCode::from(status)
 }
 
-// Reads the arguments of the command line and runs what they ask for.
 fn run_words(rt: &HostRuntime) -> Result<u8, Failure<'static>> {
-    // If a standard stream is closed, the next file or connection would get its descriptor, and with it what
-    // is printed. So these three take the descriptors first.
+    // If a standard stream is closed, the next file or connection would get its descriptor, and with it what is
+    // printed. So these three take the descriptors first.
     let _input = open_nothing(rt)?;
     let _output = open_nothing(rt)?;
     let _error = open_nothing(rt)?;
@@ -56,12 +53,11 @@ fn run_words(rt: &HostRuntime) -> Result<u8, Failure<'static>> {
         Some((name, matches)) => run_subcommand(rt, name, matches, &mut out),
         None => 2,
     };
-    // Nothing more is written: dropped, the buffer would try again what a failed write has left in it.
+    // (dropped, the buffer would write again what a failed write has left in it)
     out.into_parts();
     Ok(status)
 }
 
-// Opens /dev/null to occupy a descriptor.
 fn open_nothing(rt: &HostRuntime) -> Result<File, Failure<'static>> {
     match File::open(rt, "/dev/null") {
         Ok(file) => Ok(file),
@@ -70,7 +66,6 @@ fn open_nothing(rt: &HostRuntime) -> Result<File, Failure<'static>> {
     }
 }
 
-// Runs the subcommand of this name, and gives the exit status.
 fn run_subcommand<'a, W: Write>(
     rt: &'a HostRuntime,
     name: &str,
@@ -88,7 +83,6 @@ fn run_subcommand<'a, W: Write>(
     status
 }
 
-// The exit status; a failure is told.
 fn status_of<E: Write>(done: Result<u8, Failure<'_>>, err: &mut E) -> u8 {
     match done {
         Ok(status) => status,
@@ -96,7 +90,6 @@ fn status_of<E: Write>(done: Result<u8, Failure<'_>>, err: &mut E) -> u8 {
     }
 }
 
-// Whether rows of a journal may be refused.
 fn reads_journal(name: &str, matches: &ArgMatches<'_>) -> bool {
     match name {
         "asrun" => true,
@@ -105,7 +98,6 @@ fn reads_journal(name: &str, matches: &ArgMatches<'_>) -> bool {
     }
 }
 
-// Tells why an address or a file was refused, and on a terminal what the last fault line means.
 fn explain<E: Write>(system: &System<'_>, of_journal: bool, err: &mut Told<E>) {
     let sentence = err.sentence(of_journal);
     if err.is_refusal() {
@@ -116,7 +108,7 @@ fn explain<E: Write>(system: &System<'_>, of_journal: bool, err: &mut Told<E>) {
     }
 }
 
-// Prints what `clap` says of the arguments: help, the version, or why it refuses them.
+// Help, the version, or why `clap` refuses the arguments.
 fn shown(rt: &HostRuntime, error: &clap::Error) -> Result<u8, Failure<'static>> {
     if error.kind() == ErrorKind::OutOfMemory {
         return Err(Failure::Memory);

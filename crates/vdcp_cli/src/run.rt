@@ -19,7 +19,7 @@ use vdcp_run::{RunJournal, RunSettings, Showing, do_run};
 use vdcp_text::Failure;
 use vdcp_value::Rate;
 
-/// Runs it, and gives the exit status; a failure isn't told yet.
+/// Gives the exit status; a failure isn't told yet.
 pub fn run_run<'a, W: Write, E: Write>(
     system: &'a System<'_>,
     matches: &'a ArgMatches<'_>,
@@ -74,7 +74,6 @@ pub fn run_run<'a, W: Write, E: Write>(
     Ok(status)
 }
 
-// The clips of the catalogue, if one is named.
 fn clips_of<'a>(
     system: &System<'_>,
     matches: &'a ArgMatches<'_>,
@@ -89,7 +88,7 @@ fn clips_of<'a>(
     }
 }
 
-// The operator's hand in a run; or the status, if its page or its start is refused.
+// The error is the exit status, if the page or the start is refused.
 fn hand_of<'a, E: Write>(
     system: &'a System<'_>,
     matches: &ArgMatches<'_>,
@@ -121,7 +120,6 @@ fn hand_of<'a, E: Write>(
     Ok(Hand::new(system, keys, told, page, start, least_poll_of(matches)))
 }
 
-// Tests that the channel's name, if it is given one, can be that; or the status.
 fn test_name<E: Write>(matches: &ArgMatches<'_>, err: &mut E) -> Result<(), u8> {
     match matches.get_str("name") {
         Some(name) if !is_channel_name(name) => match writeln!(err, "vdcp: name") {
@@ -132,7 +130,6 @@ fn test_name<E: Write>(matches: &ArgMatches<'_>, err: &mut E) -> Result<(), u8> 
     }
 }
 
-// How the run was begun, for its page.
 fn names_of(
     alloc: Global,
     matches: &ArgMatches<'_>,
@@ -150,7 +147,6 @@ fn names_of(
     })
 }
 
-// The time at which the first event goes to air.
 fn start_time<E: Write>(system: &System<'_>, text: &str, err: &mut E) -> Result<Duration, u8> {
     match start_of(system.rt, text) {
         Ok(start) => {
@@ -166,7 +162,6 @@ fn start_time<E: Write>(system: &System<'_>, text: &str, err: &mut E) -> Result<
     }
 }
 
-// The journal that is named; that to go on from goes first.
 fn journal_of<'a>(matches: &'a ArgMatches<'_>) -> Option<RunJournal<'a>> {
     match (matches.get_str("resume"), matches.get_str("journal")) {
         (Some(name), _) if opens_again(matches) => Some(RunJournal::Again(name)),
@@ -176,12 +171,11 @@ fn journal_of<'a>(matches: &'a ArgMatches<'_>) -> Option<RunJournal<'a>> {
     }
 }
 
-// Whether a journal that is gone on with is opened again: also if an event to begin with is named.
+// A run that begins with a named event opens the port again.
 fn opens_again(matches: &ArgMatches) -> bool {
     matches.get_flag("open-again") || matches.get_str("from").is_some()
 }
 
-// What the options say of a list that is played.
 fn run_settings_of<'a>(matches: &'a ArgMatches<'_>) -> RunSettings<'a>
     ensures unit { result.unit ≤ 15 }
     ensures some { 1 ≤ result.limit }
@@ -205,8 +199,7 @@ fn run_settings_of<'a>(matches: &'a ArgMatches<'_>) -> RunSettings<'a>
     }
 }
 
-// After how many unanswered exchanges in a row the controller gives up, by the specification. On a line that keeps order
-// the system sends what was lost again, and once more, before that.
+// The specification says 3. On a line that keeps order 10 leave time for the system to send what was lost twice again.
 fn run_limit_of(matches: &ArgMatches) -> u32
     ensures least { 1 ≤ result }
     ensures most { result ≤ 1000 }
@@ -217,7 +210,6 @@ fn run_limit_of(matches: &ArgMatches) -> u32
     if matches.get_flag("prompt") { 10 } else { 3 }
 }
 
-// When answers are heard.
 fn hearing_of(matches: &ArgMatches) -> Hearing {
     if matches.get_flag("prompt") {
         Hearing::AtOnce
@@ -226,7 +218,7 @@ fn hearing_of(matches: &ArgMatches) -> Hearing {
     }
 }
 
-// How many milliseconds pass from one STATUS to the next at least. What hears at silences waits for these.
+// In milliseconds. A run that hears at silences waits for these anyway.
 fn least_poll_of(matches: &ArgMatches) -> u32 {
     if matches.get_flag("prompt") {
         poll_of(matches)

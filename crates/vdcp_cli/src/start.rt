@@ -7,7 +7,7 @@ use std::rt::Clock;
 use std::time::Duration;
 use vdcp_line::System;
 
-/// Tells when the first event goes to air, a time since 1970, by the zone's clock, and in how long.
+/// Tells by the zone's clock when the first event goes to air, and in how long. `start` is since 1970.
 pub fn tell_start<E: Write>(system: &System<'_>, start: Duration, err: &mut E) {
     let Ok(now) = system.since_1970() else {
         return;
@@ -25,7 +25,6 @@ pub fn tell_start<E: Write>(system: &System<'_>, start: Duration, err: &mut E) {
     );
 }
 
-// What a day is called on this day, if it has a name.
 fn day_of(day: Date, today: Date) -> &'static str {
     if day == today {
         return "today, ";
@@ -36,7 +35,6 @@ fn day_of(day: Date, today: Date) -> &'static str {
     }
 }
 
-// A time since 1970, to the second, as the clock of this zone shows it.
 fn shown_here(system: &System<'_>, time: Duration) -> Option<DateTime> {
     let Ok(seconds) = i64::try_from(time.as_secs()) else {
         return None;

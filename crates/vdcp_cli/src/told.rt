@@ -1,17 +1,16 @@
 //! What a fault line means, in a sentence for whoever reads it on a terminal.
 use std::io::{self, Write};
 
-/// How many bytes of a line's end are kept.
+// So many bytes of a line's end are kept: more than any of `SENTENCES` needs.
 const KEPT: usize = 32;
 
-/// A writer of fault lines, and how the last of them ends; below it may stand indented lines that say more of it.
+/// A writer that keeps how the last fault line ended. Indented lines below it say more of it, and don't count.
 #[derive(Drop)]
 pub struct Told<E> {
     err: E,
     end: [u8; KEPT],
     // The next byte begins another line.
     is_whole: bool,
-    // The line that has begun is an indented one.
     is_indented: bool,
 }
 
@@ -41,14 +40,14 @@ impl<E: Write> Told<E> {
         }
     }
 
-    /// Whether the last fault line says that the system refused a file or an address.
+    /// By the last fault line the system refused a file or an address.
     pub fn is_refusal(&self) -> bool {
         self.ends_with(": cannot open")
             || self.ends_with(": cannot bind")
             || self.ends_with(": cannot connect")
     }
 
-    /// What the last fault line means, if that isn't plain. A row that may be a journal's isn't taken for one of a list.
+    /// What the last fault line means, if that isn't plain. `of_journal`: its row counts as a journal's, not as a list's.
     pub fn sentence(&self, of_journal: bool) -> Option<&'static str> {
         for k in 0..SENTENCES.len() {
             let (scope, words, sentence) = SENTENCES[k];
@@ -64,13 +63,11 @@ impl<E: Write> Told<E> {
     }
 }
 
-/// Where a fault's words have their meaning.
 #[derive(Clone, Copy)]
 enum Scope {
     Anywhere,
     /// In lists and catalogues.
     Lists,
-    /// In journals that a run or an as-run list is made from.
     Journals,
 }
 
@@ -84,7 +81,7 @@ impl Scope {
     }
 }
 
-// Sentences for lines that end so, of which the first counts.
+// How lines end, and what that means; the first that fits counts.
 static SENTENCES: [(Scope, &'static str, &'static str); 15] = [
     (
         Scope::Lists,

@@ -14,7 +14,7 @@ use vdcp_offline::{JudgeSettings, SimSettings};
 use vdcp_probe::{AskSettings, Only, ProbeSettings};
 use vdcp_serve::ServeSettings;
 
-/// The mode that `--confirm` asks for, or plain.
+/// By `--confirm`.
 pub fn mode_of(matches: &ArgMatches) -> Mode {
     if matches.get_flag("confirm") {
         Mode::Confirming
@@ -23,7 +23,6 @@ pub fn mode_of(matches: &ArgMatches) -> Mode {
     }
 }
 
-/// What the options say of a channel, and of what is printed of it.
 pub fn sim_settings_of(matches: &ArgMatches) -> SimSettings
     ensures unit { result.unit ≤ 15 }
     ensures some { 1 ≤ result.limit }
@@ -42,7 +41,6 @@ pub fn sim_settings_of(matches: &ArgMatches) -> SimSettings
     }
 }
 
-/// What the options say of a channel that is served.
 pub fn serve_settings_of(matches: &ArgMatches) -> ServeSettings
     ensures unit { result.unit ≤ 15 }
     ensures some_frames { 1 ≤ result.cue_frames }
@@ -64,7 +62,6 @@ pub fn serve_settings_of(matches: &ArgMatches) -> ServeSettings
     }
 }
 
-/// What the options say of an as-run list that a journal shows.
 pub fn asrun_settings_of(matches: &ArgMatches) -> AsrunSettings {
     AsrunSettings {
         rate: rate_of(matches),
@@ -72,7 +69,6 @@ pub fn asrun_settings_of(matches: &ArgMatches) -> AsrunSettings {
     }
 }
 
-// Of 100 bursts, how many are lost, copied, cut, damaged or forged.
 fn chances_of(matches: &ArgMatches) -> Chances
     ensures lose { result.lose ≤ 100 }
     ensures copy { result.copy ≤ 100 }
@@ -89,7 +85,6 @@ fn chances_of(matches: &ArgMatches) -> Chances
     }
 }
 
-/// What the options say of a line that loses bursts.
 pub fn lossy_settings_of(matches: &ArgMatches) -> LossySettings
     ensures lose { result.chances.lose ≤ 100 }
     ensures copy { result.chances.copy ≤ 100 }
@@ -110,7 +105,6 @@ pub fn lossy_settings_of(matches: &ArgMatches) -> LossySettings
     }
 }
 
-/// What the options say of a capture.
 pub fn judge_settings_of(matches: &ArgMatches) -> JudgeSettings {
     JudgeSettings {
         unit: unit_of(matches),
@@ -119,7 +113,6 @@ pub fn judge_settings_of(matches: &ArgMatches) -> JudgeSettings {
     }
 }
 
-/// What the options say of a server that is probed.
 pub fn probe_settings_of(matches: &ArgMatches) -> ProbeSettings
     ensures unit { result.unit ≤ 15 }
     ensures some_silence { 1 ≤ result.silence }
@@ -135,7 +128,6 @@ pub fn probe_settings_of(matches: &ArgMatches) -> ProbeSettings
     }
 }
 
-/// What the options say of a server that is asked for clips.
 pub fn ask_settings_of(matches: &ArgMatches) -> AskSettings
     ensures unit { result.unit ≤ 15 }
     ensures some_silence { 1 ≤ result.silence }
@@ -148,7 +140,7 @@ pub fn ask_settings_of(matches: &ArgMatches) -> AskSettings
     }
 }
 
-// Which rows are put; `clap` lets no other word through.
+// (`clap` lets no other word through)
 fn only_of(matches: &ArgMatches) -> Only {
     match matches.get_str("only") {
         Some("safe") => Only::Safe,

@@ -20,8 +20,7 @@ use vdcp_probe::{do_ask, do_probe};
 use vdcp_serve::do_serve;
 use vdcp_text::{Failure, JournalFault, do_make, do_show};
 
-/// Runs the subcommand of this name, which isn't `run`, and gives its exit status. What is printed goes to `out` and to
-/// `err`; a failure isn't told yet.
+/// Runs a subcommand that isn't `run`, and gives its exit status; a failure isn't told yet.
 pub fn run_named<'a, W: Write, E: Write>(
     system: &System<'_>,
     name: &str,
@@ -151,7 +150,7 @@ fn run_asrun<'a, W: Write, E: Write>(
     Ok(do_asrun_by_cues(system.alloc(), journal, cues.take(size), settings, out, err))
 }
 
-// How many bytes a regular file has now, if it says so. A run may append to it while it is read.
+// A run may append to the file while it is read.
 fn regular_size(file: &File) -> Option<u64> {
     match file.metadata() {
         Ok(found) if found.is_file() && found.len() > 0 => Some(found.len()),
@@ -159,7 +158,7 @@ fn regular_size(file: &File) -> Option<u64> {
     }
 }
 
-// Whether both are one file: another one may have got the name meanwhile.
+// Another file may have got the name meanwhile.
 fn is_one_file(file: &File, other: &File) -> bool {
     match (file.metadata(), other.metadata()) {
         (Ok(file), Ok(other)) => file.dev() == other.dev() && file.ino() == other.ino(),
