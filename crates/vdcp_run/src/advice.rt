@@ -12,7 +12,6 @@ use vdcp_auto::{Outcome, Phase};
 use vdcp_text::{Failure, ItemText, NameText};
 use vdcp_value::{ClipId, Item, Rate};
 
-/// What an outcome means, and what to type next.
 #[derive(Clone, Copy)]
 pub struct Advice<'a> {
     pub reason: Option<Reason>,
@@ -22,7 +21,7 @@ pub struct Advice<'a> {
 /// What was seen of a run, beside how it ended.
 #[derive(Clone, Copy)]
 pub struct Seen {
-    /// The clip that the server doesn't have, if the run ended by that.
+    /// The clip that the server doesn't have, if that ended the run.
     pub missing: Option<ClipId>,
     /// What the last command was for.
     pub last: Option<Phase>,
@@ -31,7 +30,6 @@ pub struct Seen {
 }
 
 impl Seen {
-    /// Nothing yet.
     pub fn new() -> Seen
         ensures { result ≡ record { missing = None; last = None; came = false } }
     {
@@ -43,12 +41,11 @@ impl Seen {
     }
 }
 
-/// What an outcome means. Events have their numbers in the whole list.
+/// Events have their numbers in the whole list.
 #[derive(Clone, Copy)]
 pub enum Reason {
-    /// The server doesn't have this clip of this event.
     Missing(usize, ClipId),
-    /// No PLAY went out for this event, since the server refused a command before, or lost the cue again and again.
+    /// No PLAY went out for this event: the server refused a command before, or lost the cue again and again.
     RefusedCue(usize),
     /// NAK 01h came for a command of this event.
     Refused(usize),
@@ -62,23 +59,22 @@ pub enum Reason {
     Lost,
 }
 
-/// What to type next.
 #[derive(Clone, Copy)]
 pub enum Next<'a> {
-    /// To go on with the journal of this name.
+    /// Go on with this journal.
     Resume(&'a str),
-    /// To go on after its last run, with the port opened again.
+    /// Go on after this journal's last run, and open the port again.
     OpenAgain(&'a str),
-    /// Likewise once the server has the clip of this event, or without the event.
+    /// The same once the server has the clip of this event, or without the event.
     LoadedAgain(&'a str, usize),
-    /// To look whether this event aired, and to begin with it, or with the next one.
+    /// Look whether this event aired: if not, begin with it, else with the next one.
     From(usize),
-    /// To begin with this event once the server has its clip, or with the next one.
+    /// Begin with this event once the server has its clip, or with the next one.
     Loaded(usize),
 }
 
 impl<'a> Advice<'a> {
-    /// After a run that ended so, and had this journal, if it had one, and of which this was seen.
+    /// None if the run ended as it was to.
     pub fn of_end(
         end: &RunEnd<'_>,
         journal: Option<RunJournal<'a>>,
@@ -98,7 +94,7 @@ impl<'a> Advice<'a> {
         }
     }
 
-    /// After a run that came to nothing, for this reason.
+    /// After a run that came to nothing.
     pub fn of_failure(failure: Failure<'_>) -> Option<Advice<'a>>
         ensures may_have_aired { (event : ℕ) → failure.entry ≡ Failure.MayHaveAired event
             → result ≡ Some (record { reason = None; next = next.From event }) }
@@ -114,7 +110,6 @@ impl<'a> Advice<'a> {
 }
 
 impl<'a> Next<'a> {
-    // After this outcome, if it wasn't wanted, of a run with this journal, whose first event that isn't reported is this.
     fn after(
         outcome: Option<Outcome>,
         journal: Option<RunJournal<'a>>,
@@ -136,7 +131,6 @@ impl<'a> Next<'a> {
 }
 
 impl Reason {
-    // What this outcome means of a run of which this was seen.
     fn of(outcome: Option<Outcome>, seen: Seen) -> Option<Reason>
         ensures { result ≡ reason_of outcome seen }
     {
@@ -155,7 +149,7 @@ impl Reason {
     }
 }
 
-// Whether the last command stood before the PLAY of its event, if that is known. (After the PLAY none of these comes.)
+// After the PLAY of an event none of these comes for it.
 fn is_before_play(last: Option<Phase>) -> bool
     ensures { result ≡ is_before_play last }
 {

@@ -17,7 +17,6 @@ use vdcp_list::Rest;
 use vdcp_wire::Wire;
 use vdcp_words::{Command, Reply};
 
-/// What a port is asked for.
 #[derive(Clone, Copy, PartialEq, Eq)]
 pub enum Purpose {
     /// Whether something is cued or plays there. The operator's stop ends the asking.
@@ -26,12 +25,12 @@ pub enum Purpose {
     ClipEnd,
 }
 
-/// What was asked has left this.
+/// What is left once the port was asked.
 #[derive(Drop)]
 pub struct Asked<E, W, C> {
     /// How the line ends, if the list isn't begun.
     pub line: Option<LineEnd>,
-    /// What it has heard of a message that isn't whole.
+    /// It may have heard a part of a message.
     pub ear: E,
     pub wire: W,
     pub console: C,
@@ -39,8 +38,7 @@ pub struct Asked<E, W, C> {
     pub left: u32,
 }
 
-/// Takes part in the run of an automation that asks: only questions go out, and none once the answer is there, or the
-/// operator has called it off.
+/// The hooks of an automation that asks: only questions go out, and none once they are answered or called off.
 #[derive(Drop)]
 struct Inquiry<'c, 'r, 'l, S: Source, R: Clock, I: io::Read, O: io::Write, V: io::Write> {
     purpose: Purpose,
@@ -49,11 +47,9 @@ struct Inquiry<'c, 'r, 'l, S: Source, R: Clock, I: io::Read, O: io::Write, V: io
     console: Console<'r, 'l, R, I, O, V>,
     // The state byte that was heard last.
     state: Option<u8>,
-    // How many turns may still be made.
     left: u32,
 }
 
-/// What an automation came to that asked.
 #[derive(Drop)]
 struct Answer<E, W> {
     ran: Result<Ran, BrokenOff>,
@@ -70,9 +66,8 @@ impl<
     O: io::Write + Drop,
     V: io::Write + Drop,
 > Console<'r, 'l, R, I, O, V> {
-    /// Asks with this ear and over this wire what has to be asked before the next command of a run. If that is OPEN, and the port is to be asked,
-    /// this is whether the port is empty; if a PLAY may have been lost, and would be sent again at once, when the clip before
-    /// ends. An automation of its own asks, of which only OPEN, SELECT and STATUS go out. What the operator calls is held.
+    /// If OPEN is next and the settings want it, asks whether the port is empty; before a PLAY that may have been lost is
+    /// sent again, asks when the clip before ends. Only OPEN, SELECT and STATUS go out; the operator's calls are held.
     pub fn ask_first<S: Source + Copy, E: Ear + Drop, W: Wire + Drop>(
         self,
         controller: &Controller<Rest<S>>,
@@ -113,7 +108,6 @@ impl<
     }
 }
 
-// The automation that asks before the next command of this controller, and for what, if anything is to be asked.
 fn asker_of<S: Source + Copy>(
     controller: &Controller<Rest<S>>,
     ask: bool,
@@ -143,7 +137,6 @@ fn asker_of<S: Source + Copy>(
     Some((Purpose::Vacancy, asker))
 }
 
-// Whether the next command is OPEN.
 fn opens_next<S: Source>(controller: &Controller<S>) -> bool
     ensures { result ≡ is_opening (turns.given (plan_of S.items controller.now) controller.now.state) }
 {
@@ -160,7 +153,6 @@ impl<
     O: io::Write + Drop,
     V: io::Write + Drop,
 > Inquiry<'c, 'r, 'l, S, R, I, O, V> {
-    // Has this automation ask.
     fn ask<E: Ear + Drop, W: Wire + Drop>(
         &mut self,
         asker: Controller<Rest<S>>,
@@ -189,7 +181,6 @@ impl<
         run_by(driver, settings.listens, self)
     }
 
-    // Whether the automation goes on to this command, if it gives one.
     fn may_ask(&self, command: Option<Command>) -> bool
         ensures { result ≡ may_ask (record {
           purpose = self.now.purpose;
@@ -204,7 +195,6 @@ impl<
         is_question(command) && !self.is_answered() && !self.is_called_off()
     }
 
-    // The answer is there.
     fn is_answered(&self) -> bool
         ensures { result ≡ is_answered self.now.purpose self.now.state }
     {
@@ -214,7 +204,6 @@ impl<
         }
     }
 
-    // The operator has called it off.
     fn is_called_off(&self) -> bool
         ensures { result ≡ is_called_off self.now.purpose self.now.console.hand.held }
     {
@@ -224,7 +213,7 @@ impl<
         }
     }
 
-    // Asks the operator before a question goes out. While a clip is awaited, that waits until the state may be asked again.
+    // While the end of a clip is awaited, this waits until the state may be asked again.
     fn heed(&mut self)
         ensures purpose { self.new.purpose ≡ self.old.purpose }
         ensures state { self.new.state ≡ self.old.state }
@@ -238,7 +227,6 @@ impl<
         }
     }
 
-    // How the line ends, if the list isn't begun, by what the automation came to.
     fn line_of(&self, ran: Result<Ran, BrokenOff>, outcome: Option<Outcome>) -> Option<LineEnd>
         ensures { result ≡ line_of (record {
           purpose = self.now.purpose;
@@ -259,7 +247,6 @@ impl<
         }
     }
 
-    // How the line ends of an asking that was left.
     fn left_line(&self) -> Option<LineEnd>
         ensures { result ≡ left_line (record {
           purpose = self.now.purpose;
@@ -279,7 +266,7 @@ impl<
     }
 }
 
-// How the line ends of an asking that ran to its end. (One that was denied is denied again.)
+// (a port that is denied to the questions is denied to the list as well)
 fn ran_line(ran: Ran, outcome: Option<Outcome>) -> Option<LineEnd>
     ensures { result ≡ ran_line ran outcome }
 {
@@ -292,7 +279,6 @@ fn ran_line(ran: Ran, outcome: Option<Outcome>) -> Option<LineEnd>
     }
 }
 
-// Whether a command asks, and neither cues nor plays.
 fn is_question(command: Command) -> bool
     ensures { result ≡ is_question command }
 {
@@ -302,7 +288,6 @@ fn is_question(command: Command) -> bool
     )
 }
 
-// Runs an automation, and says what it came to.
 fn run_by<S: Source + Drop, E: Ear + Drop, W: Wire + Drop, H: Hooks<S>>(
     mut driver: Driver<S, E, W>,
     turns: u32,

@@ -1,4 +1,4 @@
-//! The numbers of events in the whole list, if a controller plays the rest of it from an event on.
+//! Numbers of events in the whole list, of which a controller plays the rest from an event on.
 ghost use Rattle.std.specs.Prelude.{◌≡◌, ◌+◌};
 ghost use Rattle.vdcp_run.specs.Ends.{event_in_list, outcome_in_list};
 
@@ -12,7 +12,6 @@ pub fn reported_in_list<S: Source>(controller: &Controller<Rest<S>>) -> usize
     controller.source().from() + controller.settled()
 }
 
-/// How a controller ended that began with this event, if it has ended.
 pub fn outcome_in_list(from: usize, outcome: Option<Outcome>) -> Option<Outcome>
     ensures { result ≡ outcome_in_list from outcome }
 {
@@ -25,7 +24,6 @@ pub fn outcome_in_list(from: usize, outcome: Option<Outcome>) -> Option<Outcome>
     }
 }
 
-// The event that is this many after the one that the controller began with.
 fn event_in_list(from: usize, k: usize) -> usize
     ensures { result ≡ event_in_list from k }
 {

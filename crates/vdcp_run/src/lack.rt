@@ -7,7 +7,6 @@ use std::fmt;
 use vdcp_journal_file::RecordFault;
 use vdcp_text::{Failure, NameText};
 
-/// Why a journal isn't whole: its name, and what befell it.
 #[derive(Clone, Copy)]
 pub struct Lack<'a> {
     pub journal: &'a str,
@@ -30,7 +29,7 @@ impl fmt::Display for Lack<'_> {
     }
 }
 
-/// The journal that a run goes on from: that which it had, unless that isn't where it was.
+/// The journal to go on from: None if it isn't under its name any more.
 pub fn journal_left<'a>(
     lack: Option<Lack<'_>>,
     journal: Option<RunJournal<'a>>,

@@ -11,8 +11,8 @@ ghost use Rattle.vdcp_run.specs.Asking.{Inquiring, asking, is_question};
 
 use vdcp_drive::{Ear, Wire};
 
-/// Of an automation that asks nothing goes out but OPEN, SELECT and STATUS: each command that it gives is one of these. (What
-/// goes out is a beginning of these: `vdcp_drive::laws::what_goes_out_is_kept`.)
+/// An automation that asks gives no command but OPEN, SELECT and STATUS. (What goes out is a beginning of what it gives:
+/// `vdcp_drive::laws::what_goes_out_is_kept`.)
 pub fn only_questions_are_asked<E: Ear, W: Wire>()
     ensures { (plan : Plan) (unit count : ℕ) (a a' : Auto E) (old new : World W Inquiring) (answer : Result Ran BrokenOff) →
         (h : HasRun (asking W.does plan) E.fold plan unit count a a' old new answer) →

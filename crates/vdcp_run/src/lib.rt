@@ -1,7 +1,4 @@
-//! The subcommand `run`: the automation's end of a playout channel over TCP.
-//!
-//! `do_run` connects to an address and plays a list through the port of the server there. Each fault has a line on
-//! standard error, and the exit status is given.
+//! The subcommand `run` (`do_run`): the automation's end of a playout channel over TCP.
 //!
 //! Files, in reading order: `settings`, `run`, `begin`, `connecting`, `session`, `playing`, `console`, `stalling`, `asking`,
 //! `lack`, `run_end`, `advice`, `asrun`, `saved`, `place`, `in_list`, `before`, `laws`.

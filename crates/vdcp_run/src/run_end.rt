@@ -16,29 +16,26 @@ use vdcp_drive::{BrokenOff, Ran};
 use vdcp_list::Rest;
 use vdcp_text::{Failure, OutcomeText};
 
-/// How the line ended.
+/// How the line ended. After the last three the list wasn't begun.
 #[derive(Clone, Copy, PartialEq, Eq)]
 pub enum LineEnd {
-    /// The controller has ended, and needs it no more.
+    /// The controller has ended.
     Unneeded,
-    /// The other end closed it.
     Closed,
     /// All turns were made.
     Spent,
-    /// It failed.
     Failed,
-    /// The next command couldn't be kept, and wasn't sent.
+    /// The next command couldn't be kept in the journal, and wasn't sent.
     Unkept,
-    /// The port has something cued or plays something, and the list wasn't begun.
+    /// Something is cued at the port, or plays there.
     Occupied,
-    /// The port didn't answer what it was asked, and the list wasn't begun.
+    /// The port didn't answer what it was asked.
     Unanswered,
-    /// The operator stopped while the port was asked, and the list wasn't begun.
+    /// The operator stopped while the port was asked.
     Stopped,
 }
 
 impl LineEnd {
-    /// By what the driver's run answered.
     pub fn of_run(ran: Result<Ran, BrokenOff>) -> LineEnd
         ensures { result ≡ line_end_of ran }
     {
@@ -52,7 +49,6 @@ impl LineEnd {
         }
     }
 
-    // The failure to report of the line itself.
     fn failure(self) -> Option<Failure<'static>>
         ensures { result ≡ line_failure self }
     {
@@ -67,19 +63,18 @@ impl LineEnd {
     }
 }
 
-/// How a run ended.
+/// How a run ended. Events have their numbers in the whole list.
 #[derive(Drop)]
 pub struct RunEnd<'a> {
-    /// The event of the list that the controller began with.
+    /// The event that the controller began with.
     pub from: usize,
-    /// How the controller ended, with the number that its event has in the list; None if it would go on.
+    /// None if the controller would go on.
     pub outcome: Option<Outcome>,
-    /// The first event of the list that isn't reported, by its number: how many are, counted from the list's first.
+    /// The first event that isn't reported.
     pub reported: usize,
     pub line: LineEnd,
-    /// The as-run file, if one is wanted; or why it hasn't the list.
+    /// None if no as-run file is wanted.
     pub asrun: Option<Result<SavedText<'a>, Failure<'a>>>,
-    /// Why the journal isn't whole, if it isn't.
     pub unkept: Option<Lack<'a>>,
 }
 
@@ -97,7 +92,6 @@ impl<'a> RunEnd<'a> {
         Ok(self.status())
     }
 
-    // Writes how many events are reported, and how the controller ended.
     fn write_lines<W: io::Write>(&self, out: &mut W) -> io::Result<()>
         ensures { OnOk result (Appends (W.contents out.old) (W.contents out.new) (end_text self.now)) }
     {
@@ -108,8 +102,7 @@ impl<'a> RunEnd<'a> {
         out.flush()
     }
 
-    /// How the run ended, as it is printed: one whose port didn't answer its questions is lost, and one that ended while the
-    /// port was asked is stopped.
+    /// The printed outcome: Lost if the port didn't answer its questions, Stopped if the operator stopped meanwhile.
     pub fn told_outcome(&self) -> Option<Outcome>
         ensures { result ≡ told_outcome self.now.line self.now.outcome }
     {
@@ -125,7 +118,6 @@ impl<'a> RunEnd<'a> {
         }
     }
 
-    // Why the as-run file hasn't the list, if it is wanted and hasn't.
     fn unwritten(&self) -> Option<Failure<'a>>
         ensures { result ≡ asrun_failure self.now.asrun }
     {
@@ -135,7 +127,6 @@ impl<'a> RunEnd<'a> {
         }
     }
 
-    // Writes the fault lines of the as-run file, the journal and the line, of which there are any.
     fn write_faults<E: io::Write>(&self, err: &mut E) -> io::Result<()>
         ensures { OnOk result (Appends (E.contents err.old) (E.contents err.new) (faults_text self.now)) }
     {
@@ -144,7 +135,6 @@ impl<'a> RunEnd<'a> {
         write_fault(self.line.failure(), err)
     }
 
-    // The exit status: the outcome's if nothing failed.
     fn status(&self) -> u8
         ensures { result ≡ run_status self.now }
     {
@@ -160,7 +150,6 @@ impl<'a> RunEnd<'a> {
     }
 }
 
-// Writes the fault line of a failure, if there is one.
 fn write_fault<E: io::Write>(failure: Option<Failure<'_>>, err: &mut E) -> io::Result<()>
     ensures { OnOk result (Appends (E.contents err.old) (E.contents err.new) (fault_text failure.entry)) }
 {
@@ -170,7 +159,6 @@ fn write_fault<E: io::Write>(failure: Option<Failure<'_>>, err: &mut E) -> io::R
     }
 }
 
-// Writes why the journal isn't whole, if it isn't, and what that may come to.
 fn write_lack<E: io::Write>(unkept: Option<Lack<'_>>, err: &mut E) -> io::Result<()>
     ensures { OnOk result (Appends (E.contents err.old) (E.contents err.new) (lack_text unkept.entry)) }
 {
@@ -186,7 +174,7 @@ fn write_lack<E: io::Write>(unkept: Option<Lack<'_>>, err: &mut E) -> io::Result
     }
 }
 
-/// How a run has ended, by its controller and its line. Its as-run file is made.
+/// Makes the as-run file, and gives the end of the run.
 pub fn ended<'a, R: Files + AllocGlobal, S: Source>(
     rt: &R,
     controller: &Controller<Rest<S>>,

@@ -9,32 +9,28 @@ use vdcp_auto::{Controller, Phase, Source, Standing};
 use vdcp_drive::Hearing;
 use vdcp_wire::Stopwatch;
 
-/// For how long the first cue may go on, in nanoseconds, until that is told.
+// In nanoseconds.
 const PATIENCE: u64 = 5_000_000_000;
 
-/// How long the first event has been cued.
+// Since when the first event is being cued.
 #[derive(Clone, Copy)]
 enum Stall {
-    /// It isn't being cued.
     Nothing,
-    /// It has been since then.
     Since(u64),
-    /// That is told, or won't be.
+    /// It is told, or won't be.
     Told,
 }
 
-/// Sees, once, that the state is asked for five seconds long while the first event is cued. (A run that hears at silences
-/// lets them pass, by which a server may count.)
+/// Sees, once, that the first cue isn't done after five seconds. (A run that hears at silences isn't looked at: a server
+/// may count by these.)
 #[derive(Drop)]
 pub struct Stalling<'r, R: Clock> {
     stopwatch: Stopwatch<&'r R>,
     stall: Stall,
-    // What the last command was for.
     last: Option<Phase>,
 }
 
 impl<'r, R: Clock> Stalling<'r, R> {
-    /// Of a run that begins.
     pub fn new(clock: &'r R, hearing: Hearing) -> Self
         ensures stall { result.stall ≡ first_stall hearing }
         ensures last { result.last ≡ None }
@@ -49,14 +45,14 @@ impl<'r, R: Clock> Stalling<'r, R> {
         }
     }
 
-    /// What the last command was for whose answer was awaited.
+    /// What the command was for whose answer was awaited at the last look.
     pub fn last(&self) -> Option<Phase>
         ensures { result ≡ self.now.last }
     {
         self.last
     }
 
-    /// Looks at the controller. It answers whether a stall is to be told now.
+    /// Whether a stall is to be told now.
     pub fn look<S: Source>(&mut self, controller: &Controller<S>) -> bool
         ensures told { (cues : Bool) → (cues ≡ true ↔ controller.now.state.stage ≡ Awaiting (Phase.Wait 0)) →
             self.new.stall ≡ stall_after cues self.old.stall self.new.stopwatch.now }
@@ -69,7 +65,6 @@ impl<'r, R: Clock> Stalling<'r, R> {
     }
 }
 
-// What the command is for whose answer is awaited.
 fn awaited_phase<S: Source>(controller: &Controller<S>) -> Option<Phase>
     ensures { result ≡ awaited_phase controller.now.state.stage }
 {
@@ -79,7 +74,6 @@ fn awaited_phase<S: Source>(controller: &Controller<S>) -> Option<Phase>
     }
 }
 
-// Whether the state is asked for while the first event is cued.
 fn is_cued_first<S: Source>(controller: &Controller<S>) -> bool
     ensures { IsTrue result ↔ controller.now.state.stage ≡ Awaiting (Phase.Wait 0) }
 {
