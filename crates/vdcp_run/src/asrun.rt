@@ -17,8 +17,8 @@ use vdcp_list::{Rest, write_events};
 use vdcp_text::Failure;
 use vdcp_value::Rate;
 
-/// Makes the as-run file of a run that has ended, if one is named, unless the port was found not to be empty. An older file is there, whole,
-/// until the new one is; one of other bytes is kept beside, as `NAME.~N~`.
+/// None if no as-run file is named, or the port wasn't empty. An older file stays until the new one is whole, and becomes
+/// `NAME.~N~` if it has other bytes.
 pub fn save_asrun<'a, R: Files + AllocGlobal, S: Source>(
     rt: &R,
     controller: &Controller<Rest<S>>,
@@ -39,7 +39,7 @@ pub fn save_asrun<'a, R: Files + AllocGlobal, S: Source>(
     }
 }
 
-// The as-run list: if a journal went on, all that this shows, else what the controller reports.
+// A journal that the run goes on with has the events of earlier runs too.
 fn listed<'a, R: Files + AllocGlobal, S: Source>(
     rt: &R,
     controller: &Controller<Rest<S>>,
@@ -59,7 +59,6 @@ fn listed<'a, R: Files + AllocGlobal, S: Source>(
     }
 }
 
-// The events that the controller reports, with the numbers of the whole list.
 fn reported<'a, R: AllocGlobal, S: Source>(
     rt: &R,
     controller: &Controller<Rest<S>>,
@@ -86,7 +85,6 @@ fn reported<'a, R: AllocGlobal, S: Source>(
     }
 }
 
-// Makes the file of this name with this text.
 fn save_text<'a, R: Files + AllocGlobal>(
     rt: &R,
     name: &'a str,
@@ -106,7 +104,6 @@ fn save_text<'a, R: Files + AllocGlobal>(
     }
 }
 
-// Writes the text to a new file beside the whole name, which then gets that name.
 fn save_beside<'a, R: Files + AllocGlobal>(
     rt: &R,
     name: &'a str,
@@ -127,7 +124,6 @@ fn save_beside<'a, R: Files + AllocGlobal>(
     saved
 }
 
-// Writes the text to a new file, which gets the whole name once that is safe.
 fn fill<'a, R: Files + AllocGlobal, D: Disk + OpenFile>(
     rt: &R,
     name: &'a str,
@@ -150,8 +146,7 @@ fn fill<'a, R: Files + AllocGlobal, D: Disk + OpenFile>(
     }
 }
 
-// Gives a file that is written, and safe, the whole name. It may be written by whom the older one might, which is kept
-// beside.
+// Keeps the older file's permissions; the older file becomes `NAME.~N~`.
 fn take_name<'a, R: Files + AllocGlobal, D: Disk + OpenFile>(
     rt: &R,
     name: &'a str,

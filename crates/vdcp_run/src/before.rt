@@ -15,16 +15,15 @@ use vdcp_operator::{EventBefore, ROWS_BEFORE, Record};
 /// What the runs of a journal show of an event.
 #[derive(Clone, Copy)]
 pub enum Said {
-    /// None shows that it aired or may have aired.
+    /// None shows that it aired or may have.
     LeftOut,
     /// One shows that it may have aired, and none that it did.
     MayHaveAired,
-    /// So it aired last.
+    /// How it aired last.
     Aired(Airing),
 }
 
-/// What the runs of a journal, if there are some, show of the events before the controller's next one, as many as a page
-/// has room for. If memory is refused less is told.
+/// What the runs of a journal show of the last `ROWS_BEFORE` events before the next one; of fewer if memory is refused.
 pub fn events_before<S: Source>(
     alloc: Global,
     runs: &[RunAirings],
@@ -46,7 +45,6 @@ pub fn events_before<S: Source>(
     events
 }
 
-// What the runs show of an event.
 fn event_before(runs: &[RunAirings], event: usize) -> EventBefore
     ensures { IsSaidBy runs.now result }
 {
@@ -89,7 +87,6 @@ fn said_of(runs: &[RunAirings], event: usize) -> Said
     said
 }
 
-// What is said of an event after one run more.
 fn said_after(said: Said, run: &RunAirings, event: usize) -> Said
     ensures { result ≡ said_after said run.now event }
 {
@@ -117,7 +114,7 @@ fn is_this(event: Option<usize>, k: usize) -> bool
     }
 }
 
-// What a run shows goes before what was said; what is known goes before what may be.
+// Of two runs the later one counts, but `Aired` goes before `MayHaveAired`.
 fn said_or(said: Said, airing: Option<Airing>, may: bool) -> Said
     ensures { result ≡ said_or said airing may }
 {
@@ -130,7 +127,7 @@ fn said_or(said: Said, airing: Option<Airing>, may: bool) -> Said
     }
 }
 
-// A moment in milliseconds since 1970; None if no clock gave it.
+// Since 1970; None if no clock gave the moment.
 fn millis_of(moment: Moment) -> Option<u64> {
     let text = str::from_utf8(moment.clocked()).ok()?;
     let time = Timestamp::from_str(text).ok()?;

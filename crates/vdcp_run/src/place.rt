@@ -10,23 +10,20 @@ use vdcp_files::is_same_file;
 use vdcp_log::Telling;
 use vdcp_text::{Failure, NameText};
 
-/// How many names are tried for a file beside another one.
 const MOST_NAMES: u32 = 100;
 
-/// How a list comes into the file of a name.
+/// How a list gets a name. A list for a name that is free or taken is written beside, and gets the name once it is whole.
 #[derive(Drop)]
 pub enum Place {
-    /// No file has this name. The list is written beside it, and gets it once it is whole.
     Free(String),
-    /// The file of this name has an older list. A new one is written beside it, and takes its place once it is whole.
+    /// An older list has the name; its links are followed.
     Taken(String),
-    /// It is written to what has the name: a device, a pipe or a link to nothing; no older list is kept.
+    /// A device, a pipe or a link to nothing has the name, and the list is written to it. No older list is kept.
     Device,
 }
 
 impl Place {
-    /// How a list can come into the file of this name. Err if it can't: the name is a folder's, say, or its file
-    /// isn't to be written.
+    /// Err if no list can get the name: it is a folder's, say, or its file can't be written.
     pub fn of<R: Files + AllocGlobal>(rt: &R, name: &str) -> io::Result<Place> {
         match fs::metadata(rt, name) {
             Ok(found) if found.is_file() => {
@@ -42,7 +39,6 @@ impl Place {
         }
     }
 
-    // Of a name that leads to no file.
     fn of_no_file<R: Files + AllocGlobal>(rt: &R, name: &str) -> io::Result<Place> {
         if name.is_empty() {
             return Err(io::Error::from(ErrorKind::NotFound));
@@ -55,7 +51,7 @@ impl Place {
     }
 }
 
-/// Shows that the file of a name, if a name is given, isn't this other file, which has to stay. Only `test` makes an `Apart`.
+/// Proof that the as-run file, if one is named, isn't the playlist or journal. Only `test` makes one.
 #[derive(Clone, Copy)]
 pub struct Apart<'a> {
     name: Option<&'a str>,
@@ -63,7 +59,6 @@ pub struct Apart<'a> {
 }
 
 impl<'a> Apart<'a> {
-    /// Tests that. Err has the name if both are of one file.
     pub fn test<R: Files>(rt: &R, name: Option<&'a str>, other: &'a str) -> Result<Self, &'a str>
         ensures apart { IfOk result (IsApart name.entry other.entry) }
         ensures same { IfErr result (λ same. name.entry ≡ Some same) }
@@ -75,8 +70,7 @@ impl<'a> Apart<'a> {
     }
 }
 
-/// Tests, before anything is sent, that the as-run list can come into the file that is named for it, if one is: its
-/// folder takes a new file, and it isn't the journal.
+/// Tests, before anything is sent, that the named as-run file can be made, and isn't the journal.
 pub fn test_place<'a, R: Files + AllocGlobal>(
     rt: &R,
     name: Option<&'a str>,
@@ -98,8 +92,8 @@ pub fn test_place<'a, R: Files + AllocGlobal>(
     }
 }
 
-/// Tells, before anything is sent, why the as-run list can't come into the file that is named for it, if it can't, in a run
-/// without a journal, which goes on: the file may have a place once it ends.
+/// Warns, before anything is sent, that the as-run file of a run without a journal can't be made now. The run goes on,
+/// since it may be otherwise at its end.
 pub fn tell_place<R: Files + AllocGlobal, V: io::Write>(
     rt: &R,
     settings: RunSettings<'_>,
@@ -128,7 +122,6 @@ fn tell_unmade<V: io::Write>(name: &str, error: io::Error, told: &mut V) {
     let _ = told.flush();
 }
 
-/// Why the file of this name isn't made.
 pub fn not_made<'a>(error: &io::Error, name: &'a str) -> Failure<'a>
     ensures { IsUnwritten name.entry result }
 {
@@ -139,7 +132,6 @@ pub fn not_made<'a>(error: &io::Error, name: &'a str) -> Failure<'a>
     }
 }
 
-/// A new file beside the one of this name, with its own name.
 pub fn make_beside<R: Files + AllocGlobal>(rt: &R, name: &str) -> io::Result<(R::File, String)> {
     for number in 0..MOST_NAMES {
         let beside = format!(in rt.alloc(); "{name}.new{number}")?;
@@ -152,7 +144,6 @@ pub fn make_beside<R: Files + AllocGlobal>(rt: &R, name: &str) -> io::Result<(R:
     Err(io::Error::from(ErrorKind::AlreadyExists))
 }
 
-// Makes a file where the list is to be written, and removes it.
 fn try_place<R: Files + AllocGlobal>(rt: &R, name: &str) -> io::Result<()> {
     match Place::of(rt, name)? {
         Place::Free(name) | Place::Taken(name) => {

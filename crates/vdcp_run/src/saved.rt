@@ -8,8 +8,7 @@ use std::rt::Files;
 use std::{fs, io};
 use vdcp_text::Failure;
 
-/// The file of a name has a text. Only what finds the text there, writes it there, or gives the name to
-/// the file that has it makes one.
+/// Proof that the file of a name has a text. Only what finds it there, writes it there or renames its file makes one.
 #[derive(Drop)]
 pub struct SavedText<'a> {
     name: &'a str,
@@ -17,7 +16,7 @@ pub struct SavedText<'a> {
 }
 
 impl<'a> SavedText<'a> {
-    /// What shows that the file of this name has just this text; None if it hasn't, or can't be read.
+    /// None if the file has another text, or can't be read.
     pub fn find<R: Files + AllocGlobal>(rt: &R, name: &'a str, text: &[u8]) -> Option<Self>
         ensures { IfSome result (IsSaved name.entry text.now) }
     {
@@ -30,7 +29,7 @@ impl<'a> SavedText<'a> {
         }
     }
 
-    /// Writes the text to what has the name: a device, say.
+    /// Writes the text to what has the name, as a device.
     pub fn create<R: Files>(rt: &R, name: &'a str, text: Vec<u8>) -> Result<Self, Failure<'a>>
         ensures saved { IfOk result (IsSaved name.entry text.items) }
         ensures unwritten { IfErr result (IsUnwritten name.entry) }
@@ -41,7 +40,6 @@ impl<'a> SavedText<'a> {
         }
     }
 
-    // Writes it to a file, which has the name for the fault.
     fn write<W: io::Write>(name: &'a str, file: &mut W, text: Vec<u8>) -> Result<Self, Failure<'a>>
         ensures written { OnOk result (Appends (W.contents file.old) (W.contents file.new) text.items) }
         ensures saved { IfOk result (IsSaved name.entry text.items) }
@@ -53,7 +51,7 @@ impl<'a> SavedText<'a> {
         Ok(SavedText { name, text })
     }
 
-    /// Gives the file beside, which has the text, the whole name.
+    /// The file `beside` has the text, and gets the name `whole`.
     pub fn rename<R: Files>(
         rt: &R,
         name: &'a str,
