@@ -120,11 +120,11 @@ pub plays_so : (h : Heard) (plan plan' : Plan) (s s' : State) → plan' ≡ plan
 plays_so h plan plan' s s' plan_is is plays =
     ap₂ (λ (p : Plan) (x : State). given p (came_again p h x)) (sym plan_is) (sym is) ∙ plays
 
-none_some : {A : Type 0} {x : A} → None ≡ Some x → ⊥
+pub none_some : {A : Type 0} {x : A} → None ≡ Some x → ⊥
 none_some is = cc is
 
 -- a command that was given is awaited
-ticked_twice : (plan : Plan) (stage : Stage) (s : State) (q : Command) → given_in plan s.stop stage ≡ Some q
+pub ticked_twice : (plan : Plan) (stage : Stage) (s : State) (q : Command) → given_in plan s.stop stage ≡ Some q
     → (ticked (tick_in stage s) ≡ tick_in stage s) × (given plan (tick_in stage s) ≡ None)
 ticked_twice plan (Ready p) s q is = (refl, refl)
 ticked_twice plan (Awaiting p) s q is = cc is
@@ -356,7 +356,7 @@ unended c (Some e) is none = cc none
 -- What is asked beside the controller: if PLAY may come next the controller would ask the same, and may after it, too. So
 -- it may have been asked then.
 
-abbrev to_play : Stage → Bool
+abbrev pub to_play : Stage → Bool
 to_play (Ready (phase.Play k)) = true
 to_play _ = false
 
@@ -369,7 +369,7 @@ no_id : (o : Option Item) → option_map (λ item. command.IdRequest item.id) o 
 no_id None is = cc is
 no_id (Some item) is = cc is
 
-one_is : {c d : Command} → Some c ≡ Some d → c ≡ d
+pub one_is : {c d : Command} → Some c ≡ Some d → c ≡ d
 one_is is = cc
 
 not_play : (id : ClipId) (part : Option Part) → cue_for id part ≡ command.Play → ⊥
@@ -380,7 +380,7 @@ no_cue : (o : Option Item) → option_map cue_of o ≡ Some command.Play → ⊥
 no_cue None is = cc is
 no_cue (Some item) is = not_play item.id item.part (one_is is)
 
-after_play : (plan : Plan) (stop : Bool) (stage : Stage) → given_in plan stop stage ≡ Some command.Play
+pub after_play : (plan : Plan) (stop : Bool) (stage : Stage) → given_in plan stop stage ≡ Some command.Play
     → to_play stage ≡ true
 after_play plan true (Ready p) is = cc is
 after_play plan false (Ready (phase.Play k)) is = refl
@@ -402,11 +402,11 @@ on_reply_plays mode list limit take tries (phase.Check k) r e = grind (arith)
 on_reply_plays mode list limit take tries phase.Drain r e = grind (arith)
 on_reply_plays mode list limit take tries p r e = cc
 
-on_refusal_plays : (n : ℕ) (p : Phase) → to_play (stage_after (on_refusal n p)) ≡ true → from_play p ≡ true
+pub on_refusal_plays : (n : ℕ) (p : Phase) → to_play (stage_after (on_refusal n p)) ≡ true → from_play p ≡ true
 on_refusal_plays n phase.Halt e = cc
 on_refusal_plays n p e = cc
 
-on_silence_plays : (mode : Mode) (p : Phase) → to_play (stage_after (on_no_answer mode p)) ≡ true → from_play p ≡ true
+pub on_silence_plays : (mode : Mode) (p : Phase) → to_play (stage_after (on_no_answer mode p)) ≡ true → from_play p ≡ true
 on_silence_plays Plain (phase.Wait k) e = refl
 on_silence_plays Plain (phase.Probe k) e = refl
 on_silence_plays Plain (phase.Play k) e = cc
@@ -619,7 +619,7 @@ goes stays c notes h since run a quiet =
 
 -- Rows may leave out as much of notes before others.
 
-thinned_more : (all rows more : List Note) → IsThinned all rows → IsThinned (all ++ more) (rows ++ more)
+pub thinned_more : (all rows more : List Note) → IsThinned all rows → IsThinned (all ++ more) (rows ++ more)
 thinned_more all _ more whole = whole
 thinned_more all _ more (without before after asks hears a h thin) =
     let both : List Note = all ++ more in

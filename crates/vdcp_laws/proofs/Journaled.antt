@@ -11,6 +11,7 @@ use Rattle.vdcp_auto.specs.declared.exchange.Heard.{Heard}
 use Rattle.vdcp_auto.specs.declared.exchange.Heard.TheVariants as heard
 use Rattle.vdcp_auto.specs.declared.phase.Mode.{Mode}
 use Rattle.vdcp_auto.specs.declared.phase.Mode.TheVariants.{Plain, Confirming}
+use Rattle.vdcp_journal.specs.Mending.{after_notes}
 use Rattle.vdcp_journal.specs.Resume.{AreTold, Tells, after_call_if, after_rows, call_of}
 use Rattle.vdcp_journal.specs.Thinned.{notes_in}
 use Rattle.vdcp_journal.specs.declared.row.Note.{Note}
@@ -25,17 +26,12 @@ use Rattle.vdcp_words.specs.declared.reply.Reply.TheVariants.{Ack, Nak}
 use Rattle.vdcp_words.specs.declared.command.Command.{Command}
 use Rattle.vdcp_world.specs.Channel.{state_hearing, state_straying}
 
--- the controller after the calls of some notes
-abbrev after_notes : Plan → State → List Note → State
-after_notes plan state [] = state
-after_notes plan state (note ∷ notes) = after_notes plan (after_call_if plan (call_of note) state) notes
-
-of_rows : (plan : Plan) (state : State) (rows : List Row)
+pub of_rows : (plan : Plan) (state : State) (rows : List Row)
     → after_rows plan state rows ≡ after_notes plan state (notes_in rows)
 of_rows plan state [] = refl
 of_rows plan state (row ∷ rows) = of_rows plan (after_call_if plan (call_of row.note) state) rows
 
-after_more : (plan : Plan) (state : State) (notes more : List Note)
+pub after_more : (plan : Plan) (state : State) (notes more : List Note)
     → after_notes plan state (notes ++ more) ≡ after_notes plan (after_notes plan state notes) more
 after_more plan state [] more = refl
 after_more plan state (note ∷ notes) more = after_more plan (after_call_if plan (call_of note) state) notes more
@@ -126,7 +122,7 @@ journaled _ _ (happened {c} {notes} run e of_run) =
 
 -- Each of its notes tells what the controller does.
 
-abbrev AllTold : Plan → State → List Note → Type 0
+abbrev pub AllTold : Plan → State → List Note → Type 0
 AllTold plan state [] = Unit {0}
 AllTold plan state (note ∷ notes) = Tells plan state note × AllTold plan (after_call_if plan (call_of note) state) notes
 

@@ -116,7 +116,7 @@ heard_so plan s h None is some = cc some
 heard_so plan s h (Some e) is some =
     ap (λ (o : Option Heard). note_for (end_of o) ∷ []) (sym (heard_is plan.mode (Some h) (awaited plan s) e is))
 
-silent_so : (plan : Plan) (s : State) (q : Command) → awaited plan s ≡ Some q
+pub silent_so : (plan : Plan) (s : State) (q : Command) → awaited plan s ≡ Some q
     → notes_ended plan None s ≡ note.Silence ∷ []
 silent_so plan s q is =
     ap (λ (o : Option Command). map note_for (end_notes (exchange_of plan.mode None o))) is

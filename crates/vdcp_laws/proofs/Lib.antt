@@ -15,6 +15,7 @@ mod Connecting
 mod Joining
 mod Killed
 mod Leading
+mod Mended
 mod Logging
 mod Noting
 mod Noted

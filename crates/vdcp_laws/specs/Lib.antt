@@ -1,6 +1,7 @@
 -- What the clauses of this crate cite.
 pub mod Announced
 pub mod Kills
+pub mod Mended
 pub mod Automation
 pub mod Below
 pub mod Carried

@@ -2,15 +2,22 @@
 //!
 //! The functions do nothing: their contracts are the laws, and a caller whose proof needs one calls it.
 ghost use Rattle.std.specs.Prelude.{◌≡◌, ◌∷◌, ◌++◌, [], All, Bool, IsTrue, List, Some};
+ghost use Rattle.vdcp_auto.specs.Plan.{Plan};
 ghost use Rattle.vdcp_auto.specs.declared.exchange.Heard.{Heard};
 ghost use Rattle.vdcp_auto.specs.Turn.{given, start};
+ghost use Rattle.vdcp_journal.specs.Mending.{mended, rows_at};
 ghost use Rattle.vdcp_journal.specs.Resume.{AreTold, after_rows};
+ghost use Rattle.vdcp_journal.specs.Runs.{last_run};
 ghost use Rattle.vdcp_journal.specs.Thinned.{AreThinned, IsThinned, asks_state, hears_done, hears_free, notes_in, takes};
+ghost use Rattle.vdcp_journal.specs.declared.moment.Moment.{Moment};
 ghost use Rattle.vdcp_journal.specs.declared.row.Note.{Note};
 ghost use Rattle.vdcp_journal.specs.declared.row.Note.TheVariants as note;
 ghost use Rattle.vdcp_journal.specs.declared.row.Row.{Row};
 ghost use Rattle.vdcp_laws.specs.Announced.{Announces, played_notes};
 ghost use Rattle.vdcp_laws.specs.Kills.{IsRun, asked_in_vain, played, silence_notes};
+ghost use Rattle.vdcp_laws.specs.Mended.{AreSafe, GoesOnGiven, IsMendedOf};
+ghost use Rattle.vdcp_laws.specs.TwoEnds.{AreJoined, CanJoin, Ends, connected_anew, port_now};
+ghost use Rattle.vdcp_port.specs.Clock.{ClockedPort};
 ghost use Rattle.vdcp_world.specs.LateLine.GoingOn.{IsNoTick, gone_on};
 ghost use Rattle.vdcp_world.specs.LateLine.LateChannel.{LateChannel, IsLateReached, after_late_event, after_late_events};
 ghost use Rattle.vdcp_world.specs.LateLine.LateHeadline.{LateHeadline};
@@ -68,4 +75,22 @@ pub fn an_announced_play_may_go_out_unkept()
         (rows ++ (note.Sent asks ∷ free ∷ note.Sent Play ∷ note.Silence ∷ [])) }
 {
     vdcp_port::laws::the_unit_stays();
+}
+
+/// What going on writes behind a killed run's safe rows (`mended`) may have gone out of the two ends, whether it did or not:
+/// the next command, if it asks for the state or is a PLAY, and the PLAY that the rows announce. With it the rows are a
+/// journal again, of ends that go on from these with that taken for given, and make their controller. If they say that the
+/// run was lost, it was.
+pub fn what_going_on_adds_was_given()
+    ensures mended { (plan : Plan) (port : ClockedPort) (asked : List Command) (e : Ends) (journal : List Row)
+        (time : Moment) → CanJoin plan port asked → AreJoined plan port asked e →
+        AreSafe plan e (last_run journal).rows →
+        IsMendedOf plan e ((last_run journal).rows ++ rows_at time (mended plan journal (last_run journal).rows)) }
+    // and these go on over a new connection
+    ensures joined { (plan : Plan) (port : ClockedPort) (asked : List Command) (e on : Ends) →
+        AreJoined plan port asked e → GoesOnGiven plan e on →
+        AreJoined plan port asked (connected_anew plan (port_now on) on) }
+{
+    vdcp_journal::laws::an_announced_play_comes_next();
+    crate::two_ends::a_journal_makes_the_automation();
 }

@@ -1,0 +1,391 @@
+-- What going on writes behind a killed run's safe rows was given.
+use Rattle.std.proofs.Common.{◌≡◌, ℕ, arith, Bool, true, false, List, [], ◌∷◌, ◌++◌, Option, None, Some, append-nil, append_assoc, map, refl, sym, ap, ap₂, subst, ◌∙◌}
+use Rattle.std.proofs.lemmas.List.{map-append}
+use Rattle.std.specs.Prelude.{IsTrue, is_some}
+use Rattle.vdcp_port.specs.Clock.{ClockedPort}
+use Rattle.vdcp_words.specs.declared.command.Command.{Command}
+use Rattle.vdcp_words.specs.declared.command.Command.TheVariants as command
+use Rattle.vdcp_auto.specs.Plan.{Plan}
+use Rattle.vdcp_auto.specs.State.{State}
+use Rattle.vdcp_auto.specs.Turn.{awaited, came_to, ended_by, given, outcome_of, start, taken, ticked}
+use Rattle.vdcp_auto.specs.declared.exchange.Heard.{Heard}
+use Rattle.vdcp_auto.specs.declared.outcome.Outcome.{Outcome}
+use Rattle.vdcp_auto.specs.declared.outcome.Outcome.TheVariants.{Lost}
+use Rattle.vdcp_journal.specs.Mending.{after_notes, announced_state, is_said, last_note, loss_at, loss_notes, mended, mended_at, rows_at, unkept_at, unkept_notes}
+use Rattle.vdcp_journal.specs.Resume.{AreTold, Tells, after_call_if, after_rows, call_of, timed_out}
+use Rattle.vdcp_journal.specs.Runs.{Run, begins_at, first_run, last_after, last_run, run_after}
+use Rattle.vdcp_journal.specs.Thinned.{AreThinned, IsThinned, asks_state, before_play, heard_after, heard_from, heard_last, hears_done, hears_free, hears_state, notes_in, takes, whole, without}
+use Rattle.vdcp_journal.specs.declared.moment.Moment.{Moment}
+use Rattle.vdcp_journal.specs.declared.row.Note.{Note}
+use Rattle.vdcp_journal.specs.declared.row.Note.TheVariants as note
+use Rattle.vdcp_journal.specs.declared.row.Row.{Row}
+use Rattle.vdcp_drive.specs.Steps.{given_notes}
+use Rattle.vdcp_laws.specs.Announced.{Announces, came_again}
+use Rattle.vdcp_laws.specs.Mended as safe
+use Rattle.vdcp_laws.specs.Mended.{AreMended, AreSafe, AreUnkept, MayLack, GoesOnGiven, IsMendedOf, as_given, as_kept, goes, lost}
+use Rattle.vdcp_laws.specs.TwoEnds.{AreJoined, CanJoin, Ends, GoesOn, as_announced, as_noted, connected_anew, gave, heard_again, note_for, notes_ended, notes_given, port_now, resumed, went_on, with_command}
+use Rattle.vdcp_laws.proofs.Announced.{after_play, none_some, on_refusal_plays, on_silence_plays, one_is, sent_of, thinned_more, ticked_twice}
+use Rattle.vdcp_laws.proofs.Commands as commands
+use Rattle.vdcp_laws.proofs.Commands.{awaits_none_in, exchange_is, left_by}
+use Rattle.vdcp_laws.proofs.Journaled.{AllTold, after_more, given_awaited, of_rows, same_state}
+use Rattle.vdcp_laws.proofs.Killed.{again_noted}
+use Rattle.vdcp_laws.proofs.Running.{last_more}
+
+-- What is heard last stays if rows leave out what says nothing new.
+
+hears_anew : (n : Note) (before other : Option Heard) → IsTrue (hears_state n)
+    → heard_after before n ≡ heard_after other n
+hears_anew n before other is = grind arith
+
+last_same : (before some others : List Note) → ((x : Option Heard) → heard_from x some ≡ heard_from x others)
+    → heard_last (before ++ some) ≡ heard_last (before ++ others)
+last_same before some others same =
+    last_more None before some ∙ same (heard_last before) ∙ sym (last_more None before others)
+
+same_heard : (all rows : List Note) → IsThinned all rows → heard_last rows ≡ heard_last all
+same_heard all _ whole = refl
+same_heard all _ (without before after asks hears a h thin) =
+    last_same before _ _ (λ x. ap (λ (y : Option Heard). heard_from (heard_after y asks) after)
+    (hears_anew hears (heard_after x asks) (heard_after (heard_after (heard_after x asks) hears) asks) h))
+    ∙ same_heard all _ thin
+same_heard all _ (before_play before after true asks hears free a h f thin) =
+    last_same before _ _ (λ x. refl) ∙ same_heard all _ thin
+same_heard all _ (before_play before after false asks hears free a h f thin) =
+    last_same before _ _ (λ x. refl) ∙ same_heard all _ thin
+
+-- And in the last run it is that of the journal.
+
+noted_behind : (rows more : List Row) → notes_in (rows ++ more) ≡ notes_in rows ++ notes_in more
+noted_behind rows more = map-append (λ row. row.note) rows more
+
+run_heard : (begins : Option ℕ) (row : Row) (run : Run) → begins_at row.note ≡ begins
+    → heard_last (notes_in (run_after begins row run).rows) ≡ heard_after (heard_last (notes_in run.rows)) row.note
+run_heard None row run is =
+    ap heard_last (noted_behind run.rows (row ∷ [])) ∙ last_more None (notes_in run.rows) (row.note ∷ [])
+run_heard (Some k) row run is = grind arith
+
+runs_heard : (run : Run) (rows : List Row)
+    → heard_last (notes_in (last_after run rows).rows) ≡ heard_from (heard_last (notes_in run.rows)) (notes_in rows)
+runs_heard run [] = refl
+runs_heard run (row ∷ rows) = runs_heard (run_after (begins_at row.note) row run) rows
+    ∙ ap (λ (x : Option Heard). heard_from x (notes_in rows)) (run_heard (begins_at row.note) row run refl)
+
+-- If something was heard last, and a command is open, that is the last note, and the operator doesn't want to stop.
+
+record Asks (notes : List Note) (s : State) (c : Command) : Type 0 where
+  front : List Note
+  ends : notes ≡ front ++ note.Sent c ∷ []
+  goes_on : s.stop ≡ false
+
+abbrev AsksIf : Plan → List Note → State → Option Heard → Type 0
+AsksIf plan notes s last = (h : Heard) (c : Command) → last ≡ Some h → awaited plan s ≡ Some c → Asks notes s c
+
+rests : (plan : Plan) (s : State) (h : Heard) → IsTrue (is_some (ended_by plan (Some h) s))
+    → awaited plan (came_to plan (Some h) s) ≡ None
+rests plan s h some = grind (arith, awaits_none_in, exchange_is)
+
+asks_next : (plan : Plan) (before : List Note) (s : State) (last : Option Heard) (n : Note) → Tells plan s n
+    → AsksIf plan (before ++ n ∷ []) (after_call_if plan (call_of n) s) (heard_after last n)
+asks_next plan before s last (note.Sent c) told h q is awaits = record {
+  front = before;
+  ends = ap (λ (x : Command). before ++ note.Sent x ∷ [])
+      (one_is (sym (given_awaited plan s.stage s c told) ∙ awaits));
+  goes_on = grind arith;
+}
+asks_next plan before s last (note.Heard x) told h q is awaits =
+    absurd (none_some (sym (rests plan s x told) ∙ awaits))
+asks_next plan before s last n told h q is awaits = absurd (none_some is)
+
+asks_last : (plan : Plan) (before : List Note) (s : State) (last : Option Heard) (notes more : List Note)
+    → AllTold plan s (notes ++ more) → AsksIf plan before s last
+    → AsksIf plan (before ++ notes) (after_notes plan s notes) (heard_from last notes)
+asks_last plan before s last [] more told so = subst (λ (l : List Note). AsksIf plan l s last) (sym (append-nil before)) so
+asks_last plan before s last (n ∷ notes) more told so =
+    let t : State = after_call_if plan (call_of n) s in
+    subst (λ (l : List Note). AsksIf plan l (after_notes plan t notes) (heard_from (heard_after last n) notes))
+    (append_assoc before (n ∷ []) notes)
+    (asks_last plan (before ++ n ∷ []) t (heard_after last n) notes more told.1 (asks_next plan before s last n told.0))
+
+-- A journal's notes make the controller, and tell what it does.
+
+abbrev pub PlaysNext : Plan → State → Heard → Heard → Type 0
+PlaysNext plan s h free = (given plan (came_to plan (Some h) (taken (ticked s))) ≡ Some command.Play)
+    × IsTrue (hears_done (note.Heard h)) × IsTrue (hears_free (note.Heard free))
+
+pub record Below : Type 0 where
+  pub comes : (plan : Plan) (state : State) (h free : Heard) → announced_state (Some h) state.stage ≡ Some free
+      → state.stop ≡ false → PlaysNext plan state h free
+  pub makes : (plan : Plan) (port : ClockedPort) (asked : List Command) (e : Ends) (all rows : List Row)
+      → CanJoin plan port asked → AreJoined plan port asked e → notes_in all ≡ e.notes → AreThinned all rows
+      → after_rows plan start rows ≡ e.automation.state
+  pub told : (plan : Plan) (port : ClockedPort) (asked : List Command) (e : Ends) (all rows : List Row)
+      → CanJoin plan port asked → AreJoined plan port asked e → notes_in all ≡ e.notes → AreThinned all rows
+      → AreTold plan start rows
+
+noted : (time : Moment) (notes : List Note) → notes_in (rows_at time notes) ≡ notes
+noted time [] = refl
+noted time (n ∷ notes) = ap (λ (l : List Note). n ∷ l) (noted time notes)
+
+notes_told : (plan : Plan) (s : State) (rows : List Row) → AreTold plan s rows → AllTold plan s (notes_in rows)
+notes_told plan s [] told = tt
+notes_told plan s (row ∷ rows) told =
+    (told.0, notes_told plan (after_call_if plan (call_of row.note) s) rows told.1)
+
+told_behind : (plan : Plan) (s : State) (notes more : List Note) → AllTold plan s (notes ++ more)
+    → AllTold plan (after_notes plan s notes) more
+told_behind plan s [] more told = told
+told_behind plan s (n ∷ notes) more told = told_behind plan (after_call_if plan (call_of n) s) notes more told.1
+
+-- these notes, and more behind them
+record Made (plan : Plan) (e : Ends) (notes more : List Note) : Type 0 where
+  told : AllTold plan start (notes ++ more)
+  state_is : after_notes plan (after_notes plan start notes) more ≡ e.automation.state
+
+-- with the time of some row
+made : Below → (time : Moment) (plan : Plan) (port : ClockedPort) (asked : List Command) (e : Ends) → CanJoin plan port asked
+    → AreJoined plan port asked e → (notes more : List Note) → IsThinned e.notes (notes ++ more) → Made plan e notes more
+made below time plan port asked e can j notes more thin =
+    let all : List Row = rows_at time e.notes in
+    let rows : List Row = rows_at time (notes ++ more) in
+    let so : notes_in rows ≡ notes ++ more = noted time (notes ++ more) in
+    let both : AreThinned all rows = subst (λ (l : List Note). IsThinned l (notes_in rows)) (sym (noted time e.notes))
+    (subst (IsThinned e.notes) (sym so) thin) in record {
+      told = subst (AllTold plan start) so (notes_told plan start rows
+          (below.told plan port asked e all rows can j (noted time e.notes) both));
+      state_is = sym (after_more plan start notes more) ∙ ap (after_notes plan start) (sym so)
+          ∙ sym (of_rows plan start rows) ∙ below.makes plan port asked e all rows can j (noted time e.notes) both;
+    }
+
+-- What may have gone out is taken for given.
+
+record Adds (plan : Plan) (e : Ends) (notes added : List Note) : Type 0 where
+  on : Ends
+  goes_on : GoesOnGiven plan e on
+  thinned : IsThinned on.notes (notes ++ added)
+
+as_it_is : (plan : Plan) (e : Ends) (notes added : List Note) → IsThinned e.notes (notes ++ added) → Adds plan e notes added
+as_it_is plan e notes added thin = record { on = e; goes_on = as_kept as_noted; thinned = thin }
+
+given_too : (plan : Plan) (e : Ends) (notes : List Note) (c : Command) → given plan e.automation.state ≡ Some c
+    → IsThinned e.notes (notes ++ []) → IsThinned (with_command plan e).notes (notes ++ note.Sent c ∷ [])
+given_too plan e notes c is thin =
+    subst (λ (o : Option Command). IsThinned (e.notes ++ map note_for (given_notes o)) (notes ++ note.Sent c ∷ [])) (sym is)
+    (thinned_more e.notes notes (note.Sent c ∷ []) (subst (IsThinned e.notes) (append-nil notes) thin))
+
+with_next : (plan : Plan) (e : Ends) (notes : List Note) (c : Command) → given plan e.automation.state ≡ Some c
+    → IsThinned e.notes (notes ++ []) → Adds plan e notes (note.Sent c ∷ [])
+with_next plan e notes c is thin =
+    record { on = with_command plan e; goes_on = as_given as_noted; thinned = given_too plan e notes c is thin }
+
+awaits_state : (plan : Plan) (s : State) (last : Option Heard) (free : Heard) (c : Command)
+    → announced_state last s.stage ≡ Some free → awaited plan s ≡ Some c → IsTrue (asks_state (note.Sent c))
+awaits_state plan s last free c ann is = grind arith
+
+gives_none : (plan : Plan) (s : State) (c : Command) → awaited plan s ≡ Some c → given plan s ≡ None
+gives_none plan s c is = grind arith
+
+wants_none : (plan : Plan) (s : State) (groups : ℕ) → given plan s ≡ Some (command.Status groups) → s.stop ≡ false
+wants_none plan s groups is = grind arith
+
+-- PLAY comes only after a state with the cue done
+heard_done : (plan : Plan) (t : State) (last : Option Heard) (free h : Heard) (c : Command)
+    → announced_state last t.stage ≡ Some free → awaited plan t ≡ Some c
+    → given plan (came_to plan (Some h) t) ≡ Some command.Play → IsTrue (hears_done (note.Heard h))
+heard_done plan t last free h c ann is plays = grind (arith, after_play, on_refusal_plays, on_silence_plays)
+
+still_announced : (plan : Plan) (s : State) (last : Option Heard) (free : Heard) (groups : ℕ)
+    → announced_state last s.stage ≡ Some free → given plan s ≡ Some (command.Status groups)
+    → announced_state last (ticked s).stage ≡ Some free
+still_announced plan s last free groups ann gives = grind arith
+
+-- the PLAY may stand behind that state, or another one
+frees : (all notes front : List Note) (c : Command) (took : Bool) (h free : Heard) → notes ≡ front ++ note.Sent c ∷ []
+    → IsTrue (asks_state (note.Sent c)) → IsTrue (hears_done (note.Heard h)) → IsTrue (hears_free (note.Heard free))
+    → IsThinned all (notes ++ (takes took ++ note.Heard h ∷ note.Sent command.Play ∷ []))
+    → IsThinned all (notes ++ note.Heard free ∷ note.Sent command.Play ∷ [])
+frees all notes front c took h free ends asks done lets thin =
+    let came : List Note = takes took ++ note.Heard h ∷ note.Sent command.Play ∷ [] in
+    let plays_so : List Note = note.Heard free ∷ note.Sent command.Play ∷ [] in
+    subst (IsThinned all) (sym (append_assoc front (note.Sent c ∷ []) plays_so) ∙ ap (λ (l : List Note). l ++ plays_so) (sym ends))
+    (before_play front [] took (note.Sent c) (note.Heard h) (note.Heard free) asks done lets
+    (subst (IsThinned all) (ap (λ (l : List Note). l ++ came) ends ∙ append_assoc front (note.Sent c ∷ []) came) thin))
+
+-- the ends, of which the state was asked, go on with that PLAY
+plays_on : (plan : Plan) (e : Ends) (notes front : List Note) (c : Command) (h free : Heard)
+    → notes ≡ front ++ note.Sent c ∷ [] → IsThinned e.notes notes → IsTrue (asks_state (note.Sent c))
+    → PlaysNext plan e.automation.state h free → heard_last notes ≡ Some h → given plan e.automation.state ≡ None
+    → (on : Ends) × GoesOn plan e on × IsThinned on.notes (notes ++ note.Heard free ∷ note.Sent command.Play ∷ [])
+plays_on plan e notes front c h free ends thin asks next last none =
+    let came : List Note = note.Take ∷ note.Heard h ∷ [] in
+    let plays_so : List Note = note.Sent command.Play ∷ [] in
+    let a : Announces plan e.automation.state e.notes h =
+    record { last = sym (same_heard e.notes notes thin) ∙ last; plays = next.0 } in
+    let noted_so : (with_command plan (heard_again plan h e)).notes ≡ e.notes ++ (came ++ plays_so) =
+    ap (λ (l : List Note). l ++ notes_given plan (came_again plan h e.automation.state))
+    (again_noted plan e h a ∙ ap (λ (o : Option Command). e.notes ++ (sent_of o ++ came)) none)
+    ∙ ap (λ (o : Option Command). (e.notes ++ came) ++ map note_for (given_notes o)) a.plays
+    ∙ append_assoc e.notes came plays_so in (
+      with_command plan (heard_again plan h e),
+      as_announced h a,
+      subst (λ (l : List Note). IsThinned l (notes ++ note.Heard free ∷ plays_so)) (sym noted_so)
+          (frees (e.notes ++ (came ++ plays_so)) notes front c true h free ends asks next.1 next.2
+          (thinned_more e.notes notes (came ++ plays_so) thin)),
+    )
+
+-- the same, if the state is asked next
+asks_on : Below → (plan : Plan) (e : Ends) (notes : List Note) (s : State) (groups : ℕ) (h free : Heard)
+    → given plan s ≡ Some (command.Status groups) → announced_state (Some h) s.stage ≡ Some free
+    → heard_last notes ≡ Some h → ticked s ≡ e.automation.state
+    → IsThinned e.notes (notes ++ note.Sent (command.Status groups) ∷ []) → (on : Ends) × GoesOn plan e on
+    × IsThinned on.notes (notes ++ note.Sent (command.Status groups) ∷ note.Heard free ∷ note.Sent command.Play ∷ [])
+asks_on below plan e notes s groups h free gives ann last is thin =
+    let asks_so : List Note = note.Sent (command.Status groups) ∷ [] in
+    let next = below.comes plan s h free ann (wants_none plan s groups gives) in
+    let stays = ticked_twice plan s.stage s (command.Status groups) gives in
+    let (on, goes_on, thinned) = plays_on plan e (notes ++ asks_so) notes (command.Status groups) h free refl thin refl
+    (subst (λ (x : State). PlaysNext plan x h free) is
+    (ap (λ (x : State). given plan (came_to plan (Some h) (taken x))) stays.0 ∙ next.0, next.1, next.2))
+    (last_more None notes asks_so ∙ last) (ap (given plan) (sym is) ∙ stays.1) in
+    (on, goes_on, subst (IsThinned on.notes) (append_assoc notes asks_so (note.Heard free ∷ note.Sent command.Play ∷ [])) thinned)
+
+-- by what is open, comes next, is announced and was heard last, and what went out
+adds : Below → (plan : Plan) (e : Ends) (notes : List Note) (s : State) → AsksIf plan notes s (heard_last notes)
+    → (unended next : Option Command) (announced last : Option Heard) → awaited plan s ≡ unended → given plan s ≡ next
+    → announced_state last s.stage ≡ announced → heard_last notes ≡ last → (unkept : List Note)
+    → AreUnkept unended next announced unkept → IsThinned e.notes (notes ++ unkept)
+    → AllTold plan s unkept → after_notes plan s unkept ≡ e.automation.state
+    → Adds plan e notes (unkept_notes unended next announced)
+adds below plan e notes s so (Some c) next (Some free) (Some h) waits gives ann last _ safe.none thin told is =
+    let q = so h c last waits in
+    let (on, goes_on, thinned) = plays_on plan e notes q.front c h free q.ends
+    (subst (IsThinned e.notes) (append-nil notes) thin) (awaits_state plan s (Some h) free c ann waits)
+    (subst (λ (x : State). PlaysNext plan x h free) is (below.comes plan s h free ann q.goes_on)) last
+    (ap (given plan) (sym is) ∙ gives_none plan s c waits) in
+    record { on = on; goes_on = as_kept goes_on; thinned = thinned }
+adds below plan e notes s so (Some c) next (Some free) (Some h) waits gives ann last _ (safe.hears x) thin told is =
+    let q = so h c last waits in
+    as_it_is plan e notes (note.Heard free ∷ note.Sent command.Play ∷ []) (frees e.notes notes q.front c false x free q.ends
+    (awaits_state plan s (Some h) free c ann waits) (heard_done plan s (Some h) free x c ann waits told.1.0)
+    (below.comes plan s h free ann q.goes_on).2 thin)
+adds below plan e notes s so None (Some (command.Status g)) (Some free) (Some h) waits gives ann last _ safe.none thin told is =
+    let (on, goes_on, thinned) = asks_on below plan (with_command plan e) notes s g h free gives ann last (ap ticked is)
+    (given_too plan e notes (command.Status g) (ap (given plan) (sym is) ∙ gives) thin) in
+    record { on = on; goes_on = as_given goes_on; thinned = thinned }
+adds below plan e notes s so None (Some (command.Status g)) (Some free) (Some h) waits gives ann last _ safe.asks thin told is =
+    let (on, goes_on, thinned) = asks_on below plan e notes s g h free gives ann last is thin in
+    record { on = on; goes_on = as_kept goes_on; thinned = thinned }
+adds below plan e notes s so None (Some (command.Status g)) (Some free) (Some h) waits gives ann last _
+    (safe.asks_and_hears x) thin told is =
+    as_it_is plan e notes (note.Sent (command.Status g) ∷ note.Heard free ∷ note.Sent command.Play ∷ [])
+    (before_play notes [] false (note.Sent (command.Status g)) (note.Heard x) (note.Heard free) refl
+    (heard_done plan (ticked s) (Some h) free x (command.Status g) (still_announced plan s (Some h) free g ann gives)
+    (given_awaited plan s.stage s (command.Status g) gives) told.1.1.0)
+    (below.comes plan s h free ann (wants_none plan s g gives)).2 thin)
+adds below plan e notes s so unended next (Some free) None waits gives ann last _ which thin told is =
+    absurd (grind arith)
+adds below plan e notes s so None (Some (command.Status g)) None heard waits gives ann last _ safe.none thin told is =
+    with_next plan e notes (command.Status g) (ap (given plan) (sym is) ∙ gives) thin
+adds below plan e notes s so None (Some (command.Status g)) None heard waits gives ann last _ safe.asks thin told is =
+    as_it_is plan e notes (note.Sent (command.Status g) ∷ []) thin
+adds below plan e notes s so None (Some command.Play) announced heard waits gives ann last _ safe.none thin told is =
+    with_next plan e notes command.Play (ap (given plan) (sym is) ∙ gives) thin
+adds below plan e notes s so None (Some command.Play) announced heard waits gives ann last _ safe.plays thin told is =
+    as_it_is plan e notes (note.Sent command.Play ∷ []) thin
+adds below plan e notes s so unended next announced heard waits gives ann last _ safe.none thin told is =
+    as_it_is plan e notes [] thin
+
+-- The loss.
+
+abbrev silence_if : Option Command → List Note
+silence_if None = []
+silence_if (Some c) = note.Silence ∷ []
+
+loss_so : (unended : Option Command) → loss_notes (Some Lost) false unended ≡ silence_if unended ++ note.End Lost ∷ []
+loss_so None = refl
+loss_so (Some c) = refl
+
+twice : (plan : Plan) (s : State) → timed_out plan (timed_out plan s) ≡ timed_out plan s
+twice plan s = same_state plan (timed_out plan s) (commands.timed_out plan s)
+
+loss_times : (plan : Plan) (s : State) (o : Option Outcome) (said : Bool) (unended : Option Command)
+    → timed_out plan (after_notes plan s (loss_notes o said unended)) ≡ timed_out plan s
+loss_times plan s o said unended = grind (arith, twice)
+
+-- the controller that notes make is this one, once what is open timed out
+record Alike (plan : Plan) (from on : State) : Type 0 where
+  times : timed_out plan from ≡ timed_out plan on
+  silent : notes_ended plan None on ≡ silence_if (awaited plan from)
+
+silenced : (plan : Plan) (s : State) (unended : Option Command) → awaited plan s ≡ unended
+    → IsTrue (is_some (ended_by plan None s)) → silence_if unended ≡ note.Silence ∷ []
+silenced plan s unended is some = grind arith
+
+alike : (plan : Plan) (from on : State) (unended : Option Command) → awaited plan on ≡ unended
+    → after_notes plan from (notes_ended plan None on) ≡ timed_out plan on
+    → AllTold plan from (notes_ended plan None on) → Alike plan from on
+alike plan from on unended is after told = grind (arith, twice, silenced)
+
+mends : (plan : Plan) (on : Ends) (notes : List Note) (from : State) (o : Option Outcome) (said : Bool)
+    → Alike plan from on.automation.state → outcome_of (timed_out plan from).stage ≡ o → IsThinned on.notes notes
+    → AreMended plan on (notes ++ loss_notes o said (awaited plan from))
+mends plan on notes from (Some Lost) false same is thin =
+    let unended : Option Command = awaited plan from in
+    let ends : List Note = notes_ended plan None on.automation.state in
+    subst (AreMended plan on)
+    (append_assoc notes ends (note.End Lost ∷ [])
+    ∙ ap (λ (l : List Note). notes ++ (l ++ note.End Lost ∷ [])) same.silent
+    ∙ ap (λ (l : List Note). notes ++ l) (sym (loss_so unended)))
+    (lost (thinned_more on.notes notes ends thin) (ap (λ (s : State). outcome_of s.stage) (sym same.times) ∙ is))
+mends plan on notes from o said same is thin = goes (subst (IsThinned on.notes) (sym (append-nil notes)) thin)
+
+-- All of it.
+
+pub joins : (plan : Plan) (port : ClockedPort) (asked : List Command) (e on : Ends) → AreJoined plan port asked e
+    → GoesOnGiven plan e on → AreJoined plan port asked (connected_anew plan (port_now on) on)
+joins plan port asked e on j (as_kept on_so) = went_on j (resumed on_so)
+joins plan port asked e on j (as_given on_so) = went_on (went_on j gave) (resumed on_so)
+
+pub is_mended : Below → (plan : Plan) (port : ClockedPort) (asked : List Command) (e : Ends) (journal : List Row)
+    (time : Moment) → CanJoin plan port asked → AreJoined plan port asked e → AreSafe plan e (last_run journal).rows
+    → IsMendedOf plan e ((last_run journal).rows ++ rows_at time (mended plan journal (last_run journal).rows))
+is_mended below plan port asked e journal time can j kept =
+    let rows : List Row = (last_run journal).rows in
+    let notes : List Note = notes_in rows in
+    let last : Option Heard = heard_last notes in
+    let s : State = after_notes plan start notes in
+    let s_is : after_rows plan start rows ≡ s = of_rows plan start rows in
+    let first = made below time plan port asked e can j notes kept.unkept kept.thinned in
+    let a = adds below plan e notes s
+    (asks_last plan [] start None notes kept.unkept first.told (λ h c is awaits. absurd (none_some is)))
+    (awaited plan s) (given plan s) (announced_state last s.stage) last refl refl refl refl kept.unkept
+    (subst (λ (x : State). MayLack plan x last kept.unkept) s_is kept.may_lack) kept.thinned
+    (told_behind plan start notes kept.unkept first.told) first.state_is in
+    let on : State = a.on.automation.state in
+    let unkept : List Note = unkept_at plan s last in
+    let from : State = after_notes plan s unkept in
+    let from_is : after_notes plan start (notes ++ unkept) ≡ from = after_more plan start notes unkept in
+    let said : Bool = is_said unkept (last_note journal) in
+    let ended : Option Outcome = outcome_of (timed_out plan from).stage in
+    let loss : List Note = loss_at plan from said in
+    let ends : List Note = notes_ended plan None on in
+    let later = made below time plan port asked (connected_anew plan (port_now a.on) a.on) can
+    (joins plan port asked e a.on j a.goes_on) (notes ++ unkept) ends (thinned_more a.on.notes (notes ++ unkept) ends a.thinned) in
+    let same : Alike plan from on = subst (λ (x : State). Alike plan x on) from_is
+    (alike plan (after_notes plan start (notes ++ unkept)) on (awaited plan on) refl later.state_is
+    (told_behind plan start (notes ++ unkept) ends later.told)) in
+    let more : List Row = rows ++ rows_at time (unkept ++ loss) in
+    let more_is : notes_in more ≡ (notes ++ unkept) ++ loss =
+    noted_behind rows (rows_at time (unkept ++ loss)) ∙ ap (λ (l : List Note). notes ++ l) (noted time (unkept ++ loss))
+    ∙ sym (append_assoc notes unkept loss) in
+    subst (λ (l : List Note). IsMendedOf plan e (rows ++ rows_at time l))
+    (sym (ap₂ (λ (x : State) (h : Option Heard). mended_at plan x (last_note journal) h) s_is
+    (sym (runs_heard first_run journal))))
+    (record {
+      on = a.on;
+      goes_on = a.goes_on;
+      mended = subst (AreMended plan a.on) (sym more_is)
+          (mends plan a.on (notes ++ unkept) from ended said same refl a.thinned);
+      makes = ap (timed_out plan) (of_rows plan start more ∙ ap (after_notes plan start) more_is
+          ∙ after_more plan start (notes ++ unkept) loss ∙ ap (λ (x : State). after_notes plan x loss) from_is)
+          ∙ loss_times plan from ended said (awaited plan from) ∙ same.times;
+    })

@@ -1,0 +1,59 @@
+-- What a killed automation goes on as, whose rows are what is safe in its journal, and what going on writes behind them.
+use Rattle.std.specs.Prelude.{ℕ, ◌≡◌, List, [], ◌∷◌, ◌++◌, Option, None, Some}
+use Rattle.vdcp_words.specs.declared.command.Command.{Command}
+use Rattle.vdcp_words.specs.declared.command.Command.TheVariants as command
+use Rattle.vdcp_auto.specs.Plan.{Plan}
+use Rattle.vdcp_auto.specs.State.{State}
+use Rattle.vdcp_auto.specs.Turn.{awaited, given, outcome_of, start}
+use Rattle.vdcp_auto.specs.declared.exchange.Heard.{Heard}
+use Rattle.vdcp_auto.specs.declared.outcome.Outcome.TheVariants.{Lost}
+use Rattle.vdcp_journal.specs.Mending.{announced_state}
+use Rattle.vdcp_journal.specs.Resume.{after_rows, timed_out}
+use Rattle.vdcp_journal.specs.Thinned.{IsThinned, heard_last, notes_in}
+use Rattle.vdcp_journal.specs.declared.row.Note.{Note}
+use Rattle.vdcp_journal.specs.declared.row.Note.TheVariants as note
+use Rattle.vdcp_journal.specs.declared.row.Row.{Row}
+use Rattle.vdcp_laws.specs.TwoEnds.{Ends, GoesOn, notes_ended, with_command}
+
+-- What may have gone out behind rows, by the command that is open, the one that is given next, and the state that announces a
+-- PLAY: nothing; the next command, if it asks for the state or is a PLAY; and, if one is announced, a PLAY, once something was
+-- heard.
+pub data AreUnkept : (asked next : Option Command) → Option Heard → List Note → Type 0 where
+  none : {asked next : Option Command} {announced : Option Heard} → AreUnkept asked next announced []
+  asks : {groups : ℕ} {announced : Option Heard}
+      → AreUnkept None (Some (command.Status groups)) announced (note.Sent (command.Status groups) ∷ [])
+  plays : {announced : Option Heard} → AreUnkept None (Some command.Play) announced (note.Sent command.Play ∷ [])
+  hears : {asks : Command} {next : Option Command} {state : Heard} (h : Heard)
+      → AreUnkept (Some asks) next (Some state) (note.Heard h ∷ note.Sent command.Play ∷ [])
+  asks_and_hears : {groups : ℕ} {state : Heard} (h : Heard)
+      → AreUnkept None (Some (command.Status groups)) (Some state)
+      (note.Sent (command.Status groups) ∷ note.Heard h ∷ note.Sent command.Play ∷ [])
+
+-- behind rows that make this controller, and of which that was heard last
+abbrev pub MayLack : Plan → State → Option Heard → List Note → Type 0
+MayLack plan state heard = AreUnkept (awaited plan state) (given plan state) (announced_state heard state.stage)
+
+-- these rows are a journal of what the automation gave and heard, but for what may have gone out since
+pub record AreSafe (plan : Plan) (e : Ends) (rows : List Row) : Type 0 where
+  pub unkept : List Note
+  pub may_lack : MayLack plan (after_rows plan start rows) (heard_last (notes_in rows)) unkept
+  pub thinned : IsThinned e.notes (notes_in rows ++ unkept)
+
+-- it goes on as it was, or with its next command taken for given
+pub data GoesOnGiven (plan : Plan) (e : Ends) : Ends → Type 0 where
+  as_kept : {on : Ends} → GoesOn plan e on → GoesOnGiven plan e on
+  as_given : {on : Ends} → GoesOn plan (with_command plan e) on → GoesOnGiven plan e on
+
+-- these notes are a journal of what goes on; or of that once what is open timed out, by which it was lost, and then say so
+pub data AreMended (plan : Plan) (on : Ends) : List Note → Type 0 where
+  goes : {notes : List Note} → IsThinned on.notes notes → AreMended plan on notes
+  lost : {notes : List Note} → IsThinned (on.notes ++ notes_ended plan None on.automation.state) notes
+      → outcome_of (timed_out plan on.automation.state).stage ≡ Some Lost
+      → AreMended plan on (notes ++ note.End Lost ∷ [])
+
+-- the rows are a journal of ends that go on from these, and make their controller, with what is open timed out
+pub record IsMendedOf (plan : Plan) (e : Ends) (rows : List Row) : Type 0 where
+  pub on : Ends
+  pub goes_on : GoesOnGiven plan e on
+  pub mended : AreMended plan on (notes_in rows)
+  pub makes : timed_out plan (after_rows plan start rows) ≡ timed_out plan on.automation.state
