@@ -1,27 +1,20 @@
 -- The PLAY that the state heard last announces, and that may have gone out without its row.
-use Rattle.std.proofs.Common.{◌≡◌, ℕ, ◌+◌, arith, All, Bool, true, false, List, [], ◌∷◌, ◌++◌, Option, None, Some, append-nil, append_assoc, refl, sym, ap, ap₂, length, subst, ◌∙◌, true≢false}
+use Rattle.std.proofs.Common.{◌≡◌, ℕ, arith, All, Bool, true, false, List, [], ◌∷◌, ◌++◌, Option, None, Some, append-nil, append_assoc, refl, sym, ap, ap₂, length, subst, ◌∙◌, true≢false}
 use Rattle.std.specs.Option.{option_map, option_to_list}
-use Rattle.std.specs.Prelude.{IsSome, IsTrue, if◌then◌else◌, is_some, not, ◌&&◌, remove}
-use Rattle.std.specs.Prelude.{nat_le, slice_get}
-use Rattle.vdcp_value.specs.declared.clip_id.ClipId.{ClipId}
+use Rattle.std.specs.Prelude.{IsSome, IsTrue, is_some, ◌&&◌, remove}
 use Rattle.vdcp_value.specs.declared.part.Item.{Item}
-use Rattle.vdcp_value.specs.declared.part.Part.{Part}
-use Rattle.vdcp_auto.specs.Commands.{cue_for, cue_of, is_sense}
-use Rattle.vdcp_auto.specs.Log.{answer_in, is_counted}
 use Rattle.vdcp_auto.specs.Table.{on_no_answer, on_refusal, on_reply}
-use Rattle.vdcp_auto.specs.declared.outcome.Outcome.TheVariants.{Lost}
 use Rattle.vdcp_auto.specs.declared.phase.Phase.{Phase}
 use Rattle.vdcp_auto.specs.declared.phase.Phase.TheVariants as phase
-use Rattle.vdcp_auto.specs.declared.phase.Transition.TheVariants.{Ends}
 use Rattle.vdcp_world.specs.LateLine.Asking.{asked_in}
 use Rattle.vdcp_world.specs.LateLine.Asking.{Question}
 use Rattle.vdcp_world.specs.LateLine.Asking as question
 use Rattle.vdcp_auto.specs.Course.{logged}
 use Rattle.vdcp_auto.specs.Heard.{heard_in}
 use Rattle.vdcp_auto.specs.Plan.{Plan}
-use Rattle.vdcp_auto.specs.Replies.{is_receipt, is_refusal}
+use Rattle.vdcp_auto.specs.Replies.{is_receipt}
 use Rattle.vdcp_auto.specs.State.{Stage, Ready, Awaiting, Ended, State}
-use Rattle.vdcp_auto.specs.Turn.{awaited, came_to, ended_by, ended_in, exchange_of, given, given_in, phase_to_send, stage_after, taken, tick_in, ticked, transition_of, transition_on}
+use Rattle.vdcp_auto.specs.Turn.{awaited, came_to, ended_by, exchange_of, given, given_in, phase_to_send, stage_after, taken, tick_in, ticked, transition_on}
 use Rattle.vdcp_auto.specs.declared.exchange.Exchange.{Exchange}
 use Rattle.vdcp_auto.specs.declared.exchange.Heard.{Heard}
 use Rattle.vdcp_auto.specs.declared.exchange.Heard.TheVariants as heard
@@ -52,28 +45,12 @@ use Rattle.vdcp_world.specs.Channel.{log_hearing, log_straying, state_hearing, s
 -- the port's unit
 unit_stays : UnitStays → (c : LateChannel) (e : LateEvent)
     → (after_late_event c e).port.state.unit ≡ c.port.state.unit
-unit_stays stays c event.Tick = refl
-unit_stays stays c (event.Ask question) = refl
 unit_stays stays c event.Down = stays.0 c.port (oldest c.down)
-unit_stays stays c event.Up = refl
 unit_stays stays c event.DownCopy = stays.0 c.port (oldest c.down)
-unit_stays stays c event.UpCopy = refl
-unit_stays stays c (event.LoseDown place) = refl
-unit_stays stays c (event.LoseUp place) = refl
-unit_stays stays c (event.AlterDown place bytes) = refl
-unit_stays stays c (event.AlterUp place bytes) = refl
-unit_stays stays c (event.JunkDown place bytes) = refl
-unit_stays stays c (event.JunkUp place bytes) = refl
-unit_stays stays c event.Timeout = refl
 unit_stays stays c event.Ready = stays.2 c.port
 unit_stays stays c event.End = stays.3 c.port
 unit_stays stays c event.Frame = stays.1 c.port
-unit_stays stays c event.Take = refl
-unit_stays stays c event.Stop = refl
-unit_stays stays c event.ServerAnew = refl
-unit_stays stays c event.AutomationAnew = refl
-unit_stays stays c event.StrayAck = refl
-unit_stays stays c (event.StrayNak byte) = refl
+unit_stays stays c other = refl
 
 -- The state is asked, and what was heard last is heard again, after a take: with the request, which may still be on its way.
 
@@ -126,20 +103,15 @@ none_some is = cc is
 -- a command that was given is awaited
 pub ticked_twice : (plan : Plan) (stage : Stage) (s : State) (q : Command) → given_in plan s.stop stage ≡ Some q
     → (ticked (tick_in stage s) ≡ tick_in stage s) × (given plan (tick_in stage s) ≡ None)
-ticked_twice plan (Ready p) s q is = (refl, refl)
-ticked_twice plan (Awaiting p) s q is = cc is
-ticked_twice plan (Ended outcome) s q is = cc is
+ticked_twice plan stage s q is = grind arith
 
 none_given : (plan : Plan) (stage : Stage) (s : State) → s.stage ≡ stage → given plan (taken (tick_in stage s)) ≡ None
-none_given plan (Ready p) s is = refl
-none_given plan (Awaiting p) s is = ap (given_in plan s.stop) is
-none_given plan (Ended outcome) s is = ap (given_in plan s.stop) is
+none_given plan stage s is = grind arith
 
 -- what is heard ends an exchange, since PLAY comes after it
 ends_if : (plan : Plan) (s : State) (c : Command) (by : Option Exchange) → given plan s ≡ None
     → given plan (left_by plan s by) ≡ Some c → IsSome by
-ends_if plan s c None none gives = absurd (none_some (sym none ∙ gives))
-ends_if plan s c (Some e) none gives = refl
+ends_if plan s c by none gives = grind arith
 
 pub ends_again : (plan : Plan) (s : State) (h : Heard) → Plays plan s h
     → IsSome (ended_by plan (Some h) (taken (ticked s)))
@@ -149,9 +121,7 @@ ends_again plan s h plays =
 
 awaits_none : (plan : Plan) (stage : Stage) (s : State) → s.stage ≡ stage → awaited plan s ≡ None
     → given_in plan s.stop stage ≡ None → awaited plan (tick_in stage s) ≡ None
-awaits_none plan (Ready p) s is none gives = gives
-awaits_none plan (Awaiting p) s is none gives = none
-awaits_none plan (Ended outcome) s is none gives = none
+awaits_none plan stage s is none gives = grind arith
 
 gives_some : (plan : Plan) (s : State) (h : Heard) (gives : Option Command) → given plan s ≡ gives
     → awaited plan s ≡ None → Plays plan s h → (q : Command) × (given plan s ≡ Some q)
@@ -265,11 +235,7 @@ and_false false = refl
 
 receipt_ends : (mode : Mode) (r : Reply) (asks : Option Command) → mode ≡ Confirming → is_receipt r ≡ true
     → exchange_of mode (Some (heard.Reply r)) asks ≡ None
-receipt_ends mode r None is receipt = refl
-receipt_ends mode r (Some q) is receipt =
-    ap (λ (m : Mode). exchange_of m (Some (heard.Reply r)) (Some q)) is
-    ∙ ap (λ (b : Bool). if b then Some (record { command = q; heard = Some (heard.Reply r) }) else None)
-    (ap (λ (b : Bool). is_sense q && not b) receipt ∙ and_false (is_sense q))
+receipt_ends mode r asks is receipt = grind arith
 
 record Strays (c : LateChannel) (mode : Mode) (r : Reply) : Type 0 where
   notes_are : stray_notes c mode r ≡ []
@@ -365,107 +331,42 @@ from_play (phase.Wait k) = true
 from_play (phase.Probe k) = true
 from_play _ = false
 
-no_id : (o : Option Item) → option_map (λ item. command.IdRequest item.id) o ≡ Some command.Play → ⊥
-no_id None is = cc is
-no_id (Some item) is = cc is
-
 pub one_is : {c d : Command} → Some c ≡ Some d → c ≡ d
 one_is is = cc
 
-not_play : (id : ClipId) (part : Option Part) → cue_for id part ≡ command.Play → ⊥
-not_play id None is = cc is
-not_play id (Some part) is = cc is
-
-no_cue : (o : Option Item) → option_map cue_of o ≡ Some command.Play → ⊥
-no_cue None is = cc is
-no_cue (Some item) is = not_play item.id item.part (one_is is)
-
 pub after_play : (plan : Plan) (stop : Bool) (stage : Stage) → given_in plan stop stage ≡ Some command.Play
     → to_play stage ≡ true
-after_play plan true (Ready p) is = cc is
-after_play plan false (Ready (phase.Play k)) is = refl
-after_play plan false (Ready (phase.Exists k)) is = absurd (no_id (slice_get plan.list k) is)
-after_play plan false (Ready (phase.Cue k)) is = absurd (no_cue (slice_get plan.list k) is)
-after_play plan false (Ready p) is = cc is
-after_play plan stop (Awaiting p) is = cc is
-after_play plan stop (Ended outcome) is = cc is
+after_play plan stop stage is = grind arith
 
 on_reply_plays : (mode : Mode) (list : List Item) (limit : ℕ) (take : Bool) (tries : ℕ) (p : Phase) (r : Reply)
     → to_play (stage_after (on_reply mode list limit take tries p r)) ≡ true → from_play p ≡ true
-on_reply_plays mode list limit take tries (phase.Wait k) r e = refl
-on_reply_plays mode list limit take tries (phase.Probe k) r e = refl
-on_reply_plays mode list limit take tries phase.Open r e = grind (arith)
-on_reply_plays mode list limit take tries phase.Select r e = grind (arith)
-on_reply_plays mode list limit take tries phase.Seen r e = grind (arith)
-on_reply_plays mode list limit take tries (phase.Exists k) r e = grind (arith)
-on_reply_plays mode list limit take tries (phase.Check k) r e = grind (arith)
-on_reply_plays mode list limit take tries phase.Drain r e = grind (arith)
-on_reply_plays mode list limit take tries p r e = cc
+on_reply_plays mode list limit take tries p r e = grind arith
 
 pub on_refusal_plays : (n : ℕ) (p : Phase) → to_play (stage_after (on_refusal n p)) ≡ true → from_play p ≡ true
-on_refusal_plays n phase.Halt e = cc
-on_refusal_plays n p e = cc
+on_refusal_plays n p e = grind arith
 
 pub on_silence_plays : (mode : Mode) (p : Phase) → to_play (stage_after (on_no_answer mode p)) ≡ true → from_play p ≡ true
-on_silence_plays Plain (phase.Wait k) e = refl
-on_silence_plays Plain (phase.Probe k) e = refl
-on_silence_plays Plain (phase.Play k) e = cc
-on_silence_plays Plain p e = cc
-on_silence_plays Confirming (phase.Wait k) e = refl
-on_silence_plays Confirming (phase.Probe k) e = refl
-on_silence_plays Confirming (phase.Play k) e = cc
-on_silence_plays Confirming p e = cc
+on_silence_plays mode p e = grind arith
 
 leads_to_play : (plan : Plan) (take : Bool) (tries unanswered : ℕ) (counts : Bool) (p : Phase) (o : Option Reply)
     → to_play (stage_after (transition_on plan take tries unanswered counts p o)) ≡ true → from_play p ≡ true
-leads_to_play plan take tries unanswered counts p (Some r) = by (is_refusal r)
-  where
-    by : (b : Bool) → to_play (stage_after (if b then on_refusal (length plan.list) p
-        else on_reply plan.mode plan.list plan.limit take tries p r)) ≡ true → from_play p ≡ true
-    by true e = on_refusal_plays (length plan.list) p e
-    by false e = on_reply_plays plan.mode plan.list plan.limit take tries p r e
-leads_to_play plan take tries unanswered counts p None = by (counts && nat_le plan.limit (unanswered + 1))
-  where
-    by : (b : Bool) → to_play (stage_after (if b then Ends Lost else on_no_answer plan.mode p)) ≡ true
-        → from_play p ≡ true
-    by true e = cc
-    by false e = on_silence_plays plan.mode p e
+leads_to_play plan take tries unanswered counts p o e = grind (arith, on_refusal_plays, on_reply_plays, on_silence_plays)
 
 -- the controller awaits the answer to this phase's command
 came_play : (plan : Plan) (p : Phase) (t : State) (by : Option Exchange) → t.stage ≡ Awaiting p
     → given plan (left_by plan t by) ≡ Some command.Play
     → (to_play (left_by plan t by).stage ≡ true) × (from_play p ≡ true)
-came_play plan p t None at is =
-    absurd (none_some (sym (ap (given_in plan t.stop) at) ∙ is))
-came_play plan p t (Some e) at is =
-    subst (λ (stage : Stage). given plan (ended_in plan stage e t) ≡ Some command.Play
-    → (to_play (ended_in plan stage e t).stage ≡ true) × (from_play p ≡ true)) (sym at) here is
-  where
-    here : given plan (ended_in plan (Awaiting p) e t) ≡ Some command.Play
-        → (to_play (ended_in plan (Awaiting p) e t).stage ≡ true) × (from_play p ≡ true)
-    here is =
-        let goes = after_play plan t.stop (stage_after (transition_of plan t p e)) is in (
-          goes,
-          leads_to_play plan t.take t.tries t.unanswered (is_counted plan.mode e) p (answer_in e) goes,
-        )
+came_play plan p t by at is = grind (arith, leads_to_play, after_play)
 
 asks_there : (plan : Plan) (stage : Stage) → to_play stage ≡ true
     → asked_in plan question.State stage ≡ Some (command.Status 1)
-asks_there plan (Ready (phase.Play k)) e = refl
-asks_there plan stage e = cc
+asks_there plan stage e = grind arith
 
 -- asks the state, as its controller would, if what it asks leads to PLAY
 asks_as_it : (plan : Plan) (stop : Bool) (p : Phase) (asks : Question) (d : Command)
     → from_play (phase_to_send stop p) ≡ true → asked_in plan asks (Ready p) ≡ Some d
     → (asks ≡ question.State) × (d ≡ command.Status 1) × (given_in plan stop (Ready p) ≡ Some (command.Status 1))
-asks_as_it plan true p asks d e is = absurd (true≢false (sym e))
-asks_as_it plan false (phase.Wait k) question.State d e is = (refl, sym (one_is is), refl)
-asks_as_it plan false (phase.Probe k) question.State d e is = (refl, sym (one_is is), refl)
-asks_as_it plan false (phase.Wait k) question.Open d e is = absurd (none_some is)
-asks_as_it plan false (phase.Probe k) question.Open d e is = absurd (none_some is)
-asks_as_it plan false (phase.Wait k) question.Select d e is = absurd (none_some is)
-asks_as_it plan false (phase.Probe k) question.Select d e is = absurd (none_some is)
-asks_as_it plan false p asks d e is = absurd (true≢false (sym e))
+asks_as_it plan stop p asks d e is = grind arith
 
 record AsksSame (plan : Plan) (s : State) (h : Heard) (asks : Question) (d : Command) : Type 0 where
   gives : given plan s ≡ Some d

@@ -1,11 +1,11 @@
 -- What a journal's notes make of a new controller is the controller that runs.
-use Rattle.std.proofs.Common.{◌≡◌, Bool, true, List, [], ◌∷◌, ◌++◌, Option, None, Some, refl, sym, ap, subst, ◌∙◌}
-use Rattle.std.specs.Option.{option_map, option_map_or, option_to_list}
-use Rattle.std.specs.Prelude.{IsSome, if◌then◌else◌, is_some}
+use Rattle.std.proofs.Common.{◌≡◌, arith, Bool, List, [], ◌∷◌, ◌++◌, Option, None, Some, refl, sym, ap, subst, ◌∙◌}
+use Rattle.std.specs.Option.{option_map, option_to_list}
+use Rattle.std.specs.Prelude.{IsSome, is_some}
 use Rattle.vdcp_auto.specs.Heard.{heard_in}
 use Rattle.vdcp_auto.specs.Plan.{Plan}
-use Rattle.vdcp_auto.specs.State.{Stage, Ready, Awaiting, Ended, State}
-use Rattle.vdcp_auto.specs.Turn.{awaited, came_to, ended_by, ended_in, awaited_in, exchange_of, given, given_in, is_end, start, tick_in, ticked}
+use Rattle.vdcp_auto.specs.State.{Stage, State}
+use Rattle.vdcp_auto.specs.Turn.{awaited, came_to, ended_by, given, given_in, start, tick_in, ticked}
 use Rattle.vdcp_auto.specs.declared.exchange.Exchange.{Exchange}
 use Rattle.vdcp_auto.specs.declared.exchange.Heard.{Heard}
 use Rattle.vdcp_auto.specs.declared.exchange.Heard.TheVariants as heard
@@ -39,9 +39,7 @@ after_more plan state (note ∷ notes) more = after_more plan (after_call_if pla
 -- what came, or a time-out
 ended : (plan : Plan) (state : State) (came : Option Heard) (by : Option Exchange) → ended_by plan came state ≡ by
     → after_notes plan state (end_notes came by) ≡ came_to plan came state
-ended plan state came None is = ap (λ by. option_map_or (λ e. ended_in plan state.stage e state) by state) (sym is)
-ended plan state (Some h) (Some e) is = refl
-ended plan state None (Some e) is = refl
+ended plan state came by is = grind arith
 
 heard_then : (c : LateChannel) (came : Option Heard)
     → after_notes c.plan c.state (heard_notes c came) ≡ state_hearing c.plan came c.state
@@ -55,57 +53,14 @@ strayed c Confirming receipt = heard_then c (Some (heard.Reply receipt))
 
 ticked_then : (c : LateChannel) (command : Option Command) → given c.plan c.state ≡ command → IsSome command
     → after_notes c.plan c.state (option_to_list (option_map (λ x. note.Sent x) command)) ≡ ticked c.state
-ticked_then c None is some = cc some
-ticked_then c (Some command) is some = refl
+ticked_then c command is some = grind arith
 
 noted : (c : LateChannel) (e : LateEvent) → IsOfRun c e
     → after_notes c.plan c.state (notes_of c e) ≡ (after_late_event c e).state
-noted c event.Tick of_run = ticked_then c (given c.plan c.state) refl of_run
-noted c (event.Ask question) of_run = refl
-noted c event.Down of_run = refl
-noted c event.Up of_run = heard_then c (heard_in c.port.state.unit (oldest c.up))
-noted c event.DownCopy of_run = refl
-noted c event.UpCopy of_run = heard_then c (heard_in c.port.state.unit (oldest c.up))
-noted c (event.LoseDown place) of_run = refl
-noted c (event.LoseUp place) of_run = refl
-noted c (event.AlterDown place bytes) of_run = refl
-noted c (event.AlterUp place bytes) of_run = refl
-noted c (event.JunkDown place bytes) of_run = refl
-noted c (event.JunkUp place bytes) of_run = refl
-noted c event.Timeout of_run = ended c.plan c.state None (ended_by c.plan None c.state) refl
-noted c event.Ready of_run = refl
-noted c event.End of_run = refl
-noted c event.Frame of_run = refl
-noted c event.Take of_run = refl
-noted c event.Stop of_run = refl
-noted c event.ServerAnew of_run = refl
-noted c event.AutomationAnew of_run = absurd of_run
-noted c event.StrayAck of_run = strayed c c.plan.mode Ack
-noted c (event.StrayNak byte) of_run = strayed c c.plan.mode (Nak byte)
+noted c e of_run = grind (arith, heard_then, strayed, ended, ticked_then)
 
 pub plan_stays : (c : LateChannel) (e : LateEvent) → (after_late_event c e).plan ≡ c.plan
-plan_stays c event.Tick = refl
-plan_stays c (event.Ask question) = refl
-plan_stays c event.Down = refl
-plan_stays c event.Up = refl
-plan_stays c event.DownCopy = refl
-plan_stays c event.UpCopy = refl
-plan_stays c (event.LoseDown place) = refl
-plan_stays c (event.LoseUp place) = refl
-plan_stays c (event.AlterDown place bytes) = refl
-plan_stays c (event.AlterUp place bytes) = refl
-plan_stays c (event.JunkDown place bytes) = refl
-plan_stays c (event.JunkUp place bytes) = refl
-plan_stays c event.Timeout = refl
-plan_stays c event.Ready = refl
-plan_stays c event.End = refl
-plan_stays c event.Frame = refl
-plan_stays c event.Take = refl
-plan_stays c event.Stop = refl
-plan_stays c event.ServerAnew = refl
-plan_stays c event.AutomationAnew = refl
-plan_stays c event.StrayAck = refl
-plan_stays c (event.StrayNak byte) = refl
+plan_stays c e = grind arith
 
 pub plan_stays_in : (c : LateChannel) (events : List LateEvent) → (after_late_events c events).plan ≡ c.plan
 plan_stays_in c [] = refl
@@ -159,27 +114,15 @@ tick_told c (Some command) is = (is, tt)
 
 event_told : (c : LateChannel) (e : LateEvent) → IsOfRun c e → AllTold c.plan c.state (notes_of c e)
 event_told c event.Tick of_run = tick_told c (given c.plan c.state) refl
-event_told c (event.Ask question) of_run = tt
-event_told c event.Down of_run = tt
 event_told c event.Up of_run = heard_told c (heard_in c.port.state.unit (oldest c.up))
-event_told c event.DownCopy of_run = tt
 event_told c event.UpCopy of_run = heard_told c (heard_in c.port.state.unit (oldest c.up))
-event_told c (event.LoseDown place) of_run = tt
-event_told c (event.LoseUp place) of_run = tt
-event_told c (event.AlterDown place bytes) of_run = tt
-event_told c (event.AlterUp place bytes) of_run = tt
-event_told c (event.JunkDown place bytes) of_run = tt
-event_told c (event.JunkUp place bytes) of_run = tt
 event_told c event.Timeout of_run = end_told c.plan c.state None (ended_by c.plan None c.state) refl
-event_told c event.Ready of_run = tt
-event_told c event.End of_run = tt
-event_told c event.Frame of_run = tt
 event_told c event.Take of_run = (of_run, tt)
 event_told c event.Stop of_run = (of_run, tt)
-event_told c event.ServerAnew of_run = tt
 event_told c event.AutomationAnew of_run = absurd of_run
 event_told c event.StrayAck of_run = stray_told c c.plan.mode Ack
 event_told c (event.StrayNak byte) of_run = stray_told c c.plan.mode (Nak byte)
+event_told c other of_run = tt
 
 -- notes that tell what the controller does after those of a run
 more_told : (c : LateChannel) (plan : Plan) (notes more : List Note) → plan ≡ c.plan → IsRun c notes
@@ -206,32 +149,20 @@ rows_make c rows run = of_rows c.plan start rows ∙ journaled c (notes_in rows)
 
 pub given_awaited : (plan : Plan) (stage : Stage) (s : State) (q : Command) → given_in plan s.stop stage ≡ Some q
     → awaited plan (tick_in stage s) ≡ Some q
-given_awaited plan (Ready p) s q is = is
-given_awaited plan (Awaiting p) s q is = cc is
-given_awaited plan (Ended outcome) s q is = cc is
+given_awaited plan stage s q is = grind arith
 
 pub none_awaited : (plan : Plan) (stage : Stage) (stop : Bool) (s : State) (q : Command) → s.stage ≡ stage
     → given_in plan stop stage ≡ Some q → awaited plan s ≡ None
-none_awaited plan (Ready p) stop s q at is = ap (awaited_in plan) at
-none_awaited plan (Awaiting p) stop s q at is = cc is
-none_awaited plan (Ended outcome) stop s q at is = cc is
-
-pub silence_ends : (mode : Mode) (q : Command) → is_end mode q None ≡ true
-silence_ends Plain q = refl
-silence_ends Confirming q = refl
+none_awaited plan stage stop s q at is = grind arith
 
 pub no_silence : (c : LateChannel) → awaited c.plan c.state ≡ None → silence_notes c ≡ []
-no_silence c none = ap (λ (o : Option Command). end_notes None (exchange_of c.plan.mode None o)) none
+no_silence c none = grind arith
 
 pub one_silence : (c : LateChannel) (q : Command) → awaited c.plan c.state ≡ Some q → silence_notes c ≡ note.Silence ∷ []
-one_silence c q is =
-    ap (λ (o : Option Command). end_notes None (exchange_of c.plan.mode None o)) is
-    ∙ ap (λ (b : Bool). end_notes None (if b then Some (record { command = q; heard = None }) else None))
-    (silence_ends c.plan.mode q)
+one_silence c q is = grind arith
 
 pub same_state : (plan : Plan) (s : State) → awaited plan s ≡ None → came_to plan None s ≡ s
-same_state plan s none =
-    ap (λ (o : Option Command). option_map_or (λ e. ended_in plan s.stage e s) (exchange_of plan.mode None o) s) none
+same_state plan s none = grind arith
 
 -- the command is given
 pub asked : (c : LateChannel) (notes : List Note) (q : Command) → IsRun c notes → given c.plan c.state ≡ Some q

@@ -1,19 +1,19 @@
 -- An automation that is killed goes on as it was when the last of what is safe was noted.
-use Rattle.std.proofs.Common.{◌≡◌, Bool, true, List, [], ◌∷◌, ◌++◌, map, append_assoc, refl, sym, ap, ap₂, subst, ◌∙◌}
+use Rattle.std.proofs.Common.{◌≡◌, arith, Bool, true, List, [], ◌∷◌, ◌++◌, map, append_assoc, refl, sym, ap, ap₂, subst, ◌∙◌}
 use Rattle.std.specs.Option.{option_map, option_to_list}
-use Rattle.std.specs.Prelude.{IsSome, Option, None, Some, if◌then◌else◌}
+use Rattle.std.specs.Prelude.{IsSome, Option, None, Some}
 use Rattle.vdcp_value.specs.declared.part.Item.{Item}
 use Rattle.vdcp_port.specs.Clock.{ClockedPort}
 use Rattle.vdcp_auto.specs.Plan.{Plan}
-use Rattle.vdcp_auto.specs.State.{Stage, Ready, Awaiting, Ended, State}
-use Rattle.vdcp_auto.specs.Turn.{awaited, ended_by, exchange_of, given, given_in, is_ready, start, taken, ticked}
+use Rattle.vdcp_auto.specs.State.{Stage, State}
+use Rattle.vdcp_auto.specs.Turn.{awaited, ended_by, given, given_in, is_ready, start, taken, ticked}
 use Rattle.vdcp_auto.specs.declared.exchange.Exchange.{Exchange}
 use Rattle.vdcp_auto.specs.declared.exchange.Heard.{Heard}
 use Rattle.vdcp_journal.specs.declared.row.Note.{Note}
 use Rattle.vdcp_journal.specs.declared.row.Note.TheVariants as note
 use Rattle.vdcp_wire.specs.Wires.{bytes, silence}
 use Rattle.vdcp_drive.specs.Traces.{bytes_of}
-use Rattle.vdcp_drive.specs.Steps.{end_of, given_notes}
+use Rattle.vdcp_drive.specs.Steps.{given_notes}
 use Rattle.vdcp_words.specs.declared.command.Command.{Command}
 use Rattle.vdcp_words.specs.declared.command.Command.TheVariants as command
 use Rattle.vdcp_drive.specs.Serving.{begins, items_in, left_by, hook_steps}
@@ -23,7 +23,7 @@ use Rattle.vdcp_laws.specs.TwoEnds.{gave, asks, came_up, came_down, waited, pass
 use Rattle.vdcp_laws.specs.Announced.{Announces, came_again, played_notes}
 use Rattle.vdcp_laws.specs.Automation.{end_notes}
 use Rattle.vdcp_laws.proofs.Announced.{ends_again, sent_of}
-use Rattle.vdcp_laws.proofs.Commands.{commands_listens, ends_alone}
+use Rattle.vdcp_laws.proofs.Commands.{commands_listens}
 use Rattle.vdcp_laws.proofs.Journaled.{given_awaited, rows_make, told}
 use Rattle.vdcp_laws.specs.Kills.{IsRun}
 use Rattle.vdcp_journal.specs.Resume.{AreTold, after_rows}
@@ -107,21 +107,15 @@ kept_aired plan port asked kept now j since =
 
 sent_so : (gives : Option Command)
     → map note_for (given_notes gives) ≡ option_to_list (option_map (λ c. note.Sent c) gives)
-sent_so None = refl
-sent_so (Some c) = refl
+sent_so gives = grind arith
 
 heard_so : (plan : Plan) (s : State) (h : Heard) (by : Option Exchange) → ended_by plan (Some h) s ≡ by → IsSome by
     → map note_for (end_notes by) ≡ note.Heard h ∷ []
-heard_so plan s h None is some = cc some
-heard_so plan s h (Some e) is some =
-    ap (λ (o : Option Heard). note_for (end_of o) ∷ []) (sym (heard_is plan.mode (Some h) (awaited plan s) e is))
+heard_so plan s h by is some = grind (arith, heard_is)
 
 pub silent_so : (plan : Plan) (s : State) (q : Command) → awaited plan s ≡ Some q
     → notes_ended plan None s ≡ note.Silence ∷ []
-silent_so plan s q is =
-    ap (λ (o : Option Command). map note_for (end_notes (exchange_of plan.mode None o))) is
-    ∙ ap (λ (b : Bool). map note_for (end_notes (if b then Some (record { command = q; heard = None }) else None)))
-    (ends_alone plan.mode q)
+silent_so plan s q is = grind arith
 
 -- and before the PLAY
 pub again_noted : (plan : Plan) (e : Ends) (h : Heard) → Announces plan e.automation.state e.notes h
@@ -139,9 +133,7 @@ again_noted plan e h a =
 -- what gives a command is ready
 pub gives_ready : (plan : Plan) (stop : Bool) (stage : Stage) (q : Command) → given_in plan stop stage ≡ Some q
     → is_ready stage ≡ true
-gives_ready plan stop (Ready p) q is = refl
-gives_ready plan stop (Awaiting p) q is = cc is
-gives_ready plan stop (Ended outcome) q is = cc is
+gives_ready plan stop stage q is = grind arith
 
 pub played_noted : (plan : Plan) (port : ClockedPort) (e : Ends) (h : Heard)
     → Announces plan e.automation.state e.notes h
