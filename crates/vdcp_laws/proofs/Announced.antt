@@ -421,46 +421,22 @@ again_of stays h _ _ (happened {c} {notes} run (event.Ask question) of_run) last
     subst (IsAgain h (after_late_event c (event.Ask question))) (sym (append-nil notes))
     (asked_beside h c notes question (asked_in c.plan question c.state.stage) refl plays
     (again_of stays h c notes run before plays))
-again_of stays h _ _ (happened {c} {notes} run event.Down of_run) last plays =
-    passes stays h c notes event.Down tt refl refl refl (again_of stays h c notes run) last plays
 again_of stays h _ _ (happened {c} {notes} run event.Up of_run) last plays =
     came_up stays h c (after_late_event c event.Up) notes (heard_in c.port.state.unit (oldest c.up)) refl refl refl refl
     (happened run event.UpCopy tt) (λ s l more ns r. happened r event.Up tt)
     (still_again stays h c notes event.Up tt) (again_of stays h c notes run) last plays
-again_of stays h _ _ (happened {c} {notes} run event.DownCopy of_run) last plays =
-    passes stays h c notes event.DownCopy tt refl refl refl (again_of stays h c notes run) last plays
 again_of stays h _ _ (happened {c} {notes} run event.UpCopy of_run) last plays =
     came_up stays h c (after_late_event c event.UpCopy) notes (heard_in c.port.state.unit (oldest c.up)) refl refl refl refl
     (happened run event.UpCopy tt) (λ s l more ns r. happened r event.UpCopy tt)
     (still_again stays h c notes event.UpCopy tt) (again_of stays h c notes run) last plays
-again_of stays h _ _ (happened {c} {notes} run (event.LoseDown place) of_run) last plays =
-    passes stays h c notes (event.LoseDown place) tt refl refl refl (again_of stays h c notes run) last plays
-again_of stays h _ _ (happened {c} {notes} run (event.LoseUp place) of_run) last plays =
-    passes stays h c notes (event.LoseUp place) tt refl refl refl (again_of stays h c notes run) last plays
-again_of stays h _ _ (happened {c} {notes} run (event.AlterDown place bytes) of_run) last plays =
-    passes stays h c notes (event.AlterDown place bytes) tt refl refl refl (again_of stays h c notes run) last plays
-again_of stays h _ _ (happened {c} {notes} run (event.AlterUp place bytes) of_run) last plays =
-    passes stays h c notes (event.AlterUp place bytes) tt refl refl refl (again_of stays h c notes run) last plays
-again_of stays h _ _ (happened {c} {notes} run (event.JunkDown place bytes) of_run) last plays =
-    passes stays h c notes (event.JunkDown place bytes) tt refl refl refl (again_of stays h c notes run) last plays
-again_of stays h _ _ (happened {c} {notes} run (event.JunkUp place bytes) of_run) last plays =
-    passes stays h c notes (event.JunkUp place bytes) tt refl refl refl (again_of stays h c notes run) last plays
 again_of stays h _ _ (happened {c} {notes} run event.Timeout of_run) last plays =
     let none = silent h c notes (ended_by c.plan None c.state) refl last in
     let same = unended c (ended_by c.plan None c.state) refl none in
     passes stays h c notes event.Timeout tt none same.0 same.1 (again_of stays h c notes run) last plays
-again_of stays h _ _ (happened {c} {notes} run event.Ready of_run) last plays =
-    passes stays h c notes event.Ready tt refl refl refl (again_of stays h c notes run) last plays
-again_of stays h _ _ (happened {c} {notes} run event.End of_run) last plays =
-    passes stays h c notes event.End tt refl refl refl (again_of stays h c notes run) last plays
-again_of stays h _ _ (happened {c} {notes} run event.Frame of_run) last plays =
-    passes stays h c notes event.Frame tt refl refl refl (again_of stays h c notes run) last plays
 again_of stays h _ _ (happened {c} {notes} run event.Take of_run) last plays =
     absurd (none_some (sym (last_more None notes (note.Take ∷ [])) ∙ last))
 again_of stays h _ _ (happened {c} {notes} run event.Stop of_run) last plays =
     absurd (none_some (sym (last_more None notes (note.Stop ∷ [])) ∙ last))
-again_of stays h _ _ (happened {c} {notes} run event.ServerAnew of_run) last plays =
-    passes stays h c notes event.ServerAnew tt refl refl refl (again_of stays h c notes run) last plays
 again_of stays h _ _ (happened {c} {notes} run event.AutomationAnew of_run) last plays = absurd of_run
 again_of stays h _ _ (happened {c} {notes} run event.StrayAck of_run) last plays =
     let s = strays c c.plan.mode Ack refl refl in
@@ -469,6 +445,8 @@ again_of stays h _ _ (happened {c} {notes} run (event.StrayNak byte) of_run) las
     let s = strays c c.plan.mode (Nak byte) refl refl in
     passes stays h c notes (event.StrayNak byte) tt s.notes_are s.state_is s.log_is (again_of stays h c notes run) last
     plays
+again_of stays h _ _ (happened {c} {notes} run e of_run) last plays =
+    passes stays h c notes e tt refl refl refl (again_of stays h c notes run) last plays
 
 -- So it may go on with that PLAY.
 

@@ -1,14 +1,14 @@
 -- What an automation that hears at once awaits, after a tick, an exchange's end and a time-out.
-use Rattle.std.proofs.Common.{ℕ, ◌≡◌, List, [], ◌∷◌, ◌++◌, map, Bool, false, true, refl, sym, ap, ◌∙◌, append_assoc, append-nil}
+use Rattle.std.proofs.Common.{ℕ, ◌≡◌, arith, List, [], ◌∷◌, ◌++◌, map, true, refl, sym, ap, ◌∙◌, append_assoc, append-nil}
 use Rattle.std.proofs.lemmas.List.{map-append}
-use Rattle.std.specs.Option.{option_to_list, option_map, option_map_or}
-use Rattle.std.specs.Prelude.{Option, Some, None, if◌then◌else◌}
+use Rattle.std.specs.Option.{option_to_list, option_map_or}
+use Rattle.std.specs.Prelude.{Option, Some, None}
 use Rattle.vdcp_frame.specs.Message.{Content}
 use Rattle.vdcp_words.specs.declared.command.Command.{Command}
 use Rattle.vdcp_auto.specs.Course.{logged}
 use Rattle.vdcp_auto.specs.Heard.{heard_as}
 use Rattle.vdcp_auto.specs.Plan.{Plan}
-use Rattle.vdcp_auto.specs.State.{State, Stage, Ready, Awaiting, Ended}
+use Rattle.vdcp_auto.specs.State.{State, Stage, Ended}
 use Rattle.vdcp_auto.specs.Turn as turns
 use Rattle.vdcp_auto.specs.Turn.{awaited, awaited_in, given, given_in, ticked, tick_in, came_to, ended_by, ended_in, exchange_of, is_end, outcome_of, taken, transition_of, unanswered_after}
 use Rattle.vdcp_auto.specs.declared.exchange.Exchange.{Exchange}
@@ -17,7 +17,6 @@ use Rattle.vdcp_auto.specs.declared.outcome.Outcome.{Outcome}
 use Rattle.vdcp_auto.specs.declared.phase.Mode.{Mode}
 use Rattle.vdcp_auto.specs.declared.phase.Mode.TheVariants.{Plain, Confirming}
 use Rattle.vdcp_auto.specs.declared.phase.Transition.{Transition}
-use Rattle.vdcp_auto.specs.declared.phase.Transition.TheVariants.{Goes, Settles, Retries, Ends}
 use Rattle.vdcp_drive.specs.Reading.{completed}
 use Rattle.vdcp_laws.specs.Automation.{Prompt, commands_in, gives, hears, hears_all, listens, receives}
 use Rattle.vdcp_wire.specs.Wires.{Arrival, bytes, silence, close}
@@ -32,11 +31,7 @@ TicksTo plan s stage = option_to_list (awaited plan (tick_in stage s))
     ≡ option_to_list (awaited_in plan stage) ++ option_to_list (given_in plan s.stop stage)
 
 ticks_in : (plan : Plan) (s : State) (stage : Stage) → s.stage ≡ stage → TicksTo plan s stage
-ticks_in plan s (Ready p) is = refl
-ticks_in plan s (Awaiting p) is =
-    ap (λ (t : Stage). option_to_list (awaited_in plan t)) is
-    ∙ sym (append-nil (option_to_list (awaited_in plan (Awaiting p))))
-ticks_in plan s (Ended outcome) is = ap (λ (t : Stage). option_to_list (awaited_in plan t)) is
+ticks_in plan s stage is = grind (arith, append-nil)
 
 pub ticks_state : (plan : Plan) (s : State) → TicksTo plan s s.stage
 ticks_state plan s = ticks_in plan s s.stage refl
@@ -45,31 +40,18 @@ ticks_state plan s = ticks_in plan s s.stage refl
 
 awaits_none : (plan : Plan) (transition : Transition) (n : ℕ) (s : State)
     → awaited plan (turns.state_after transition n s) ≡ None
-awaits_none plan (Goes p) n s = refl
-awaits_none plan (Settles k) n s = refl
-awaits_none plan (Retries k) n s = refl
-awaits_none plan (Ends outcome) n s = refl
+awaits_none plan transition n s = grind arith
 
 abbrev pub left_by : Plan → State → Option Exchange → State
 left_by plan s ends = option_map_or (λ e. ended_in plan s.stage e s) ends s
 
 pub awaits_none_in : (plan : Plan) (stage : Stage) (e : Exchange) (s : State) → awaited_in plan stage ≡ Some e.command
     → awaited plan (ended_in plan stage e s) ≡ None
-awaits_none_in plan (Ready p) e s h = cc
-awaits_none_in plan (Awaiting p) e s h =
-    awaits_none plan (transition_of plan s p e) (unanswered_after plan.mode e s.unanswered) s
-awaits_none_in plan (Ended outcome) e s h = cc
-
-made_of : (b : Bool) (c : Command) (h : Option Heard) (e : Exchange)
-    → (if b then Some (record { command = c; heard = h }) else None) ≡ Some e
-    → Some c ≡ Some e.command
-made_of true c h e is = ap (λ (x : Option Exchange). option_map command_of x) is
-made_of false c h e is = cc
+awaits_none_in plan stage e s h = grind (arith, awaits_none)
 
 pub exchange_is : (mode : Mode) (h : Option Heard) (c : Option Command) (e : Exchange) → exchange_of mode h c ≡ Some e
     → c ≡ Some e.command
-exchange_is mode h None e is = cc
-exchange_is mode h (Some c) e is = made_of (is_end mode c h) c h e is
+exchange_is mode h c e is = grind arith
 
 -- After a time-out nothing is awaited.
 
@@ -79,13 +61,7 @@ ends_alone Confirming c = refl
 
 timed_out_by : (plan : Plan) (s : State) (command : Option Command) → awaited plan s ≡ command
     → awaited plan (came_to plan None s) ≡ None
-timed_out_by plan s None is =
-    ap (λ (c : Option Command). awaited plan (left_by plan s (exchange_of plan.mode None c))) is ∙ is
-timed_out_by plan s (Some c) is =
-    ap (λ (x : Option Command). awaited plan (left_by plan s (exchange_of plan.mode None x))) is
-    ∙ ap (λ (b : Bool). awaited plan (left_by plan s (if b then Some (record { command = c; heard = None }) else None)))
-    (ends_alone plan.mode c)
-    ∙ awaits_none_in plan s.stage (record { command = c; heard = None }) s is
+timed_out_by plan s command is = grind (arith, awaits_none_in)
 
 pub timed_out : (plan : Plan) (s : State) → awaited plan (came_to plan None s) ≡ None
 timed_out plan s = timed_out_by plan s (awaited plan s) refl
@@ -93,8 +69,7 @@ timed_out plan s = timed_out_by plan s (awaited plan s) refl
 -- An end stays: what comes then changes nothing.
 
 pub still : (plan : Plan) (h : Option Heard) (s : State) (o : Outcome) → s.stage ≡ Ended o → came_to plan h s ≡ s
-still plan h s o is =
-    ap (λ (c : Option Command). left_by plan s (exchange_of plan.mode h c)) (ap (awaited_in plan) is)
+still plan h s o is = grind arith
 
 gives_nothing : (plan : Plan) (h : Heard) (s : State) (o : Outcome) → s.stage ≡ Ended o
     → given plan (came_to plan (Some h) (taken s)) ≡ None
@@ -103,11 +78,7 @@ gives_nothing plan h s o is =
 
 not_ended_in : (plan : Plan) (h : Heard) (s : State) (c : Command) (stage : Stage) → s.stage ≡ stage
     → given plan (came_to plan (Some h) (taken s)) ≡ Some c → outcome_of stage ≡ None
-not_ended_in plan h s c (Ready p) is gives = refl
-not_ended_in plan h s c (Awaiting p) is gives = refl
-not_ended_in plan h s c (Ended o) is gives =
-    let none : None ≡ Some c = sym (gives_nothing plan h s o is) ∙ gives in
-    cc none
+not_ended_in plan h s c stage is gives = grind (arith, gives_nothing)
 
 -- a controller that gives a command after what it hears goes on
 pub not_ended : (plan : Plan) (h : Heard) (s : State) (c : Command)

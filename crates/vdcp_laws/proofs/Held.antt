@@ -1,7 +1,7 @@
 -- The line with another controller than its own, which hears nothing: so a killed automation goes on.
-use Rattle.std.proofs.Common.{◌≡◌, ◌⊎◌, inl, inr, ℕ, zero, suc, All, Bool, true, false, List, [], ◌∷◌, ◌++◌, Option, None, Some, append-nil, append_assoc, refl, sym, ap, ap₂, length, subst, ◌∙◌}
+use Rattle.std.proofs.Common.{◌≡◌, arith, ◌⊎◌, inl, inr, ℕ, zero, suc, All, Bool, List, [], ◌∷◌, ◌++◌, None, Some, append-nil, append_assoc, refl, sym, ap, ap₂, length, subst, ◌∙◌}
 use Rattle.std.proofs.lemmas.List.Elements.{All-head, All-tail}
-use Rattle.std.specs.Prelude.{if◌then◌else◌, insert, remove, slice_get}
+use Rattle.std.specs.Prelude.{if◌then◌else◌, insert, remove}
 use Rattle.vdcp_auto.specs.Course.{logged}
 use Rattle.vdcp_auto.specs.Plan.{Plan}
 use Rattle.vdcp_auto.specs.State.{State}
@@ -12,7 +12,7 @@ use Rattle.vdcp_journal.specs.declared.row.Note.TheVariants as note
 use Rattle.vdcp_laws.proofs.Journaled.{asked, given_awaited, no_silence, none_awaited, one_silence, plan_stays_in, same_state}
 use Rattle.vdcp_laws.proofs.Running.{no_notes}
 use Rattle.vdcp_laws.specs.Kills.{asked_in_vain, IsRun, happened, end_notes, silence_notes}
-use Rattle.vdcp_world.specs.LateLine.Damage.{can_become, is_junk_down, replaced, with_damage, with_junk}
+use Rattle.vdcp_world.specs.LateLine.Damage.{can_become, is_junk_down, with_damage, with_junk}
 use Rattle.vdcp_world.specs.LateLine.GoingOn.{IsNoTick, gone_on}
 use Rattle.vdcp_world.specs.LateLine.LateChannel.{LateChannel, after_late_event, after_late_events, bursts_of, oldest, without_oldest}
 use Rattle.vdcp_world.specs.LateLine.LateEvent.{LateEvent}
@@ -27,41 +27,23 @@ abbrev pub ahead : LateChannel → State → List Exchange → List (List ℕ) �
 ahead t s l x = record t { state = s; log = l; down = t.down ++ x }
 
 first_lost : (queue : List (List ℕ)) → remove queue 0 ≡ without_oldest queue
-first_lost [] = refl
-first_lost (burst ∷ queue) = refl
+first_lost queue = grind arith
 
 lost_before : (x queue : List (List ℕ)) (place : ℕ)
     → (remove (queue ++ x) place ≡ remove queue place ++ x) ⊎ (remove queue place ≡ queue)
 lost_before x [] zero = inr refl
 lost_before x [] (suc place) = inr refl
 lost_before x (b ∷ queue) zero = inl refl
-lost_before x (b ∷ queue) (suc place) = by (lost_before x queue place) where
-  by : (remove (queue ++ x) place ≡ remove queue place ++ x) ⊎ (remove queue place ≡ queue)
-      → (remove ((b ∷ queue) ++ x) (suc place) ≡ remove (b ∷ queue) (suc place) ++ x)
-      ⊎ (remove (b ∷ queue) (suc place) ≡ b ∷ queue)
-  by (inl is) = inl (ap (λ (q : List (List ℕ)). b ∷ q) is)
-  by (inr is) = inr (ap (λ (q : List (List ℕ)). b ∷ q) is)
-
-damaged_if : (b bytes : List ℕ) (place : ℕ) (up : List (List ℕ)) (can : Bool)
-    → (if can then insert (remove (b ∷ up) (suc place)) (suc place) bytes else b ∷ up)
-    ≡ b ∷ (if can then insert (remove up place) place bytes else up)
-damaged_if b bytes place up true = refl
-damaged_if b bytes place up false = refl
-
-damaged_at : (can : List ℕ → Bool) (b bytes : List ℕ) (place : ℕ) (up : List (List ℕ)) (at : Option (List ℕ))
-    → replaced can bytes (suc place) (b ∷ up) at ≡ b ∷ replaced can bytes place up at
-damaged_at can b bytes place up None = refl
-damaged_at can b bytes place up (Some was) = damaged_if b bytes place up (can was)
+lost_before x (b ∷ queue) (suc place) = grind (arith, lost_before x queue place)
 
 damaged : (can : List ℕ → Bool) (b bytes : List ℕ) (place : ℕ) (up : List (List ℕ))
     → with_damage can bytes (suc place) (b ∷ up) ≡ b ∷ with_damage can bytes place up
-damaged can b bytes place up = damaged_at can b bytes place up (slice_get up place)
+damaged can b bytes place up = grind arith
 
 damaged_first : (x queue : List (List ℕ)) (b bytes : List ℕ) (can : Bool)
     → (if can then insert (remove ((b ∷ queue) ++ x) 0) 0 bytes else (b ∷ queue) ++ x)
     ≡ (if can then insert (remove (b ∷ queue) 0) 0 bytes else b ∷ queue) ++ x
-damaged_first x queue b bytes true = refl
-damaged_first x queue b bytes false = refl
+damaged_first x queue b bytes can = grind arith
 
 damaged_before : (can : List ℕ → Bool) (bytes : List ℕ) (x queue : List (List ℕ)) (place : ℕ)
     → (with_damage can bytes place (queue ++ x) ≡ with_damage can bytes place queue ++ x)
@@ -69,29 +51,19 @@ damaged_before : (can : List ℕ → Bool) (bytes : List ℕ) (x queue : List (L
 damaged_before can bytes x [] zero = inr refl
 damaged_before can bytes x [] (suc place) = inr refl
 damaged_before can bytes x (b ∷ queue) zero = inl (damaged_first x queue b bytes (can b))
-damaged_before can bytes x (b ∷ queue) (suc place) = by (damaged_before can bytes x queue place) where
-  by : (with_damage can bytes place (queue ++ x) ≡ with_damage can bytes place queue ++ x)
-      ⊎ (with_damage can bytes place queue ≡ queue)
-      → (with_damage can bytes (suc place) ((b ∷ queue) ++ x) ≡ with_damage can bytes (suc place) (b ∷ queue) ++ x)
-      ⊎ (with_damage can bytes (suc place) (b ∷ queue) ≡ b ∷ queue)
-  by (inl is) = inl (damaged can b bytes place (queue ++ x) ∙ ap (λ (q : List (List ℕ)). b ∷ q) is
-      ∙ ap (λ (q : List (List ℕ)). q ++ x) (sym (damaged can b bytes place queue)))
-  by (inr is) = inr (damaged can b bytes place queue ∙ ap (λ (q : List (List ℕ)). b ∷ q) is)
+damaged_before can bytes x (b ∷ queue) (suc place) = grind (arith, damaged, damaged_before can bytes x queue place)
 
 junk_first : (x queue : List (List ℕ)) (bytes : List ℕ) (is_junk : Bool)
     → with_junk is_junk bytes 0 (queue ++ x) ≡ with_junk is_junk bytes 0 queue ++ x
-junk_first x queue bytes true = refl
-junk_first x queue bytes false = refl
+junk_first x queue bytes is_junk = grind arith
 
 junk_past : (x : List (List ℕ)) (bytes : List ℕ) (place : ℕ) (is_junk : Bool)
     → with_junk is_junk bytes 0 x ≡ with_junk is_junk bytes (suc place) [] ++ x
-junk_past x bytes place true = refl
-junk_past x bytes place false = refl
+junk_past x bytes place is_junk = grind arith
 
 junked : (b bytes : List ℕ) (place : ℕ) (up : List (List ℕ)) (is_junk : Bool)
     → with_junk is_junk bytes (suc place) (b ∷ up) ≡ b ∷ with_junk is_junk bytes place up
-junked b bytes place up true = refl
-junked b bytes place up false = refl
+junked b bytes place up is_junk = grind arith
 
 junk_before : (is_junk : Bool) (bytes : List ℕ) (x queue : List (List ℕ)) (place : ℕ)
     → (at : ℕ) × (with_junk is_junk bytes at (queue ++ x) ≡ with_junk is_junk bytes place queue ++ x)
@@ -177,7 +149,6 @@ ahead_one t s l x notes event.Up quiet run =
     subst (λ (up : List (List ℕ)). IsRun (record t { state = s; log = l; down = t.down ++ x; up = up }) notes)
     (first_lost t.up) (no_notes (happened run (event.LoseUp 0) tt))
 ahead_one t s l x notes event.DownCopy quiet run = reads_copy t s l x notes t.down run
-ahead_one t s l x notes event.UpCopy quiet run = run
 ahead_one t s l x notes (event.LoseDown place) quiet run =
     loses (record t { state = s; log = l }) x notes place (lost_before x t.down place) run
 ahead_one t s l x notes (event.LoseUp place) quiet run = no_notes (happened run (event.LoseUp place) tt)
@@ -190,16 +161,11 @@ ahead_one t s l x notes (event.JunkDown place bytes) quiet run =
     with_downs (record t { state = s; log = l }) notes _ _ junk.1
     (no_notes (happened run (event.JunkDown junk.0 bytes) tt))
 ahead_one t s l x notes (event.JunkUp place bytes) quiet run = no_notes (happened run (event.JunkUp place bytes) tt)
-ahead_one t s l x notes event.Timeout quiet run = run
 ahead_one t s l x notes event.Ready quiet run = no_notes (happened run event.Ready tt)
 ahead_one t s l x notes event.End quiet run = no_notes (happened run event.End tt)
 ahead_one t s l x notes event.Frame quiet run = no_notes (happened run event.Frame tt)
-ahead_one t s l x notes event.Take quiet run = run
-ahead_one t s l x notes event.Stop quiet run = run
 ahead_one t s l x notes event.ServerAnew quiet run = no_notes (happened run event.ServerAnew tt)
-ahead_one t s l x notes event.AutomationAnew quiet run = run
-ahead_one t s l x notes event.StrayAck quiet run = run
-ahead_one t s l x notes (event.StrayNak byte) quiet run = run
+ahead_one t s l x notes other quiet run = run
 
 pub ahead_all : (t : LateChannel) (s : State) (l : List Exchange) (x : List (List ℕ)) (notes : List Note)
     (since : List LateEvent) → All IsNoTick since → IsRun (ahead t s l x) notes
