@@ -6,3 +6,4 @@ mod Ends
 mod Unplayed
 pub mod Seen
 mod Questions
+mod Askers

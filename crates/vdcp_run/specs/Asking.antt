@@ -1,6 +1,6 @@
 -- What is asked before a list's own commands: whether the port is empty, or when the clip before ends. An automation of its own
 -- asks, of which only questions go out.
-use Rattle.std.specs.Prelude.{ℕ, ◌≡◌, ◌-◌, Bool, true, false, not, ◌&&◌, if◌then◌else◌, is_some, nat_eq, List, [], Option, None, Some, Result, Ok, Err}
+use Rattle.std.specs.Prelude.{ℕ, ◌≡◌, ◌⊎◌, ◌-◌, Bool, true, false, not, ◌&&◌, if◌then◌else◌, is_some, nat_eq, All, List, [], Option, None, Some, Result, Ok, Err}
 use Rattle.vdcp_auto.specs.Plan.{Plan, View, plan_of}
 use Rattle.vdcp_auto.specs.State.{State, Stage, Ready}
 use Rattle.vdcp_auto.specs.Turn as turns
@@ -83,6 +83,15 @@ asker_with ask start None = if ask && is_opening (given start.plan start.state) 
 
 abbrev pub asker_of : Bool → Start → Option Asker
 asker_of ask start = asker_with ask start (probed_in start.state.stage)
+
+-- a question to this port
+abbrev pub IsAsked : ℕ → Command → Type 0
+IsAsked port c = (c ≡ command.Open port 1) ⊎ (c ≡ command.Select port) ⊎ (c ≡ command.Status 1)
+
+-- questions before the next command of a session's controller: the port is opened next, or it is asked whether a PLAY was lost
+pub data AreAsked (start : Start) (cs : List Command) : Type 0 where
+  opening : start.state.stage ≡ Ready phase.Open → All (IsAsked start.plan.port) cs → AreAsked start cs
+  probing : (k : ℕ) → start.state.stage ≡ Ready (phase.Probe k) → All (λ c. c ≡ command.Status 1) cs → AreAsked start cs
 
 -- ---- by which rules
 

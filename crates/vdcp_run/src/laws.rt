@@ -1,20 +1,21 @@
 //! The law of what is asked before a list's own commands. The function does nothing.
-ghost use Rattle.std.specs.Prelude.{◌≡◌, ℕ, All, Result, true};
-ghost use Rattle.vdcp_auto.specs.Plan.{Plan};
+ghost use Rattle.std.specs.Prelude.{◌≡◌, ℕ, Bool, Result, Some};
 ghost use Rattle.vdcp_drive.specs.Auto.{Auto};
 ghost use Rattle.vdcp_drive.specs.Leaves.{HasRun, steps_in};
 ghost use Rattle.vdcp_drive.specs.Steps.{World};
 ghost use Rattle.vdcp_drive.specs.Traces.{commands_kept, kept_in};
 ghost use Rattle.vdcp_drive.specs.declared.hooks.BrokenOff.{BrokenOff};
 ghost use Rattle.vdcp_drive.specs.declared.line.Ran.{Ran};
-ghost use Rattle.vdcp_run.specs.Asking.{Inquiring, asking, is_question};
+ghost use Rattle.vdcp_run.specs.Asking.{AreAsked, Asker, Inquiring, Start, asker_of, asking};
 
 use vdcp_drive::{Ear, Wire};
 
-/// An automation that asks gives no command but OPEN, SELECT and STATUS. (What goes out is a beginning of what it gives:
-/// `vdcp_drive::laws::what_goes_out_is_kept`.)
+/// Before a controller's next command nothing is asked but OPEN and SELECT of its port and STATUS, if it opens the port next,
+/// and STATUS, if it asks whether a PLAY was lost: each command that the automation gives that asks is one of these. (What
+/// goes out is a beginning of these: `vdcp_drive::laws::what_goes_out_is_kept`.)
 pub fn only_questions_are_asked<E: Ear, W: Wire>()
-    ensures { (plan : Plan) (unit count : ℕ) (a a' : Auto E) (old new : World W Inquiring) (answer : Result Ran BrokenOff) →
-        (h : HasRun (asking W.does plan) E.fold plan unit count a a' old new answer) →
-        All (λ c. is_question c ≡ true) (commands_kept (kept_in (steps_in h.run))) }
+    ensures { (ask : Bool) (start : Start) (asker : Asker) (unit count : ℕ) (a a' : Auto E) (old new : World W Inquiring)
+        (answer : Result Ran BrokenOff) → asker_of ask start ≡ Some asker → a.state ≡ asker.state →
+        (h : HasRun (asking W.does asker.plan) E.fold asker.plan unit count a a' old new answer) →
+        AreAsked start (commands_kept (kept_in (steps_in h.run))) }
 {}
