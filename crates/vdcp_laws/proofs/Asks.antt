@@ -20,7 +20,7 @@ use Rattle.vdcp_drive.specs.Turns.{arrivals}
 use Rattle.vdcp_laws.specs.Automation.{commands_in}
 use Rattle.vdcp_laws.specs.Below.{Laws}
 use Rattle.vdcp_laws.specs.Kills.{happened}
-use Rattle.vdcp_laws.specs.TwoEnds.{AreJoined, CanJoin, Ends, MayAsk, asking, asking_all, asks, bytes_in, commands_sent, sent_down, went_on}
+use Rattle.vdcp_laws.specs.TwoEnds.{AreLed, CanJoin, Ends, asking, asks, bytes_in, commands_sent, sent_down, went_on}
 use Rattle.vdcp_laws.proofs.Bytes.{spelt}
 use Rattle.vdcp_laws.proofs.Joining.{IsBeside}
 use Rattle.vdcp_laws.proofs.Queues.{Takes, bursts_to, bytes_to, messages_to, sends_on}
@@ -49,14 +49,21 @@ writable port c small (inl is) = subst IsWritableCommand (sym is) (small, lit< t
 writable port c small (inr (inl is)) = subst IsWritableCommand (sym is) small
 writable port c small (inr (inr is)) = subst IsWritableCommand (sym is) (lit< tt)
 
-sent_more : (plan : Plan) (unit : ℕ) (e : Ends) (d : Command) → commands_in plan e.automation ≡ []
-    → sent_down plan unit e ++ spelt (messages_to unit (d ∷ [])) ≡ sent_down plan unit (asking d e)
-sent_more plan unit e d none =
-    let both : commands_sent plan e ++ d ∷ [] ≡ commands_sent plan (asking d e) =
-    subst (λ (l : List Command). (e.asked ++ l) ++ d ∷ [] ≡ (e.asked ++ d ∷ []) ++ l) (sym none)
-    (ap (λ (l : List Command). l ++ d ∷ []) (append-nil e.asked) ∙ sym (append-nil (e.asked ++ d ∷ []))) in
-    ap (λ (l : List ℕ). sent_down plan unit e ++ l) (sym (bytes_to unit (d ∷ [])))
-    ∙ sym (flat_map-append (command_bytes unit) (commands_sent plan e) (d ∷ [])) ∙ ap (bytes_of unit) both
+-- all of these
+abbrev pub asking_all : List Command → Ends → Ends
+asking_all cs e = record e { asked = e.asked ++ cs }
+
+-- this may be asked beside a controller that is at this stage
+abbrev pub MayAsk : Plan → Stage → Command → Type 0
+MayAsk plan stage c = (q : Question) × (asked_in plan q stage ≡ Some c)
+
+pub sent_asked : (plan : Plan) (unit : ℕ) (e : Ends) (cs : List Command) → commands_in plan e.automation ≡ []
+    → sent_down plan unit (asking_all cs e) ≡ sent_down plan unit e ++ bytes_of unit cs
+sent_asked plan unit e cs none =
+    let both : commands_sent plan (asking_all cs e) ≡ commands_sent plan e ++ cs =
+    subst (λ (l : List Command). (e.asked ++ cs) ++ l ≡ (e.asked ++ l) ++ cs) (sym none)
+    (append-nil (e.asked ++ cs) ∙ ap (λ (l : List Command). l ++ cs) (sym (append-nil e.asked))) in
+    ap (bytes_of unit) both ∙ flat_map-append (command_bytes unit) (commands_sent plan e) cs
 
 pub asks_next : (law : Laws) (plan : Plan) (port : ClockedPort) (asked : List Command) (e : Ends) (c : LateChannel)
     (q : Question) (d : Command) → CanJoin plan port asked → asked_in plan q e.automation.state.stage ≡ Some d
@@ -80,7 +87,9 @@ asks_next law plan port asked e c q d can is none b =
       held = b.held;
       server_is = b.server_is;
       downwards = subst (λ (l : List ℕ). Takes l came b.held
-          (c.down ++ command_bursts c.port.state.unit (asked_in c.plan q c.state.stage))) (sent_more plan unit e d none)
+          (c.down ++ command_bursts c.port.state.unit (asked_in c.plan q c.state.stage)))
+          (ap (λ (l : List ℕ). sent_down plan unit e ++ l) (sym (bytes_to unit (d ∷ [])))
+          ∙ sym (sent_asked plan unit e (d ∷ []) none))
           (subst (λ (x : List (List ℕ)). Takes (sent_down plan unit e ++ spelt ms) came b.held (c.down ++ x)) queue
           (sends_on ms (sent_down plan unit e) came b.held c.down b.downwards
           (All-cons Fits (command_message unit d) []
@@ -92,15 +101,14 @@ asks_next law plan port asked e c q d can is none b =
 
 -- All of it joins.
 
-pub asks_all : (plan : Plan) (port : ClockedPort) (asked more : List Command) (e : Ends)
-    → commands_in plan e.automation ≡ [] → All (MayAsk plan e.automation.state.stage) more → AreJoined plan port asked e
-    → AreJoined plan port asked (asking_all more e)
-asks_all plan port asked [] e none all j =
-    subst (λ (l : List Command). AreJoined plan port asked (record e { asked = l })) (sym (append-nil e.asked)) j
-asks_all plan port asked (c ∷ cs) e none all j =
+pub asks_all : (plan : Plan) (unit : ℕ) (first e : Ends) (more : List Command) → commands_in plan e.automation ≡ []
+    → All (MayAsk plan e.automation.state.stage) more → AreLed plan unit first e → AreLed plan unit first (asking_all more e)
+asks_all plan unit first e [] none all j =
+    subst (λ (l : List Command). AreLed plan unit first (record e { asked = l })) (sym (append-nil e.asked)) j
+asks_all plan unit first e (c ∷ cs) none all j =
     let may = All-head (MayAsk plan e.automation.state.stage) c cs all in
-    subst (λ (l : List Command). AreJoined plan port asked (record e { asked = l })) (append_assoc e.asked (c ∷ []) cs)
-    (asks_all plan port asked cs (asking c e) none (All-tail (MayAsk plan e.automation.state.stage) c cs all)
+    subst (λ (l : List Command). AreLed plan unit first (record e { asked = l })) (append_assoc e.asked (c ∷ []) cs)
+    (asks_all plan unit first (asking c e) cs none (All-tail (MayAsk plan e.automation.state.stage) c cs all)
     (went_on j (asks may.0 c may.1 none)))
 
 pub opens : (plan : Plan) (c : Command) → IsQuestion plan.port c → MayAsk plan (Ready phase.Open) c

@@ -14,24 +14,25 @@ use Rattle.vdcp_drive.specs.declared.hearing.Hearing.TheVariants.{AtOnce}
 use Rattle.vdcp_drive.specs.Auto.{Auto, Event, after, log_of}
 use Rattle.vdcp_drive.specs.Auto as auto
 use Rattle.vdcp_drive.specs.Hearing.{at_once}
-use Rattle.vdcp_drive.specs.Leaves.{Ending, by_itself, by_hooks, in_keep, in_drop, in_send, in_listen, IsRun, steps_in}
+use Rattle.vdcp_drive.specs.Leaves.{Ending, by_itself, by_hooks, in_keep, in_drop, in_send, in_listen, IsRun}
 use Rattle.vdcp_drive.specs.Reading.{Held}
 use Rattle.vdcp_drive.specs.Steps.{Step}
-use Rattle.vdcp_drive.specs.Traces.{acts_in, came_in}
+use Rattle.vdcp_drive.specs.Traces.{came_in}
 use Rattle.vdcp_drive.specs.declared.hooks.BrokenOff.{BrokenOff}
 use Rattle.vdcp_drive.specs.declared.line.Ran.{Ran}
 use Rattle.vdcp_laws.specs.Automation.{Prompt, led}
 use Rattle.vdcp_laws.specs.Carried.{AreCarried, driver_of}
 use Rattle.vdcp_laws.specs.EndsHeadline.{EndsHeadline}
 use Rattle.vdcp_laws.specs.OneConnection.{ends_at, ends_by}
-use Rattle.vdcp_laws.specs.TwoEnds.{AreJoined, CanJoin, Ends, aired_now, log_now, new_ends}
+use Rattle.vdcp_laws.specs.TwoEnds.{AreJoined, CanJoin, Ends, aired_now, log_now, new_ends, sent_down}
+use Rattle.vdcp_laws.proofs.Carrying.{Side}
 use Rattle.vdcp_laws.proofs.Fronts.{came_of}
-use Rattle.vdcp_laws.proofs.Leading.{SendsAnswers, arrival_at, run_led}
+use Rattle.vdcp_laws.proofs.Leading.{SendsAnswers, arrival_at, side_led}
 use Rattle.vdcp_laws.proofs.Headline.{Laws, before_tick, of_ends}
 use Rattle.vdcp_laws.proofs.OneRun.{goes, led_on}
 use Rattle.vdcp_laws.proofs.Same.{led_log, led_so}
 
-left_at : (plan : Plan) (unit count : ℕ) (events : List Event) (a a' : Auto Held) (answer : Result Ran BrokenOff)
+pub left_at : (plan : Plan) (unit count : ℕ) (events : List Event) (a a' : Auto Held) (answer : Result Ran BrokenOff)
     (more : List Step) → Ending at_once plan unit count events a answer more a' → (a' ≡ a) ⊎ (a' ≡ auto.gives a)
 left_at plan unit count events a a' answer more (by_itself r is to m left) = inl left
 left_at plan unit count events a a' answer more (by_hooks is g m left) = inl left
@@ -40,63 +41,55 @@ left_at plan unit count events a a' answer more (in_drop c is dropping g m left)
 left_at plan unit count events a a' answer more (in_send c front rest is g parts m left) = inr left
 left_at plan unit count events a a' answer more (in_listen is m left) = inr left
 
--- where a run's ends are
-pub joined : (plan : Plan) (port : ClockedPort) (asked : List Command) (e : Ends) (count : ℕ)
-    (answer : Result Ran BrokenOff) (a' : Auto Held) (turns : List Turn) (below : List Act)
-    → AreJoined plan port asked e
-    → (run : IsRun at_once plan port.state.unit count (driver_of e.automation) a' answer)
-    → came_in below ≡ came_of arrival_at turns → SendsAnswers e turns below
-    → AreCarried plan port.state.unit e (acts_in (steps_in run)) below
-    → AreJoined plan port asked (ends_at plan port.state.unit e run.events (e.downs ++ turns))
-joined plan port asked e count answer a' turns below j run whole answers c =
+-- where ends are that are carried
+pub joined : (plan : Plan) (port : ClockedPort) (asked : List Command) (e last : Ends) (list : List Act)
+    (turns : List Turn) (below : List Act) → AreJoined plan port asked e
+    → Side plan port.state.unit e (sent_down plan port.state.unit e) list last
+    → came_in below ≡ came_of arrival_at turns → SendsAnswers e turns below → AreCarried plan port.state.unit e list below
+    → AreJoined plan port asked (record last { downs = e.downs ++ turns })
+joined plan port asked e last list turns below j s whole answers c =
     led_on plan port.state.unit (new_ends port asked) e _ j
-    (run_led plan port.state.unit count e answer a' turns below run whole answers c)
+    (side_led plan port.state.unit e list last turns below s whole answers c)
+
+-- The headline of a run after which the ends are joined.
 
 -- with the next command given
-with_next : (law : Laws) (plan : Plan) (port : ClockedPort) (asked : List Command) (e : Ends) (count : ℕ)
-    (answer : Result Ran BrokenOff) (a' : Auto Held) (turns : List Turn) (below : List Act)
-    → CanJoin plan port asked → AreJoined plan port asked e
-    → (run : IsRun at_once plan port.state.unit count (driver_of e.automation) a' answer)
-    → came_in below ≡ came_of arrival_at turns → SendsAnswers e turns below
-    → AreCarried plan port.state.unit e (acts_in (steps_in run)) below
-    → EndsHeadline plan port.clips (ticked (after at_once plan port.state.unit (driver_of e.automation) run.events).state)
-    (log_now e ++ log_of at_once plan port.state.unit (driver_of e.automation) run.events)
-    (aired_now (record e { downs = e.downs ++ turns }))
-with_next law plan port asked e count answer a' turns below start j run whole answers c =
+with_next : (law : Laws) (plan : Plan) (port : ClockedPort) (asked : List Command) (e : Ends) (events : List Event)
+    (downs : List Turn) → CanJoin plan port asked → AreJoined plan port asked (ends_at plan port.state.unit e events downs)
+    → EndsHeadline plan port.clips (ticked (after at_once plan port.state.unit (driver_of e.automation) events).state)
+    (log_now e ++ log_of at_once plan port.state.unit (driver_of e.automation) events)
+    (aired_now (record e { downs = downs }))
+with_next law plan port asked e events downs start j =
     let unit : ℕ = port.state.unit in
-    let now : Ends = ends_by plan unit e run.events in
-    let p : Prompt = led plan unit e.automation run.events in
-    let more : List Exchange = log_of at_once plan unit (driver_of e.automation) run.events in
-    let g = goes plan unit e run.events in
-    let downs : List Turn = e.downs ++ turns in
+    let now : Ends = ends_by plan unit e events in
+    let p : Prompt = led plan unit e.automation events in
+    let more : List Exchange = log_of at_once plan unit (driver_of e.automation) events in
+    let g = goes plan unit e events in
     let aired : List Item = aired_now (record e { downs = downs }) in
     let log_is : now.log_before ++ now.automation.log ≡ log_now e ++ more =
     ap₂ (λ (l : List Exchange) (q : Prompt). l ++ q.log) g.log_before g.automation
-    ∙ ap (λ (l : List Exchange). e.log_before ++ l) (led_log plan unit e.automation run.events)
+    ∙ ap (λ (l : List Exchange). e.log_before ++ l) (led_log plan unit e.automation events)
     ∙ sym (append_assoc e.log_before e.automation.log more) in
     let aired_is : aired_now (record now { downs = downs }) ≡ aired =
     ap₂ (λ (l : List Item) (q : ClockedPort). l ++ items_in (hook_steps (begins AtOnce q) downs)) g.aired_before g.port in
-    let state_is : driver_of now.automation ≡ after at_once plan unit (driver_of e.automation) run.events =
-    ap driver_of g.automation ∙ led_so plan unit e.automation run.events in
+    let state_is : driver_of now.automation ≡ after at_once plan unit (driver_of e.automation) events =
+    ap driver_of g.automation ∙ led_so plan unit e.automation events in
     subst (λ (x : Auto Held). EndsHeadline plan port.clips (ticked x.state) (log_now e ++ more) aired) state_is
     (subst (λ (l : List Exchange). EndsHeadline plan port.clips (ticked now.automation.state) l aired) log_is
     (subst (EndsHeadline plan port.clips (ticked now.automation.state) (now.log_before ++ now.automation.log)) aired_is
-    (of_ends law plan port asked (ends_at plan unit e run.events downs) start
-    (joined plan port asked e count answer a' turns below j run whole answers c))))
+    (of_ends law plan port asked (ends_at plan unit e events downs) start j)))
 
-pub of_carried : (law : Laws) (plan : Plan) (port : ClockedPort) (asked : List Command) (e : Ends) (count : ℕ)
-    (answer : Result Ran BrokenOff) (a' : Auto Held) (turns : List Turn) (below : List Act)
-    → CanJoin plan port asked → AreJoined plan port asked e
+pub of_joined : (law : Laws) (plan : Plan) (port : ClockedPort) (asked : List Command) (e : Ends) (count : ℕ)
+    (answer : Result Ran BrokenOff) (a' : Auto Held) (downs : List Turn) → CanJoin plan port asked
     → (run : IsRun at_once plan port.state.unit count (driver_of e.automation) a' answer)
-    → came_in below ≡ came_of arrival_at turns → SendsAnswers e turns below
-    → AreCarried plan port.state.unit e (acts_in (steps_in run)) below
+    → AreJoined plan port asked (ends_at plan port.state.unit e run.events downs)
     → EndsHeadline plan port.clips a'.state
     (log_now e ++ log_of at_once plan port.state.unit (driver_of e.automation) run.events)
-    (aired_now (record e { downs = e.downs ++ turns }))
-of_carried law plan port asked e count answer a' turns below start j run whole answers c =
+    (aired_now (record e { downs = downs }))
+of_joined law plan port asked e count answer a' downs start run j =
     by (left_at plan port.state.unit count _
     (after at_once plan port.state.unit (driver_of e.automation) run.events) a' answer run.more run.ending)
-    (with_next law plan port asked e count answer a' turns below start j run whole answers c) where
+    (with_next law plan port asked e run.events downs start j) where
       by : {b : Auto Held} {log : List Exchange} {aired : List Item} → (a' ≡ b) ⊎ (a' ≡ auto.gives b)
           → EndsHeadline plan port.clips (ticked b.state) log aired → EndsHeadline plan port.clips a'.state log aired
       by {b} {log} {aired} (inl left) h =

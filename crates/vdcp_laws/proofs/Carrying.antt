@@ -1,37 +1,42 @@
--- By each act of its wire a driver has sent its automation's commands until then.
-use Rattle.std.proofs.Common.{ℕ, ◌≡◌, false, List, [], ◌∷◌, ◌++◌, map, refl, sym, ap, subst, ◌∙◌, append_assoc, append-nil, arith, length}
+-- The automation's side of a connection, act by act of its wire: where that leaves both ends, the server's turns aside.
+use Rattle.std.proofs.Common.{ℕ, ◌≡◌, false, List, [], ◌∷◌, ◌++◌, map, refl, sym, ap, subst, ◌∙◌, append_assoc, append-nil, arith}
 use Rattle.std.proofs.lemmas.Grind.{flat_map-append}
 use Rattle.std.specs.Option.{option_to_list}
-use Rattle.std.specs.Prelude.{Option, None, Some, Result}
+use Rattle.std.specs.Prelude.{◌≢◌, Option, None, Some, Result, Err}
 use Rattle.vdcp_words.specs.declared.command.Command.{Command}
 use Rattle.vdcp_auto.specs.Plan.{Plan}
 use Rattle.vdcp_auto.specs.State.{State}
 use Rattle.vdcp_auto.specs.Turn.{given, ticked}
 use Rattle.vdcp_wire.specs.Acts.{Act, sends, brings, drops, fails}
-use Rattle.vdcp_wire.specs.Wires.{Arrival}
-use Rattle.vdcp_drive.specs.Auto.{Auto, Event, after, arrivals, arrives, calls, ended}
+use Rattle.vdcp_wire.specs.Wires.{Arrival, bytes, silence, close}
+use Rattle.vdcp_drive.specs.Auto.{AreMade, Auto, Event, after, arrives, calls, ended}
 use Rattle.vdcp_drive.specs.Auto as auto
 use Rattle.vdcp_drive.specs.Ears.{inputs}
 use Rattle.vdcp_drive.specs.Hearing.{at_once}
-use Rattle.vdcp_drive.specs.Leaves.{Ending, by_itself, by_hooks, in_keep, in_drop, in_send, in_listen}
+use Rattle.vdcp_drive.specs.Leaves.{Ending, IsRun, by_itself, by_hooks, in_keep, in_drop, in_send, in_listen, steps_in}
 use Rattle.vdcp_drive.specs.Reading.{Held}
 use Rattle.vdcp_drive.specs.Steps.{Step, acts, asks, keeps, misses, command_bytes, ended_notes, given_notes, opening, round, sending, steps_of}
-use Rattle.vdcp_drive.specs.Traces.{acts_in, bytes_of, came_in, sent_in}
-use Rattle.vdcp_drive.specs.declared.hooks.Call.{Call}
+use Rattle.vdcp_drive.specs.Traces.{acts_in, bytes_of, came_in, commands_kept, kept_in, sent_in}
+use Rattle.vdcp_drive.specs.Turns.{Turn}
 use Rattle.vdcp_drive.specs.declared.hooks.Call.TheVariants as call
 use Rattle.vdcp_drive.specs.declared.hooks.Kept.{Kept}
 use Rattle.vdcp_drive.specs.declared.hooks.BrokenOff.{BrokenOff}
+use Rattle.vdcp_drive.specs.declared.hooks.BrokenOff.TheVariants as fault
+use Rattle.vdcp_drive.specs.declared.hooks.Next.TheVariants as next
 use Rattle.vdcp_drive.specs.declared.line.Ran.{Ran}
-use Rattle.vdcp_laws.specs.Automation.{Prompt, commands_in, gives, heeds, led, listens}
+use Rattle.vdcp_laws.specs.Automation.{gives, listens}
 use Rattle.vdcp_laws.specs.Carried.{driver_of}
-use Rattle.vdcp_laws.proofs.Commands.{commands_gives, commands_listens}
-use Rattle.vdcp_laws.proofs.Fronts.{upto}
-use Rattle.vdcp_laws.proofs.OneRun.{arrival_in}
+use Rattle.vdcp_laws.specs.OneConnection.{ends_by, hears_in, heeds_in}
+use Rattle.vdcp_laws.specs.TwoEnds as two
+use Rattle.vdcp_laws.specs.TwoEnds.{AreLed, Ends, bytes_in, sent_down, with_command}
+use Rattle.vdcp_laws.proofs.Commands.{commands_listens}
+use Rattle.vdcp_laws.proofs.Fronts.{head_so, tail_so}
+use Rattle.vdcp_laws.proofs.Joining.{sent_given}
 use Rattle.vdcp_laws.proofs.Same.{listens_so}
 
 -- Acts and steps, one after another.
 
-acts_both : (xs ys : List Step) → acts_in (xs ++ ys) ≡ acts_in xs ++ acts_in ys
+pub acts_both : (xs ys : List Step) → acts_in (xs ++ ys) ≡ acts_in xs ++ acts_in ys
 acts_both [] ys = refl
 acts_both (acts a ∷ xs) ys = ap (λ (l : List Act). a ∷ l) (acts_both xs ys)
 acts_both (asks s n ∷ xs) ys = acts_both xs ys
@@ -82,105 +87,151 @@ round_so plan unit what a later =
     (keeps_nothing (ended_notes (ended plan (inputs at_once unit what a.ear) (ticked a.state)))))
     ∙ append_assoc first (brings what ∷ []) (acts_in later)
 
-first_brings_none : (unit : ℕ) (o : Option Command) → came_in (first_acts unit o) ≡ []
-first_brings_none unit None = refl
-first_brings_none unit (Some c) = refl
+-- The last steps of a run bring nothing, and of the command that is given next they send a beginning, or nothing; all that they
+-- give, if the wire didn't fail.
+pub record Last (plan : Plan) (unit : ℕ) (s : State) (answer : Result Ran BrokenOff) (more : List Step) : Type 0 where
+  pub none : came_in (acts_in more) ≡ []
+  pub others : List Command
+  pub given_is : option_to_list (given plan s) ≡ commands_kept (kept_in more) ++ others
+  pub unsent : List ℕ
+  pub part : bytes_of unit (commands_kept (kept_in more)) ≡ sent_in (acts_in more) ++ unsent
+  pub all : answer ≢ Err fault.Device → unsent ≡ []
 
--- What the acts so far have sent.
-
-pub record Sends (plan : Plan) (unit : ℕ) (p : Prompt) (events : List Event) (so_far : List Act) : Type 0 where
-  pub more : List ℕ
-  pub is : bytes_of unit (commands_in plan (gives (led plan unit p (upto arrival_in events (came_in so_far)))))
-      ≡ bytes_of unit (commands_in plan p) ++ (sent_in so_far ++ more)
-
--- with the next command given
-given_bytes : (plan : Plan) (unit : ℕ) (p : Prompt) → bytes_of unit (commands_in plan (gives p))
-    ≡ bytes_of unit (commands_in plan p) ++ bytes_of unit (option_to_list (given plan p.state))
-given_bytes plan unit p = ap (bytes_of unit) (commands_gives plan p)
-    ∙ flat_map-append (command_bytes unit) (commands_in plan p) (option_to_list (given plan p.state))
-
--- nothing happened, and of the command that is given next these bytes went out
-sends_first : (plan : Plan) (unit : ℕ) (p : Prompt) (events : List Event) (so_far : List Act) (more : List ℕ)
-    → upto arrival_in events (came_in so_far) ≡ []
-    → bytes_of unit (option_to_list (given plan p.state)) ≡ sent_in so_far ++ more → Sends plan unit p events so_far
-sends_first plan unit p events so_far more none part = record {
-  more = more;
-  is = ap (λ (l : List Event). bytes_of unit (commands_in plan (gives (led plan unit p l)))) none
-      ∙ given_bytes plan unit p
-      ∙ ap (λ (l : List ℕ). bytes_of unit (commands_in plan p) ++ l) part;
-}
-
--- the last steps of a run bring nothing
-record Last (plan : Plan) (unit : ℕ) (s : State) (list : List Act) : Type 0 where
-  none : came_in list ≡ []
-  unsent : List ℕ
-  part : bytes_of unit (option_to_list (given plan s)) ≡ sent_in list ++ unsent
-
-listen_fails : (plan : Plan) (unit : ℕ) (s : State) (o : Option Command) → given plan s ≡ o
-    → Last plan unit s (acts_in ((map keeps (given_notes o) ++ map acts (sending false unit o))
-    ++ acts fails ∷ []))
-listen_fails plan unit s None is =
-    record { none = refl; unsent = []; part = ap (λ (o : Option Command). bytes_of unit (option_to_list o)) is }
-listen_fails plan unit s (Some c) is = record {
-  none = refl;
+none_sent : (plan : Plan) (unit : ℕ) (s : State) (answer : Result Ran BrokenOff) (more : List Step) → acts_in more ≡ []
+    → kept_in more ≡ [] → Last plan unit s answer more
+none_sent plan unit s answer more none given_none = record {
+  none = ap came_in none;
+  others = option_to_list (given plan s);
+  given_is = ap (λ (l : List Kept). commands_kept l ++ option_to_list (given plan s)) (sym given_none);
   unsent = [];
-  part = ap (λ (o : Option Command). bytes_of unit (option_to_list o)) is ∙ sym (append-nil (command_bytes unit c ++ []));
+  part = ap (λ (l : List Kept). bytes_of unit (commands_kept l)) given_none
+      ∙ ap (λ (l : List Act). sent_in l ++ []) (sym none);
+  all = λ no. refl;
 }
 
-last_so : (plan : Plan) (unit count : ℕ) (events : List Event) (a a' : Auto Held) (answer : Result Ran BrokenOff)
-    (more : List Step) → Ending at_once plan unit count events a answer more a' → Last plan unit a.state (acts_in more)
+listen_fails : (plan : Plan) (unit : ℕ) (a : Auto Held) (answer : Result Ran BrokenOff) (o : Option Command)
+    → given plan a.state ≡ o → Last plan unit a.state answer
+    ((asks a.state next.GoOn ∷ (map keeps (given_notes o) ++ map acts (sending false unit o))) ++ acts fails ∷ [])
+listen_fails plan unit a answer None is =
+    record { none = refl; others = []; given_is = ap option_to_list is; unsent = []; part = refl; all = λ no. refl }
+listen_fails plan unit a answer (Some c) is = record {
+  none = refl;
+  others = [];
+  given_is = ap option_to_list is;
+  unsent = [];
+  part = sym (append-nil (command_bytes unit c ++ []));
+  all = λ no. refl;
+}
+
+pub last_so : (plan : Plan) (unit count : ℕ) (events : List Event) (a a' : Auto Held) (answer : Result Ran BrokenOff)
+    (more : List Step) → Ending at_once plan unit count events a answer more a' → Last plan unit a.state answer more
 last_so plan unit count events a a' answer more (by_itself r is to m left) =
-    subst (λ (l : List Step). Last plan unit a.state (acts_in l)) (sym m)
-    (record { none = refl; unsent = bytes_of unit (option_to_list (given plan a.state)); part = refl })
+    subst (Last plan unit a.state answer) (sym m) (none_sent plan unit a.state answer [] refl refl)
 last_so plan unit count events a a' answer more (by_hooks is g m left) =
-    subst (λ (l : List Step). Last plan unit a.state (acts_in l)) (sym m)
-    (record { none = refl; unsent = bytes_of unit (option_to_list (given plan a.state)); part = refl })
+    subst (Last plan unit a.state answer) (sym m) (none_sent plan unit a.state answer _ refl refl)
 last_so plan unit count events a a' answer more (in_keep r is g m left) =
-    subst (λ (l : List Step). Last plan unit a.state (acts_in l)) (sym m)
-    (record { none = refl; unsent = bytes_of unit (option_to_list (given plan a.state)); part = refl })
+    subst (Last plan unit a.state answer) (sym m) (none_sent plan unit a.state answer _ refl refl)
 last_so plan unit count events a a' answer more (in_drop c is dropping g m left) = absurd (grind (arith, dropping))
 last_so plan unit count events a a' answer more (in_send c front rest is g parts m left) =
-    subst (λ (l : List Step). Last plan unit a.state (acts_in l)) (sym m) (record {
+    subst (Last plan unit a.state answer) (sym m) (record {
       none = refl;
+      others = [];
+      given_is = ap option_to_list g;
       unsent = rest;
-      part = ap (λ (o : Option Command). bytes_of unit (option_to_list o)) g
-          ∙ append-nil (command_bytes unit c) ∙ parts ∙ ap (λ (l : List ℕ). l ++ rest) (sym (append-nil front));
+      part = append-nil (command_bytes unit c) ∙ parts ∙ ap (λ (l : List ℕ). l ++ rest) (sym (append-nil front));
+      all = λ no. absurd (no is);
     })
 last_so plan unit count events a a' answer more (in_listen is m left) =
-    subst (λ (l : List Step). Last plan unit a.state (acts_in l)) (sym m)
-    (listen_fails plan unit a.state (given plan a.state) refl)
+    subst (Last plan unit a.state answer) (sym m) (listen_fails plan unit a answer (given plan a.state) refl)
 
--- the listens of a run are those that brought what came
-pub came_whole : (plan : Plan) (unit count : ℕ) (all events : List Event) (a : Auto Held)
-    (answer : Result Ran BrokenOff) (more : List Step) (a' : Auto Held)
-    → Ending at_once plan unit count all (after at_once plan unit a events) answer more a'
-    → came_in (acts_in (steps_of at_once plan unit a events ++ more)) ≡ arrivals events
-came_whole plan unit count all [] a answer more a' e = (last_so plan unit count all a a' answer more e).none
-came_whole plan unit count all (arrives what ∷ later) a answer more a' e =
-    let x : Auto Held = auto.listens at_once plan unit what (auto.gives a) in
-    let steps : List Step = steps_of at_once plan unit x later in
-    let o : Option Command = given plan a.state in
-    ap (λ (l : List Step). came_in (acts_in l)) (append_assoc (round at_once plan unit what a) steps more)
-    ∙ ap came_in (round_so plan unit what a (steps ++ more))
-    ∙ came_both (first_acts unit o) (brings what ∷ acts_in (steps ++ more))
-    ∙ ap (λ (l : List Arrival). l ++ what ∷ came_in (acts_in (steps ++ more))) (first_brings_none unit o)
-    ∙ ap (λ (l : List Arrival). what ∷ l) (came_whole plan unit count all later x answer more a' e)
-came_whole plan unit count all (calls c ∷ later) a answer more a' e =
-    came_whole plan unit count all later (auto.heeds c a) answer more a' e
+-- What comes up to ends.
 
-no_front : (xs ys : List Arrival) → xs ++ ys ≡ [] → xs ≡ []
-no_front [] ys is = refl
-no_front (x ∷ xs) ys is = absurd (omega (arith, ap (length {A = Arrival}) is))
+heard_port : (plan : Plan) (unit : ℕ) (a : Arrival) (e : Ends) → (hears_in plan unit a e).port ≡ e.port
+heard_port plan unit (bytes piece) e = refl
+heard_port plan unit silence e = refl
+heard_port plan unit close e = refl
 
-front_of_last : (plan : Plan) (unit : ℕ) (p : Prompt) (list so_far behind : List Act) → Last plan unit p.state list
-    → list ≡ so_far ++ behind → Sends plan unit p [] so_far
-front_of_last plan unit p list so_far behind last is =
-    sends_first plan unit p [] so_far (sent_in behind ++ last.unsent) refl
-    (last.part ∙ ap (λ (l : List Act). sent_in l ++ last.unsent) is
-    ∙ ap (λ (l : List ℕ). l ++ last.unsent) (sent_both so_far behind)
-    ∙ append_assoc (sent_in so_far) (sent_in behind) last.unsent)
+heard_ups : (plan : Plan) (unit : ℕ) (a : Arrival) (e : Ends) (came : List Arrival)
+    → (hears_in plan unit a e).ups ++ bytes_in came ≡ e.ups ++ bytes_in (a ∷ came)
+heard_ups plan unit (bytes piece) e came = append_assoc e.ups piece (bytes_in came)
+heard_ups plan unit silence e came = refl
+heard_ups plan unit close e came = refl
 
--- Equal lists have equal first ones, and equal rests.
+heard_by : (plan : Plan) (unit : ℕ) (a : Arrival) (e : Ends)
+    → (hears_in plan unit a e).automation ≡ listens plan unit a e.automation
+heard_by plan unit (bytes piece) e = refl
+heard_by plan unit silence e = refl
+heard_by plan unit close e = refl
+
+heard_down : (plan : Plan) (unit : ℕ) (a : Arrival) (e : Ends)
+    → sent_down plan unit (hears_in plan unit a e) ≡ sent_down plan unit e
+heard_down plan unit (bytes piece) e =
+    ap (λ (l : List Command). bytes_of unit (e.asked ++ l)) (commands_listens plan unit (bytes piece) e.automation)
+heard_down plan unit silence e =
+    ap (λ (l : List Command). bytes_of unit (e.asked ++ l)) (commands_listens plan unit silence e.automation)
+heard_down plan unit close e =
+    ap (λ (l : List Command). bytes_of unit (e.asked ++ l)) (commands_listens plan unit close e.automation)
+
+abbrev pub heard_up : Plan → ℕ → List Arrival → Ends → Ends
+heard_up plan unit [] e = e
+heard_up plan unit (a ∷ came) e = heard_up plan unit came (hears_in plan unit a e)
+
+-- From these ends on, of whose bytes these had gone out, by these acts of the automation's wire, to those.
+pub record Side (plan : Plan) (unit : ℕ) (e : Ends) (sent : List ℕ) (list : List Act) (last : Ends) : Type 0 where
+  -- the ends once this came up, with all that they give before more comes
+  pub at : List Arrival → Ends
+  pub begins : (first : Ends) (downs : List Turn) → AreLed plan unit first (record e { downs = downs })
+      → AreLed plan unit first (record (at []) { downs = downs })
+  pub goes_on : (first : Ends) (downs : List Turn) (came rest : List Arrival) (a : Arrival) → came_in list ≡ came ++ a ∷ rest
+      → AreLed plan unit first (record (hears_in plan unit a (at came)) { downs = downs })
+      → AreLed plan unit first (record (at (came ++ a ∷ [])) { downs = downs })
+  pub sends : (some behind : List Act) → list ≡ some ++ behind
+      → (more : List ℕ) × (sent_down plan unit (at (came_in some)) ≡ sent ++ (sent_in some ++ more))
+  pub ups : (came rest : List Arrival) → came_in list ≡ came ++ rest → (at came).ups ≡ e.ups ++ bytes_in came
+  pub port : (came : List Arrival) → (at came).port ≡ e.port
+  pub ends : at (came_in list) ≡ last
+
+-- no act
+
+none_comes : (came rest : List Arrival) (a : Arrival) → [] ≡ came ++ a ∷ rest → ⊥
+none_comes [] rest a is = cc
+none_comes (x ∷ came) rest a is = cc
+
+none_before : {A : Type 0} (xs ys : List A) → [] ≡ xs ++ ys → xs ≡ []
+none_before [] ys is = refl
+none_before (x ∷ xs) ys is = cc
+
+pub no_act : (plan : Plan) (unit : ℕ) (e : Ends) (sent more : List ℕ) → sent_down plan unit e ≡ sent ++ more
+    → Side plan unit e sent [] e
+no_act plan unit e sent more is = record {
+  at = λ came. e;
+  begins = λ first downs j. j;
+  goes_on = λ first downs came rest a none j. absurd (none_comes came rest a none);
+  sends = λ some behind none. (
+    more,
+    is ∙ ap (λ (l : List Act). sent ++ (sent_in l ++ more)) (sym (none_before some behind none)),
+  );
+  ups = λ came rest none. sym (ap (λ (l : List Arrival). e.ups ++ bytes_in l) (none_before came rest none) ∙ append-nil e.ups);
+  port = λ came. refl;
+  ends = refl;
+}
+
+-- The ends are led on, and nothing is done on the wire.
+pub led_first : (plan : Plan) (unit : ℕ) (e e' : Ends) (sent : List ℕ) (list : List Act) (last : Ends)
+    → ((first : Ends) (downs : List Turn) → AreLed plan unit first (record e { downs = downs })
+    → AreLed plan unit first (record e' { downs = downs }))
+    → e'.ups ≡ e.ups → e'.port ≡ e.port → Side plan unit e' sent list last → Side plan unit e sent list last
+led_first plan unit e e' sent list last on ups port s = record {
+  at = s.at;
+  begins = λ first downs j. s.begins first downs (on first downs j);
+  goes_on = s.goes_on;
+  sends = s.sends;
+  ups = λ came rest is. s.ups came rest is ∙ ap (λ (l : List ℕ). l ++ bytes_in came) ups;
+  port = λ came. s.port came ∙ port;
+  ends = s.ends;
+}
+
+-- an act that brings nothing
 
 abbrev head_of : List Act → Act
 head_of [] = fails
@@ -190,84 +241,184 @@ abbrev tail_of : List Act → List Act
 tail_of [] = []
 tail_of (x ∷ xs) = xs
 
--- a listen more
-sends_on : (plan : Plan) (unit : ℕ) (p : Prompt) (what : Arrival) (later : List Event) (so_far : List Act)
-    → (s : Sends plan unit (listens plan unit what (gives p)) later so_far)
-    → bytes_of unit (commands_in plan (gives (led plan unit p (arrives what ∷ upto arrival_in later (came_in so_far)))))
-    ≡ bytes_of unit (commands_in plan p) ++ (bytes_of unit (option_to_list (given plan p.state))
-    ++ (sent_in so_far ++ s.more))
-sends_on plan unit p what later so_far s =
-    let then : List ℕ = sent_in so_far ++ s.more in
-    s.is
-    ∙ ap (λ (l : List ℕ). l ++ then)
-    (ap (bytes_of unit) (commands_listens plan unit what (gives p)) ∙ given_bytes plan unit p)
-    ∙ append_assoc (bytes_of unit (commands_in plan p)) (bytes_of unit (option_to_list (given plan p.state))) then
+module _ (plan : Plan) (unit : ℕ) (e : Ends) (sent now : List ℕ) (act : Act) (b : List ℕ) (list : List Act) (last : Ends)
+    (came_so : (l : List Act) → came_in (act ∷ l) ≡ came_in l) (sent_so : (l : List Act) → sent_in (act ∷ l) ≡ b ++ sent_in l)
+    (is : now ≡ sent ++ b) (s : Side plan unit e now list last) where
+  act_sends : (some behind : List Act) → act ∷ list ≡ some ++ behind
+      → (more : List ℕ) × (sent_down plan unit (s.at (came_in some)) ≡ sent ++ (sent_in some ++ more))
+  act_sends [] behind front =
+      let m = s.sends [] list refl in
+      (b ++ m.0, m.1 ∙ ap (λ (l : List ℕ). l ++ m.0) is ∙ append_assoc sent b m.0)
+  act_sends (x ∷ some) behind front =
+      let m = s.sends some behind (ap tail_of front) in
+      subst (λ (y : Act). (more : List ℕ)
+      × (sent_down plan unit (s.at (came_in (y ∷ some))) ≡ sent ++ (sent_in (y ∷ some) ++ more))) (ap head_of front) (
+        m.0,
+        ap (λ (l : List Arrival). sent_down plan unit (s.at l)) (came_so some) ∙ m.1
+            ∙ ap (λ (l : List ℕ). l ++ (sent_in some ++ m.0)) is ∙ append_assoc sent b (sent_in some ++ m.0)
+            ∙ ap (λ (l : List ℕ). sent ++ l) (sym (append_assoc b (sent_in some) m.0)
+            ∙ ap (λ (l : List ℕ). l ++ m.0) (sym (sent_so some))),
+      )
 
-one_round : (plan : Plan) (unit : ℕ) (p : Prompt) (what : Arrival) (events : List Event) (o : Option Command)
-    → given plan p.state ≡ o
-    → (so_far behind list : List Act) → first_acts unit o ++ brings what ∷ list ≡ so_far ++ behind
-    → ((rest : List Act) → list ≡ rest ++ behind → Sends plan unit (listens plan unit what (gives p)) events rest)
-    → Sends plan unit p (arrives what ∷ events) so_far
-one_round plan unit p what events None g [] behind list is later =
-    sends_first plan unit p (arrives what ∷ events) [] (bytes_of unit (option_to_list (given plan p.state))) refl refl
-one_round plan unit p what events None g (x ∷ rest) behind list is later =
-    let s : Sends plan unit (listens plan unit what (gives p)) events rest = later rest (ap tail_of is) in
-    subst (λ (y : Act). Sends plan unit p (arrives what ∷ events) (y ∷ rest)) (ap head_of is) (record {
-      more = s.more;
-      is = sends_on plan unit p what events rest s
-          ∙ ap (λ (o : Option Command). bytes_of unit (commands_in plan p)
-          ++ (bytes_of unit (option_to_list o) ++ (sent_in rest ++ s.more))) g;
-    })
-one_round plan unit p what events (Some c) g [] behind list is later =
-    sends_first plan unit p (arrives what ∷ events) [] (bytes_of unit (option_to_list (given plan p.state))) refl refl
-one_round plan unit p what events (Some c) g (x ∷ []) behind list is later =
-    subst (λ (y : Act). Sends plan unit p (arrives what ∷ events) (y ∷ [])) (ap head_of is)
-    (sends_first plan unit p (arrives what ∷ events) (sends (command_bytes unit c) ∷ []) [] refl
-    (ap (λ (o : Option Command). bytes_of unit (option_to_list o)) g ∙ sym (append-nil (command_bytes unit c ++ []))))
-one_round plan unit p what events (Some c) g (x ∷ y ∷ rest) behind list is later =
-    let s : Sends plan unit (listens plan unit what (gives p)) events rest =
-    later rest (ap (λ (l : List Act). tail_of (tail_of l)) is) in
-    let then : List ℕ = sent_in rest ++ s.more in
-    let before : List ℕ = bytes_of unit (commands_in plan p) in
+  act_first : Side plan unit e sent (act ∷ list) last
+  act_first = record {
+    at = s.at;
+    begins = s.begins;
+    goes_on = λ first downs came rest a next j. s.goes_on first downs came rest a (sym (came_so list) ∙ next) j;
+    sends = act_sends;
+    ups = λ came rest next. s.ups came rest (sym (came_so list) ∙ next);
+    port = s.port;
+    ends = ap s.at (came_so list) ∙ s.ends;
+  }
+
+-- an act that brings something
+
+abbrev then_at : Ends → (List Arrival → Ends) → List Arrival → Ends
+then_at e at [] = e
+then_at e at (a ∷ came) = at came
+
+module _ (plan : Plan) (unit : ℕ) (e : Ends) (sent more : List ℕ) (what : Arrival) (list : List Act) (last : Ends)
+    (is : sent_down plan unit e ≡ sent ++ more) (s : Side plan unit (hears_in plan unit what e) sent list last) where
+  brought_on : (first : Ends) (downs : List Turn) (came rest : List Arrival) (a : Arrival)
+      → what ∷ came_in list ≡ came ++ a ∷ rest
+      → AreLed plan unit first (record (hears_in plan unit a (then_at e s.at came)) { downs = downs })
+      → AreLed plan unit first (record (then_at e s.at (came ++ a ∷ [])) { downs = downs })
+  brought_on first downs [] rest a next j = s.begins first downs
+      (subst (λ (x : Arrival). AreLed plan unit first (record (hears_in plan unit x e) { downs = downs }))
+      (sym (head_so what a (came_in list) rest next)) j)
+  brought_on first downs (x ∷ came) rest a next j =
+      s.goes_on first downs came rest a (tail_so what x (came_in list) (came ++ a ∷ rest) next) j
+
+  brought_sends : (some behind : List Act) → brings what ∷ list ≡ some ++ behind
+      → (left : List ℕ) × (sent_down plan unit (then_at e s.at (came_in some)) ≡ sent ++ (sent_in some ++ left))
+  brought_sends [] behind front = (more, is)
+  brought_sends (x ∷ some) behind front =
+      subst (λ (y : Act). (left : List ℕ)
+      × (sent_down plan unit (then_at e s.at (came_in (y ∷ some))) ≡ sent ++ (sent_in (y ∷ some) ++ left)))
+      (ap head_of front) (s.sends some behind (ap tail_of front))
+
+  brought_ups : (came rest : List Arrival) → what ∷ came_in list ≡ came ++ rest
+      → (then_at e s.at came).ups ≡ e.ups ++ bytes_in came
+  brought_ups [] rest next = sym (append-nil e.ups)
+  brought_ups (a ∷ came) rest next =
+      s.ups came rest (tail_so what a (came_in list) (came ++ rest) next) ∙ heard_ups plan unit what e came
+      ∙ ap (λ (x : Arrival). e.ups ++ bytes_in (x ∷ came)) (head_so what a (came_in list) (came ++ rest) next)
+
+  brought_port : (came : List Arrival) → (then_at e s.at came).port ≡ e.port
+  brought_port [] = refl
+  brought_port (a ∷ came) = s.port came ∙ heard_port plan unit what e
+
+  brings_first : Side plan unit e sent (brings what ∷ list) last
+  brings_first = record {
+    at = then_at e s.at;
+    begins = λ first downs j. j;
+    goes_on = brought_on;
+    sends = brought_sends;
+    ups = brought_ups;
+    port = brought_port;
+    ends = s.ends;
+  }
+
+-- acts in which the automation gives nothing: what goes out was given before
+pub listening : (plan : Plan) (unit : ℕ) (front : List Act) (e : Ends) (sent unsent : List ℕ) (list : List Act) (last : Ends)
+    → sent_down plan unit e ≡ sent ++ (sent_in front ++ unsent)
+    → Side plan unit (heard_up plan unit (came_in front) e) (sent ++ sent_in front) list last
+    → Side plan unit e sent (front ++ list) last
+listening plan unit [] e sent unsent list last is s =
+    subst (λ (l : List ℕ). Side plan unit e l list last) (append-nil sent) s
+listening plan unit (sends b ∷ front) e sent unsent list last is s =
+    act_first plan unit e sent (sent ++ b) (sends b) b (front ++ list) last (λ l. refl) (λ l. refl) refl
+    (listening plan unit front e (sent ++ b) unsent list last
+    (is ∙ ap (λ (l : List ℕ). sent ++ l) (append_assoc b (sent_in front) unsent)
+    ∙ sym (append_assoc sent b (sent_in front ++ unsent)))
+    (subst (λ (l : List ℕ). Side plan unit (heard_up plan unit (came_in front) e) l list last)
+    (sym (append_assoc sent b (sent_in front))) s))
+listening plan unit (brings a ∷ front) e sent unsent list last is s =
+    brings_first plan unit e sent (sent_in front ++ unsent) a (front ++ list) last is
+    (listening plan unit front (hears_in plan unit a e) sent unsent list last (heard_down plan unit a e ∙ is) s)
+listening plan unit (drops ∷ front) e sent unsent list last is s =
+    act_first plan unit e sent sent drops [] (front ++ list) last (λ l. refl) (λ l. refl) (sym (append-nil sent))
+    (listening plan unit front e sent unsent list last is s)
+listening plan unit (fails ∷ front) e sent unsent list last is s =
+    act_first plan unit e sent sent fails [] (front ++ list) last (λ l. refl) (λ l. refl) (sym (append-nil sent))
+    (listening plan unit front e sent unsent list last is s)
+
+-- these acts end it
+pub last_side : (plan : Plan) (unit : ℕ) (e : Ends) (sent unsent : List ℕ) (list : List Act) → came_in list ≡ []
+    → sent_down plan unit e ≡ sent ++ (sent_in list ++ unsent) → Side plan unit e sent list e
+last_side plan unit e sent unsent list none is =
+    subst (λ (l : List Act). Side plan unit e sent l e) (append-nil list)
+    (listening plan unit list e sent unsent [] e is
+    (subst (λ (l : List Arrival). Side plan unit (heard_up plan unit l e) (sent ++ sent_in list) [] e) (sym none)
+    (no_act plan unit e (sent ++ sent_in list) unsent (is ∙ sym (append_assoc sent (sent_in list) unsent)))))
+
+-- A run.
+
+-- one round: what is given goes out, and something comes
+one_round : (plan : Plan) (unit : ℕ) (o : Option Command) (e : Ends) (sent : List ℕ) (what : Arrival) (list : List Act)
+    (last : Ends) → sent_down plan unit e ≡ sent ++ bytes_of unit (option_to_list o)
+    → Side plan unit (hears_in plan unit what e) (sent_down plan unit (hears_in plan unit what e)) list last
+    → Side plan unit e sent (first_acts unit o ++ brings what ∷ list) last
+one_round plan unit None e sent what list last is s =
+    brings_first plan unit e sent [] what list last is
+    (subst (λ (l : List ℕ). Side plan unit (hears_in plan unit what e) l list last)
+    (heard_down plan unit what e ∙ is ∙ append-nil sent) s)
+one_round plan unit (Some c) e sent what list last is s =
     let b : List ℕ = command_bytes unit c in
-    subst (λ (z : Act). Sends plan unit p (arrives what ∷ events) (z ∷ y ∷ rest)) (ap head_of is)
-    (subst (λ (z : Act). Sends plan unit p (arrives what ∷ events) (sends b ∷ z ∷ rest))
-    (ap (λ (l : List Act). head_of (tail_of l)) is) (record {
-      more = s.more;
-      is = sends_on plan unit p what events rest s
-          ∙ ap (λ (o : Option Command). before ++ (bytes_of unit (option_to_list o) ++ then)) g
-          ∙ ap (λ (l : List ℕ). before ++ (l ++ then)) (append-nil b)
-          ∙ ap (λ (l : List ℕ). before ++ l) (sym (append_assoc b (sent_in rest) s.more));
-    }))
+    let all : sent_down plan unit e ≡ sent ++ b = is ∙ ap (λ (l : List ℕ). sent ++ l) (append-nil b) in
+    act_first plan unit e sent (sent ++ b) (sends b) b (brings what ∷ list) last (λ l. refl) (λ l. refl) refl
+    (brings_first plan unit e (sent ++ b) [] what list last (all ∙ sym (append-nil (sent ++ b)))
+    (subst (λ (l : List ℕ). Side plan unit (hears_in plan unit what e) l list last) (heard_down plan unit what e ∙ all) s))
 
--- a call sends nothing
-call_commands : (plan : Plan) (c : Call) (p : Prompt) → commands_in plan (heeds c p) ≡ commands_in plan p
-call_commands plan call.Take p = refl
-call_commands plan call.Stop p = refl
-
-pub sends_by : (plan : Plan) (unit count : ℕ) (all events : List Event) (p : Prompt)
-    (answer : Result Ran BrokenOff) (more : List Step) (a' : Auto Held)
-    → Ending at_once plan unit count all (after at_once plan unit (driver_of p) events) answer more a'
-    → (so_far behind : List Act) → acts_in (steps_of at_once plan unit (driver_of p) events ++ more) ≡ so_far ++ behind
-    → Sends plan unit p events so_far
-sends_by plan unit count all [] p answer more a' e so_far behind is =
-    front_of_last plan unit p (acts_in more) so_far behind
-    (last_so plan unit count all (driver_of p) a' answer more e) is
-sends_by plan unit count all (calls c ∷ later) p answer more a' e so_far behind is =
-    let s : Sends plan unit (heeds c p) later so_far =
-    sends_by plan unit count all later (heeds c p) answer more a' e so_far behind is in record {
-      more = s.more;
-      is = s.is ∙ ap (λ (l : List Command). bytes_of unit l ++ (sent_in so_far ++ s.more)) (call_commands plan c p);
-    }
-sends_by plan unit count all (arrives what ∷ later) p answer more a' e so_far behind is =
-    let q : Prompt = listens plan unit what (gives p) in
-    let x : Auto Held = auto.listens at_once plan unit what (auto.gives (driver_of p)) in
-    let same : driver_of q ≡ x = listens_so plan unit what (gives p) in
-    let steps : List Step = steps_of at_once plan unit x later in
-    one_round plan unit p what later (given plan p.state) refl so_far behind (acts_in (steps ++ more))
-    (sym (round_so plan unit what (driver_of p) (steps ++ more))
-    ∙ ap acts_in (sym (append_assoc (round at_once plan unit what (driver_of p)) steps more)) ∙ is)
-    (λ rest split. sends_by plan unit count all later q answer more a'
+run_side : (plan : Plan) (unit count : ℕ) (all events : List Event) (e : Ends) (answer : Result Ran BrokenOff)
+    (more : List Step) (a' : Auto Held)
+    → Ending at_once plan unit count all (after at_once plan unit (driver_of e.automation) events) answer more a'
+    → AreMade at_once plan unit (driver_of e.automation) events
+    → Side plan unit e (sent_down plan unit e)
+    (acts_in (steps_of at_once plan unit (driver_of e.automation) events ++ more))
+    (with_command plan (ends_by plan unit e events))
+run_side plan unit count all [] e answer more a' ending made =
+    let last = last_so plan unit count all (driver_of e.automation) a' answer more ending in
+    led_first plan unit e (with_command plan e) (sent_down plan unit e) (acts_in more) (with_command plan e)
+    (λ first downs j. two.went_on j two.gave) refl refl
+    (last_side plan unit (with_command plan e) (sent_down plan unit e) (last.unsent ++ bytes_of unit last.others)
+    (acts_in more) last.none (sent_given plan unit e ∙ ap (λ (l : List ℕ). sent_down plan unit e ++ l)
+    (ap (bytes_of unit) last.given_is
+    ∙ flat_map-append (command_bytes unit) (commands_kept (kept_in more)) last.others
+    ∙ ap (λ (l : List ℕ). l ++ bytes_of unit last.others) last.part
+    ∙ append_assoc (sent_in (acts_in more)) last.unsent (bytes_of unit last.others))))
+run_side plan unit count all (calls call.Take ∷ later) e answer more a' ending made =
+    led_first plan unit e (heeds_in call.Take e) (sent_down plan unit e) _ _
+    (λ first downs j. two.went_on j (two.took made.0)) refl refl
+    (run_side plan unit count all later (heeds_in call.Take e) answer more a' ending made.1)
+run_side plan unit count all (calls call.Stop ∷ later) e answer more a' ending made =
+    led_first plan unit e (heeds_in call.Stop e) (sent_down plan unit e) _ _
+    (λ first downs j. two.went_on j (two.halted made.0)) refl refl
+    (run_side plan unit count all later (heeds_in call.Stop e) answer more a' ending made.1)
+run_side plan unit count all (arrives what ∷ later) e answer more a' ending made =
+    let now : Ends = with_command plan e in
+    let then : Ends = hears_in plan unit what now in
+    let last : Ends = with_command plan (ends_by plan unit then later) in
+    let a : Auto Held = driver_of e.automation in
+    let x : Auto Held = auto.listens at_once plan unit what (auto.gives a) in
+    let same : driver_of then.automation ≡ x =
+    ap driver_of (heard_by plan unit what now) ∙ listens_so plan unit what (gives e.automation) in
+    led_first plan unit e now (sent_down plan unit e) _ last (λ first downs j. two.went_on j two.gave) refl refl
+    (subst (λ (l : List Act). Side plan unit now (sent_down plan unit e) l last)
+    (sym (ap acts_in (append_assoc (round at_once plan unit what a) (steps_of at_once plan unit x later) more)
+    ∙ round_so plan unit what a (steps_of at_once plan unit x later ++ more)))
+    (one_round plan unit (given plan e.automation.state) now (sent_down plan unit e) what
+    (acts_in (steps_of at_once plan unit x later ++ more)) last (sent_given plan unit e)
+    (subst (λ (y : Auto Held). Side plan unit then (sent_down plan unit then)
+    (acts_in (steps_of at_once plan unit y later ++ more)) last) same
+    (run_side plan unit count all later then answer more a'
     (subst (λ (y : Auto Held). Ending at_once plan unit count all (after at_once plan unit y later) answer more a')
-    (sym same) e) rest behind
-    (ap (λ (y : Auto Held). acts_in (steps_of at_once plan unit y later ++ more)) same ∙ split))
+    (sym same) ending)
+    (subst (λ (y : Auto Held). AreMade at_once plan unit y later) (sym same) made)))))
+
+pub side_of : (plan : Plan) (unit count : ℕ) (e : Ends) (answer : Result Ran BrokenOff) (a' : Auto Held)
+    → (run : IsRun at_once plan unit count (driver_of e.automation) a' answer)
+    → Side plan unit e (sent_down plan unit e) (acts_in (steps_in run))
+    (with_command plan (ends_by plan unit e run.events))
+side_of plan unit count e answer a' run =
+    run_side plan unit count run.events run.events e answer run.more a' run.ending run.made

@@ -18,10 +18,10 @@ abbrev pub upto : {A : Type 0} → (A → Option Arrival) → List A → List Ar
 upto brought [] came = []
 upto brought (x ∷ later) came = upto_by (brought x) x came (λ more. upto brought later more)
 
-tail_so : (x y : Arrival) (xs ys : List Arrival) → x ∷ xs ≡ y ∷ ys → xs ≡ ys
+pub tail_so : (x y : Arrival) (xs ys : List Arrival) → x ∷ xs ≡ y ∷ ys → xs ≡ ys
 tail_so x y xs ys is = cc
 
-head_so : (x y : Arrival) (xs ys : List Arrival) → x ∷ xs ≡ y ∷ ys → x ≡ y
+pub head_so : (x y : Arrival) (xs ys : List Arrival) → x ∷ xs ≡ y ∷ ys → x ≡ y
 head_so x y xs ys is = cc
 
 -- this front brings what came

@@ -74,15 +74,20 @@ given_fits law unit (Some c) small writable =
     All-cons Fits (command_message unit c) [] (law.command unit c small writable) (All-nil Fits)
 
 -- the next command, if one is given, goes down
-pub sent_with : (plan : Plan) (unit : ℕ) (e : Ends) → sent_down plan unit (with_command plan e)
-    ≡ sent_down plan unit e ++ spelt (messages_to unit (option_to_list (given plan e.automation.state)))
-sent_with plan unit e =
+
+pub sent_given : (plan : Plan) (unit : ℕ) (e : Ends) → sent_down plan unit (with_command plan e)
+    ≡ sent_down plan unit e ++ bytes_of unit (option_to_list (given plan e.automation.state))
+sent_given plan unit e =
     let p : Prompt = e.automation in
     let more : List Command = option_to_list (given plan p.state) in
     ap (bytes_of unit)
     (ap (λ (l : List Command). e.asked ++ l) (commands_gives plan p) ∙ sym (append_assoc e.asked (commands_in plan p) more))
     ∙ flat_map-append (command_bytes unit) (commands_sent plan e) more
-    ∙ ap (λ (l : List ℕ). sent_down plan unit e ++ l) (bytes_to unit more)
+
+pub sent_with : (plan : Plan) (unit : ℕ) (e : Ends) → sent_down plan unit (with_command plan e)
+    ≡ sent_down plan unit e ++ spelt (messages_to unit (option_to_list (given plan e.automation.state)))
+sent_with plan unit e = sent_given plan unit e
+    ∙ ap (λ (l : List ℕ). sent_down plan unit e ++ l) (bytes_to unit (option_to_list (given plan e.automation.state)))
 
 -- an automation that has sent the same
 pub same_down : (plan : Plan) (unit : ℕ) (e : Ends) (commands : List Command) (held : Held) (queue : List (List ℕ))

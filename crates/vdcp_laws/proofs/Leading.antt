@@ -1,55 +1,31 @@
--- What is carried between a driver and a server leads both ends on.
+-- What is carried between an automation's side and a server leads both ends on.
 use Rattle.std.proofs.Common.{ℕ, ◌≡◌, List, [], ◌∷◌, ◌++◌, refl, sym, ap, ap₂, subst, ◌∙◌, append_assoc, append-nil}
-use Rattle.std.proofs.lemmas.Grind.{flat_map-append}
-use Rattle.std.specs.Prelude.{Option, None, Some, Result}
-use Rattle.vdcp_words.specs.declared.command.Command.{Command}
+use Rattle.std.specs.Prelude.{Option, None, Some}
 use Rattle.vdcp_words.specs.declared.reply.Reply.{Reply}
 use Rattle.vdcp_port.specs.Clock.{ClockedPort}
 use Rattle.vdcp_auto.specs.Plan.{Plan}
 use Rattle.vdcp_wire.specs.Acts.{Act, sends, brings, fails}
 use Rattle.vdcp_wire.specs.Wires.{Arrival, bytes, silence, close}
-use Rattle.vdcp_drive.specs.Auto.{AreMade, Auto, Event}
-use Rattle.vdcp_drive.specs.Hearing.{at_once}
-use Rattle.vdcp_drive.specs.Leaves.{IsRun, steps_in}
-use Rattle.vdcp_drive.specs.Reading.{Held}
-use Rattle.vdcp_drive.specs.Steps.{command_bytes}
-use Rattle.vdcp_drive.specs.Traces.{acts_in, bytes_of, came_in, sent_in}
-use Rattle.vdcp_drive.specs.declared.hooks.BrokenOff.{BrokenOff}
-use Rattle.vdcp_drive.specs.declared.line.Ran.{Ran}
+use Rattle.vdcp_drive.specs.Traces.{came_in, sent_in}
 use Rattle.vdcp_drive.specs.Served.{IsMoment, only}
 use Rattle.vdcp_drive.specs.Serving.{Service, acts_of, begins, left_by, replies, sending, serves}
 use Rattle.vdcp_drive.specs.Turns.{Turn, arrivals, frame, listen}
 use Rattle.vdcp_drive.specs.declared.hearing.Hearing.TheVariants.{AtOnce}
-use Rattle.vdcp_laws.specs.Automation.{Prompt, commands_in, gives, led}
-use Rattle.vdcp_laws.specs.Carried.{AreCarried, driver_of}
+use Rattle.vdcp_laws.specs.Carried.{AreCarried}
 use Rattle.vdcp_laws.specs.Carried as carried
-use Rattle.vdcp_laws.specs.OneConnection.{ends_at, ends_by, hears_in}
+use Rattle.vdcp_laws.specs.OneConnection.{hears_in}
 use Rattle.vdcp_laws.specs.TwoEnds as two
-use Rattle.vdcp_laws.specs.TwoEnds.{AreLed, Ends, bytes_in, sent_down, sent_up, server_new, server_now, with_command, with_down}
-use Rattle.vdcp_laws.proofs.Carrying.{Sends, came_both, came_whole, sends_by, sent_both}
+use Rattle.vdcp_laws.specs.TwoEnds.{AreLed, Ends, bytes_in, sent_down, sent_up, server_new, server_now, with_down}
+use Rattle.vdcp_laws.proofs.Carrying.{Side, came_both, sent_both}
 use Rattle.vdcp_laws.proofs.Fronts.{came_of, next_of, upto, upto_came, upto_front}
-use Rattle.vdcp_laws.proofs.OneRun.{arrival_in, arrivals_so, calls_on, goes, listened}
 use Rattle.vdcp_laws.proofs.Serving.{bytes_both}
 
-sent_enough : (plan : Plan) (unit : ℕ) (e : Ends) (events : List Event) (so_far : List Act) (came : List ℕ)
-    (piece rest : List ℕ) → Sends plan unit e.automation events so_far
-    → sent_down plan unit e ++ sent_in so_far ≡ came ++ (piece ++ rest)
-    → (left : List ℕ) × (bytes_of unit (e.asked ++ commands_in plan
-    (gives (led plan unit e.automation (upto arrival_in events (came_in so_far))))) ≡ came ++ (piece ++ left))
-sent_enough plan unit e events so_far came piece rest s is =
-    let now : List Command = commands_in plan (gives (led plan unit e.automation (upto arrival_in events (came_in so_far)))) in
-    let own : List Command = commands_in plan e.automation in
-    let asked : List ℕ = bytes_of unit e.asked in (
-      rest ++ s.more,
-      flat_map-append (command_bytes unit) e.asked now
-          ∙ ap (λ (l : List ℕ). asked ++ l) s.is
-          ∙ sym (append_assoc asked (bytes_of unit own) (sent_in so_far ++ s.more))
-          ∙ ap (λ (l : List ℕ). l ++ (sent_in so_far ++ s.more)) (sym (flat_map-append (command_bytes unit) e.asked own))
-          ∙ sym (append_assoc (sent_down plan unit e) (sent_in so_far) s.more)
-          ∙ ap (λ (l : List ℕ). l ++ s.more) is
-          ∙ append_assoc came (piece ++ rest) s.more
-          ∙ ap (λ (l : List ℕ). came ++ l) (append_assoc piece rest s.more),
-    )
+-- if what went out is enough for what came, so is all that was to go out
+enough : (now sent some came piece rest more : List ℕ) → now ≡ sent ++ (some ++ more) → sent ++ some ≡ came ++ (piece ++ rest)
+    → now ≡ came ++ (piece ++ (rest ++ more))
+enough now sent some came piece rest more all is =
+    all ∙ sym (append_assoc sent some more) ∙ ap (λ (l : List ℕ). l ++ more) is ∙ append_assoc came (piece ++ rest) more
+    ∙ ap (λ (l : List ℕ). came ++ l) (append_assoc piece rest more)
 
 -- a front without its last act
 abbrev IsFront : List Act → List Act → Type 0
@@ -149,37 +125,6 @@ turns_whole s (listen a ∷ later) done =
     ∙ ap (λ (l : List Arrival). a ∷ l)
     (came_sent s.port.state.unit (replies a s) (then ++ done) ∙ turns_whole (serves (listen a) s) later done)
 
-sent_enough_up : (e : Ends) (turns : List Turn) (list some : List Act) (came piece rest : List ℕ) → SendsAnswers e turns list
-    → IsFront list some → sent_up e ++ sent_in some ≡ came ++ (piece ++ rest)
-    → (left : List ℕ) × (sent_in (acts_of (server_new e) (e.downs ++ upto arrival_at turns (came_in some)))
-    ≡ came ++ (piece ++ left))
-sent_enough_up e turns list some came piece rest law front is =
-    let s = law some front.0 front.1 in (
-      rest ++ s.0,
-      s.1 ∙ sym (append_assoc (sent_up e) (sent_in some) s.0) ∙ ap (λ (l : List ℕ). l ++ s.0) is
-          ∙ append_assoc came (piece ++ rest) s.0 ∙ ap (λ (l : List ℕ). came ++ l) (append_assoc piece rest s.0),
-    )
-
--- where both ends are then
-abbrev IsThere : Plan → ℕ → Ends → List Event → List Turn → List Act → List Act → Type 0
-IsThere plan unit e events turns autos servers =
-    AreLed plan unit e (ends_at plan unit e (upto arrival_in events (came_in autos))
-    (e.downs ++ upto arrival_at turns (came_in servers)))
-
-silent : (plan : Plan) (unit : ℕ) (e : Ends) (events : List Event) (turns : List Turn) (autos : List Act) (act : Act)
-    (servers : List Act) → came_in (act ∷ []) ≡ [] → IsThere plan unit e events turns autos servers
-    → IsThere plan unit e events turns (autos ++ act ∷ []) servers
-silent plan unit e events turns autos act servers none h =
-    subst (λ (l : List Arrival). AreLed plan unit e (ends_at plan unit e (upto arrival_in events l)
-    (e.downs ++ upto arrival_at turns (came_in servers)))) (sym (same_came autos act none)) h
-
-silent_below : (plan : Plan) (unit : ℕ) (e : Ends) (events : List Event) (turns : List Turn) (autos servers : List Act)
-    (act : Act) → came_in (act ∷ []) ≡ [] → IsThere plan unit e events turns autos servers
-    → IsThere plan unit e events turns autos (servers ++ act ∷ [])
-silent_below plan unit e events turns autos servers act none h =
-    subst (λ (l : List Arrival). AreLed plan unit e (ends_at plan unit e (upto arrival_in events (came_in autos))
-    (e.downs ++ upto arrival_at turns l))) (sym (same_came servers act none)) h
-
 -- the frames that follow pass
 frames_on : (plan : Plan) (unit : ℕ) (first e : Ends) (downs later : List Turn)
     → AreLed plan unit first (record e { downs = downs })
@@ -199,53 +144,7 @@ next_in : (list so_far behind : List Act) (what : Arrival) → list ≡ (so_far 
 next_in list so_far behind what is =
     ap came_in (is ∙ append_assoc so_far (brings what ∷ []) behind) ∙ came_both so_far (brings what ∷ behind)
 
--- something comes down, and the frames that follow pass
-lower : (plan : Plan) (unit : ℕ) (e : Ends) (events : List Event) (turns : List Turn) (below autos servers : List Act)
-    (what : Arrival) → came_in below ≡ came_of arrival_at turns → IsFront below (servers ++ brings what ∷ [])
-    → AreLed plan unit e (with_down (listen what) (ends_at plan unit e (upto arrival_in events (came_in autos))
-    (e.downs ++ upto arrival_at turns (came_in servers))))
-    → IsThere plan unit e events turns autos (servers ++ brings what ∷ [])
-lower plan unit e events turns below autos servers what whole back j =
-    let n = next_of arrival_at turns (came_in servers) what (came_in back.0)
-    (sym whole ∙ next_in below servers back.0 what back.1) in
-    let front : List Turn = upto arrival_at turns (came_in servers) in
-    let now : Ends = ends_at plan unit e (upto arrival_in events (came_in autos)) [] in
-    let frames : List Turn = upto arrival_at n.later [] in
-    let all : ((e.downs ++ front) ++ listen what ∷ []) ++ frames
-    ≡ e.downs ++ upto arrival_at turns (came_in (servers ++ brings what ∷ [])) =
-    append_assoc (e.downs ++ front) (listen what ∷ []) frames
-    ∙ append_assoc e.downs front (listen what ∷ frames)
-    ∙ ap (λ (l : List Turn). e.downs ++ l)
-    (ap (λ (x : Turn). front ++ x ∷ frames) (sym (it_listens n.what what n.is)) ∙ sym n.on_is
-    ∙ ap (upto arrival_at turns) (sym (came_both servers (brings what ∷ [])))) in
-    subst (λ (l : List Turn). AreLed plan unit e (record now { downs = l })) all
-    (frames_on plan unit e now ((e.downs ++ front) ++ listen what ∷ []) n.later j)
-
--- something comes up
-higher : (plan : Plan) (unit : ℕ) (e : Ends) (events : List Event) (turns : List Turn)
-    (list autos servers : List Act) (what : Arrival) → came_in list ≡ came_of arrival_in events
-    → AreMade at_once plan unit (driver_of e.automation) events → IsFront list (autos ++ brings what ∷ [])
-    → AreLed plan unit e (record (hears_in plan unit what
-    (with_command plan (ends_by plan unit e (upto arrival_in events (came_in autos)))))
-    { downs = e.downs ++ upto arrival_at turns (came_in servers) })
-    → IsThere plan unit e events turns (autos ++ brings what ∷ []) servers
-higher plan unit e events turns list autos servers what whole made front j =
-    let downs : List Turn = e.downs ++ upto arrival_at turns (came_in servers) in
-    subst (λ (l : List Arrival). AreLed plan unit e (ends_at plan unit e (upto arrival_in events l) downs))
-    (sym (came_both autos (brings what ∷ [])))
-    (listened plan unit e events (came_in autos) (came_in front.0) what downs
-    (sym whole ∙ next_in list autos front.0 what front.1) made j)
-
--- what came by then
-
-ups_so : (plan : Plan) (unit : ℕ) (e : Ends) (events : List Event) (list autos : List Act)
-    → came_in list ≡ came_of arrival_in events → IsFront list autos
-    → (ends_by plan unit e (upto arrival_in events (came_in autos))).ups ≡ e.ups ++ bytes_in (came_in autos)
-ups_so plan unit e events list autos whole front =
-    (goes plan unit e (upto arrival_in events (came_in autos))).ups
-    ∙ ap (λ (l : List Arrival). e.ups ++ bytes_in l) (arrivals_so (upto arrival_in events (came_in autos))
-    ∙ upto_came arrival_in events (came_in autos) (came_in front.0) (sym whole ∙ ap came_in front.1 ∙ came_both autos front.0))
-
+-- what came down by then
 downs_so : (e : Ends) (turns : List Turn) (below servers : List Act) → came_in below ≡ came_of arrival_at turns
     → IsFront below servers
     → bytes_in (arrivals (e.downs ++ upto arrival_at turns (came_in servers)))
@@ -256,96 +155,107 @@ downs_so e turns below servers whole back =
     (turns_so (upto arrival_at turns (came_in servers))
     ∙ upto_came arrival_at turns (came_in servers) (came_in back.0) (sym whole ∙ ap came_in back.1 ∙ came_both servers back.0))
 
--- all of a run: what happened to the automation, and the server's turns; and the acts of both wires
-record Runs (plan : Plan) (unit : ℕ) (e : Ends) (events : List Event) (turns : List Turn)
-    (list below : List Act) : Type 0 where
-  whole : came_in list ≡ came_of arrival_in events
-  made : AreMade at_once plan unit (driver_of e.automation) events
-  sends : (some behind : List Act) → list ≡ some ++ behind → Sends plan unit e.automation events some
-  whole_below : came_in below ≡ came_of arrival_at turns
-  answers : SendsAnswers e turns below
+-- where both ends are then
+abbrev IsThere : Plan → ℕ → Ends → (List Arrival → Ends) → List Turn → List Act → List Act → Type 0
+IsThere plan unit e at turns autos servers =
+    AreLed plan unit e (record (at (came_in autos)) { downs = e.downs ++ upto arrival_at turns (came_in servers) })
 
-come : (plan : Plan) (unit : ℕ) (e : Ends) (events : List Event) (turns : List Turn)
-    (list below autos servers : List Act) → Runs plan unit e events turns list below
-    → AreCarried plan unit e autos servers → IsFront list autos → IsFront below servers
-    → IsThere plan unit e events turns autos servers
-come plan unit e events turns list below _ _ r carried.begun front back =
-    frames_on plan unit e (ends_at plan unit e (upto arrival_in events []) e.downs) e.downs turns
-    (two.went_on (calls_on plan unit e e e.downs events two.begun r.made) two.gave)
-come plan unit e events turns list below _ _ r (carried.sent {autos} {servers} h b) front back =
-    silent plan unit e events turns autos (sends b) servers refl
-    (come plan unit e events turns list below autos servers r h (without list autos (sends b) front) back)
-come plan unit e events turns list below _ _ r (carried.up {autos} {servers} h piece rest is) front back =
-    let enough = sent_enough_up e turns below servers (e.ups ++ bytes_in (came_in autos)) piece rest r.answers back is in
-    let before = without list autos (brings (bytes piece)) front in
-    higher plan unit e events turns list autos servers (bytes piece) r.whole r.made front
-    (two.went_on (come plan unit e events turns list below autos servers r h before back)
-    (two.came_up piece enough.0
-    (ap (λ (p : ClockedPort). sent_in (acts_of (begins AtOnce p) (e.downs ++ upto arrival_at turns (came_in servers))))
-    (goes plan unit e (upto arrival_in events (came_in autos))).port
-    ∙ enough.1
-    ∙ ap (λ (l : List ℕ). l ++ (piece ++ enough.0)) (sym (ups_so plan unit e events list autos r.whole before)))))
-come plan unit e events turns list below _ _ r (carried.waited {autos} {servers} h) front back =
-    higher plan unit e events turns list autos servers silence r.whole r.made front
-    (two.went_on (come plan unit e events turns list below autos servers r h
-    (without list autos (brings silence) front) back) two.waited)
-come plan unit e events turns list below _ _ r (carried.hung_up {autos} {servers} h) front back =
-    higher plan unit e events turns list autos servers close r.whole r.made front
-    (two.went_on (come plan unit e events turns list below autos servers r h
-    (without list autos (brings close) front) back) two.waited)
-come plan unit e events turns list below _ _ r (carried.failed {autos} {servers} h) front back =
-    silent plan unit e events turns autos fails servers refl
-    (come plan unit e events turns list below autos servers r h (without list autos fails front) back)
-come plan unit e events turns list below _ _ r (carried.answered {autos} {servers} h b) front back =
-    silent_below plan unit e events turns autos servers (sends b) refl
-    (come plan unit e events turns list below autos servers r h front (without below servers (sends b) back))
-come plan unit e events turns list below _ _ r (carried.down {autos} {servers} h piece rest is) front back =
-    let before = without below servers (brings (bytes piece)) back in
-    let enough = sent_enough plan unit e events autos (bytes_in (arrivals e.downs) ++ bytes_in (came_in servers)) piece rest
-    (r.sends autos front.0 front.1) is in
-    let g = goes plan unit e (upto arrival_in events (came_in autos)) in
-    lower plan unit e events turns below autos servers (bytes piece) r.whole_below back
-    (two.went_on (come plan unit e events turns list below autos servers r h front before)
-    (two.came_down piece enough.0
-    (ap₂ (λ (l : List Command) (p : Prompt). bytes_of unit (l ++ commands_in plan (gives p))) g.asked g.automation
-    ∙ enough.1
-    ∙ ap (λ (l : List ℕ). l ++ (piece ++ enough.0)) (sym (downs_so e turns below servers r.whole_below before)))))
-come plan unit e events turns list below _ _ r (carried.paused {autos} {servers} h) front back =
-    lower plan unit e events turns below autos servers silence r.whole_below back
-    (two.went_on (come plan unit e events turns list below autos servers r h front
-    (without below servers (brings silence) back)) two.paused)
-come plan unit e events turns list below _ _ r (carried.shut {autos} {servers} h) front back =
-    lower plan unit e events turns below autos servers close r.whole_below back
-    (two.went_on (come plan unit e events turns list below autos servers r h front
-    (without below servers (brings close) back)) two.shut)
-come plan unit e events turns list below _ _ r (carried.broke {autos} {servers} h) front back =
-    silent_below plan unit e events turns autos servers fails refl
-    (come plan unit e events turns list below autos servers r h front (without below servers fails back))
+module _ (plan : Plan) (unit : ℕ) (e : Ends) (list : List Act) (last : Ends) (turns : List Turn) (below : List Act)
+    (s : Side plan unit e (sent_down plan unit e) list last) (whole : came_in below ≡ came_of arrival_at turns)
+    (answers : SendsAnswers e turns below) where
+  silent : (autos : List Act) (act : Act) (servers : List Act) → came_in (act ∷ []) ≡ []
+      → IsThere plan unit e s.at turns autos servers → IsThere plan unit e s.at turns (autos ++ act ∷ []) servers
+  silent autos act servers none h =
+      subst (λ (l : List Arrival). AreLed plan unit e
+      (record (s.at l) { downs = e.downs ++ upto arrival_at turns (came_in servers) })) (sym (same_came autos act none)) h
 
--- of a whole run
-pub run_led : (plan : Plan) (unit count : ℕ) (e : Ends) (answer : Result Ran BrokenOff) (a' : Auto Held)
-    (turns : List Turn) (below : List Act)
-    → (run : IsRun at_once plan unit count (driver_of e.automation) a' answer)
-    → came_in below ≡ came_of arrival_at turns → SendsAnswers e turns below
-    → AreCarried plan unit e (acts_in (steps_in run)) below
-    → AreLed plan unit e (ends_at plan unit e run.events (e.downs ++ turns))
-run_led plan unit count e answer a' turns below run whole answers c =
-    let list : List Act = acts_in (steps_in run) in
-    let all : came_in list ≡ came_of arrival_in run.events =
-    came_whole plan unit count run.events run.events (driver_of e.automation) answer run.more a' run.ending
-    ∙ arrivals_so run.events in
-    subst (λ (l : List Event). AreLed plan unit e (ends_at plan unit e l (e.downs ++ turns)))
-    (all_of arrival_in (came_in list) run.events all)
-    (subst (λ (l : List Turn). AreLed plan unit e (ends_at plan unit e (upto arrival_in run.events (came_in list)) (e.downs ++ l)))
-    (all_of arrival_at (came_in below) turns whole)
-    (come plan unit e run.events turns list below list below (record {
-      whole = all;
-      made = run.made;
-      sends = sends_by plan unit count run.events run.events e.automation answer run.more a' run.ending;
-      whole_below = whole;
-      answers = answers;
-    }) c ([], sym (append-nil list)) ([], sym (append-nil below)))) where
-      all_of : {A : Type 0} (brought : A → Option Arrival) (came : List Arrival) (all : List A) → came ≡ came_of brought all
-          → upto brought all came ≡ all
-      all_of {A} brought came all is =
-          ap₂ (upto brought) (sym (append-nil all)) is ∙ upto_front brought all [] ∙ append-nil all
+  silent_below : (autos servers : List Act) (act : Act) → came_in (act ∷ []) ≡ []
+      → IsThere plan unit e s.at turns autos servers → IsThere plan unit e s.at turns autos (servers ++ act ∷ [])
+  silent_below autos servers act none h =
+      subst (λ (l : List Arrival). AreLed plan unit e
+      (record (s.at (came_in autos)) { downs = e.downs ++ upto arrival_at turns l })) (sym (same_came servers act none)) h
+
+  -- something comes down, and the frames that follow pass
+  lower : (autos servers : List Act) (what : Arrival) → IsFront below (servers ++ brings what ∷ [])
+      → AreLed plan unit e (with_down (listen what) (record (s.at (came_in autos))
+      { downs = e.downs ++ upto arrival_at turns (came_in servers) }))
+      → IsThere plan unit e s.at turns autos (servers ++ brings what ∷ [])
+  lower autos servers what back j =
+      let n = next_of arrival_at turns (came_in servers) what (came_in back.0)
+      (sym whole ∙ next_in below servers back.0 what back.1) in
+      let front : List Turn = upto arrival_at turns (came_in servers) in
+      let now : Ends = s.at (came_in autos) in
+      let frames : List Turn = upto arrival_at n.later [] in
+      let all : ((e.downs ++ front) ++ listen what ∷ []) ++ frames
+      ≡ e.downs ++ upto arrival_at turns (came_in (servers ++ brings what ∷ [])) =
+      append_assoc (e.downs ++ front) (listen what ∷ []) frames
+      ∙ append_assoc e.downs front (listen what ∷ frames)
+      ∙ ap (λ (l : List Turn). e.downs ++ l)
+      (ap (λ (x : Turn). front ++ x ∷ frames) (sym (it_listens n.what what n.is)) ∙ sym n.on_is
+      ∙ ap (upto arrival_at turns) (sym (came_both servers (brings what ∷ [])))) in
+      subst (λ (l : List Turn). AreLed plan unit e (record now { downs = l })) all
+      (frames_on plan unit e now ((e.downs ++ front) ++ listen what ∷ []) n.later j)
+
+  -- something comes up
+  higher : (autos servers : List Act) (what : Arrival) → IsFront list (autos ++ brings what ∷ [])
+      → AreLed plan unit e (record (hears_in plan unit what (s.at (came_in autos)))
+      { downs = e.downs ++ upto arrival_at turns (came_in servers) })
+      → IsThere plan unit e s.at turns (autos ++ brings what ∷ []) servers
+  higher autos servers what front j =
+      let downs : List Turn = e.downs ++ upto arrival_at turns (came_in servers) in
+      subst (λ (l : List Arrival). AreLed plan unit e (record (s.at l) { downs = downs }))
+      (sym (came_both autos (brings what ∷ [])))
+      (s.goes_on e downs (came_in autos) (came_in front.0) what (next_in list autos front.0 what front.1) j)
+
+  come : (autos servers : List Act) → AreCarried plan unit e autos servers → IsFront list autos → IsFront below servers
+      → IsThere plan unit e s.at turns autos servers
+  come _ _ carried.begun front back =
+      frames_on plan unit e (s.at []) e.downs turns (s.begins e e.downs two.begun)
+  come _ _ (carried.sent {autos} {servers} h b) front back =
+      silent autos (sends b) servers refl (come autos servers h (without list autos (sends b) front) back)
+  come _ _ (carried.up {autos} {servers} h piece rest is) front back =
+      let before = without list autos (brings (bytes piece)) front in
+      let out = answers servers back.0 back.1 in
+      let downs : List Turn = e.downs ++ upto arrival_at turns (came_in servers) in
+      let came : List ℕ = e.ups ++ bytes_in (came_in autos) in
+      higher autos servers (bytes piece) front
+      (two.went_on (come autos servers h before back) (two.came_up piece (rest ++ out.0)
+      (ap (λ (p : ClockedPort). sent_in (acts_of (begins AtOnce p) downs)) (s.port (came_in autos))
+      ∙ enough (sent_in (acts_of (server_new e) downs)) (sent_up e) (sent_in servers) came piece rest out.0 out.1 is
+      ∙ ap (λ (l : List ℕ). l ++ (piece ++ (rest ++ out.0)))
+      (sym (s.ups (came_in autos) (came_in before.0) (ap came_in before.1 ∙ came_both autos before.0))))))
+  come _ _ (carried.waited {autos} {servers} h) front back =
+      higher autos servers silence front
+      (two.went_on (come autos servers h (without list autos (brings silence) front) back) two.waited)
+  come _ _ (carried.hung_up {autos} {servers} h) front back =
+      higher autos servers close front
+      (two.went_on (come autos servers h (without list autos (brings close) front) back) two.waited)
+  come _ _ (carried.failed {autos} {servers} h) front back =
+      silent autos fails servers refl (come autos servers h (without list autos fails front) back)
+  come _ _ (carried.answered {autos} {servers} h b) front back =
+      silent_below autos servers (sends b) refl (come autos servers h front (without below servers (sends b) back))
+  come _ _ (carried.down {autos} {servers} h piece rest is) front back =
+      let before = without below servers (brings (bytes piece)) back in
+      let out = s.sends autos front.0 front.1 in
+      let came : List ℕ = bytes_in (arrivals e.downs) ++ bytes_in (came_in servers) in
+      lower autos servers (bytes piece) back
+      (two.went_on (come autos servers h front before) (two.came_down piece (rest ++ out.0)
+      (enough (sent_down plan unit (s.at (came_in autos))) (sent_down plan unit e) (sent_in autos) came piece rest out.0
+      out.1 is
+      ∙ ap (λ (l : List ℕ). l ++ (piece ++ (rest ++ out.0))) (sym (downs_so e turns below servers whole before)))))
+  come _ _ (carried.paused {autos} {servers} h) front back =
+      lower autos servers silence back
+      (two.went_on (come autos servers h front (without below servers (brings silence) back)) two.paused)
+  come _ _ (carried.shut {autos} {servers} h) front back =
+      lower autos servers close back
+      (two.went_on (come autos servers h front (without below servers (brings close) back)) two.shut)
+  come _ _ (carried.broke {autos} {servers} h) front back =
+      silent_below autos servers fails refl (come autos servers h front (without below servers fails back))
+
+  -- all of it
+  pub side_led : AreCarried plan unit e list below → AreLed plan unit e (record last { downs = e.downs ++ turns })
+  side_led c =
+      subst (λ (x : Ends). AreLed plan unit e (record x { downs = e.downs ++ turns })) s.ends
+      (subst (λ (l : List Turn). AreLed plan unit e (record (s.at (came_in list)) { downs = e.downs ++ l }))
+      (ap₂ (upto arrival_at) (sym (append-nil turns)) whole ∙ upto_front arrival_at turns [] ∙ append-nil turns)
+      (come list below c ([], sym (append-nil list)) ([], sym (append-nil below))))

@@ -30,3 +30,5 @@ mod Untorn
 mod AsrunRows
 mod LossyGoings
 mod Asks
+mod Asked
+mod Tried

@@ -13,3 +13,4 @@ pub mod InTime
 pub mod Untorn
 pub mod AsrunLaw
 pub mod LossyEvents
+pub mod Sessions

@@ -7,7 +7,7 @@ use Rattle.vdcp_words.specs.declared.command.Command.{Command}
 use Rattle.vdcp_port.specs.Clock.{ClockedPort}
 use Rattle.vdcp_auto.specs.Course.{logged}
 use Rattle.vdcp_auto.specs.Plan.{Plan}
-use Rattle.vdcp_auto.specs.State.{Stage, State}
+use Rattle.vdcp_auto.specs.State.{State}
 use Rattle.vdcp_auto.specs.Heard.{heard_as}
 use Rattle.vdcp_auto.specs.Turn.{came_to, ended_by, given, outcome_of, stopped, taken}
 use Rattle.vdcp_auto.specs.declared.exchange.Exchange.{Exchange}
@@ -20,7 +20,7 @@ use Rattle.vdcp_laws.specs.Automation.{end_notes}
 use Rattle.vdcp_laws.specs.Automation.{Prompt, commands_in, gives, hears, listens, new_prompt, receives}
 use Rattle.vdcp_laws.specs.Announced.{Announces}
 use Rattle.vdcp_laws.specs.Kills.{IsRun}
-use Rattle.vdcp_drive.specs.Reading.{completed, holds}
+use Rattle.vdcp_drive.specs.Reading.{Held, completed, holds}
 use Rattle.vdcp_drive.specs.declared.hooks.Call.TheVariants as call
 use Rattle.vdcp_drive.specs.declared.hooks.Kept.{Kept}
 use Rattle.vdcp_drive.specs.declared.hooks.Kept.TheVariants as kept
@@ -135,13 +135,13 @@ wishing state p = record p { state = state }
 abbrev pub asking : Command → Ends → Ends
 asking c e = record e { asked = e.asked ++ c ∷ [] }
 
--- these are
-abbrev pub asking_all : List Command → Ends → Ends
-asking_all cs e = record e { asked = e.asked ++ cs }
-
--- this may be asked beside a controller that is at this stage
-abbrev pub MayAsk : Plan → Stage → Command → Type 0
-MayAsk plan stage c = (q : Question) × (asked_in plan q stage ≡ Some c)
+-- these are, and this comes up, of which its ear then holds this
+abbrev pub asked_first : List Command → Held → List ℕ → Ends → Ends
+asked_first cs held came e = record e {
+  asked = e.asked ++ cs;
+  automation = record e.automation { held = held };
+  ups = e.ups ++ came;
+}
 
 -- the next command is given
 abbrev pub with_command : Plan → Ends → Ends

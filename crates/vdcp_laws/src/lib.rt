@@ -3,12 +3,14 @@
 //! Begin with `two_ends_keep_the_headline`.
 //!
 //! Files: `two_ends` (both ends over two streams of bytes), `killed_runs` (runs that go on from their journals), `asrun_lists`
-//! (as-run lists beside what went to air), `lossy_lines` (what `vdcp lossy` does, as events of a line).
+//! (as-run lists beside what went to air), `lossy_lines` (what `vdcp lossy` does, as events of a line), `sessions`
+//! (what `vdcp run` does over a connection).
 #![tactic(auto)]
 
 mod asrun_lists;
 mod killed_runs;
 mod lossy_lines;
+mod sessions;
 mod two_ends;
 
 pub use asrun_lists::{
@@ -19,10 +21,10 @@ pub use killed_runs::{
     what_asks_may_go_out_unkept, what_going_on_adds_was_given,
 };
 pub use lossy_lines::what_is_done_is_events;
+pub use sessions::a_session_keeps_the_headline;
 pub use two_ends::{
     a_carried_run_keeps_the_headline, a_journal_makes_the_automation, a_kill_loses_what_came_since,
     an_untorn_run_keeps_the_headline, ends_in_time_are_a_channel,
     nothing_airs_after_a_complete_end, several_runs_air_each_event_once,
     two_ends_are_a_late_channel, two_ends_keep_the_headline, untorn_turns_are_at_once,
-    what_is_asked_beside_joins,
 };

@@ -4,20 +4,16 @@
 ghost use Rattle.std.specs.Prelude.{ℕ, Bool, ◌≡◌, ◌≤◌, ◌<◌, ◌+◌, ◌++◌, [], false, All, AllPairs, IfSome, List, length, IsTrue, Option, None, Some, Result, map};
 ghost use Rattle.vdcp_value.specs.declared.part.Item.{Item};
 ghost use Rattle.vdcp_words.specs.declared.command.Command.{Command};
-ghost use Rattle.vdcp_words.specs.declared.command.Command.TheVariants.{Status};
-ghost use Rattle.vdcp_auto.specs.declared.phase.Phase.TheVariants as phase;
 ghost use Rattle.vdcp_world.specs.AnyPort.{CanRun};
 ghost use Rattle.vdcp_world.specs.Headline.{Means};
 ghost use Rattle.vdcp_world.specs.InTime.{PlaysOn};
-ghost use Rattle.vdcp_world.specs.LateLine.LateChannel.{IsQuestion};
-ghost use Rattle.vdcp_laws.specs.Automation.{commands_in};
 ghost use Rattle.vdcp_port.specs.Clips.{is_playable};
 ghost use Rattle.vdcp_port.specs.Clock.{ClockedPort};
 ghost use Rattle.vdcp_port.specs.Port.{empty};
 ghost use Rattle.vdcp_auto.specs.Course.{logged};
 ghost use Rattle.vdcp_auto.specs.Plan.{Plan};
 ghost use Rattle.vdcp_auto.specs.Settled.{may_have_aired};
-ghost use Rattle.vdcp_auto.specs.State.{Ready, State};
+ghost use Rattle.vdcp_auto.specs.State.{State};
 ghost use Rattle.vdcp_auto.specs.Turn.{ended_by, given, outcome_of, start};
 ghost use Rattle.vdcp_auto.specs.declared.exchange.Heard.{Heard};
 ghost use Rattle.vdcp_auto.specs.declared.outcome.Outcome.{Outcome};
@@ -46,7 +42,7 @@ ghost use Rattle.vdcp_laws.specs.Carried.{AreCarried, all_turns, driver_of};
 ghost use Rattle.vdcp_laws.specs.EndsHeadline.{EndsHeadline};
 ghost use Rattle.vdcp_laws.specs.OneConnection.{ends_at};
 ghost use Rattle.vdcp_laws.specs.SeveralRuns.{AiredEvent, AsksAtMost, HaveAired, IsEvent, aired_from};
-ghost use Rattle.vdcp_laws.specs.TwoEnds.{AreJoined, AreLed, CanJoin, Ends, IsLateChannel, IsSince, MayAsk, Step, aired_now, asking_all, connected_anew, heard_again, log_now, new_ends, note_for, notes_given, port_now, server_now, with_command, with_kept};
+ghost use Rattle.vdcp_laws.specs.TwoEnds.{AreJoined, AreLed, CanJoin, Ends, IsLateChannel, IsSince, Step, aired_now, connected_anew, heard_again, log_now, new_ends, note_for, notes_given, port_now, server_now, with_command, with_kept};
 ghost use Rattle.vdcp_laws.specs.Untorn.{AreUntorn, at_once_for, server_at_silences};
 ghost use Rattle.vdcp_laws.specs.InTime.{AreChannel, AreNewInTime, CutsShort, IsInTime, IsNoStopNote, IsNoTakeNote};
 
@@ -160,17 +156,6 @@ pub fn an_untorn_run_keeps_the_headline<C: Catalogue, B: Wire, H: ServerHooks<C>
     vdcp_drive::laws::servers_go_on();
     vdcp_drive::laws::what_goes_out_is_answered();
 }
-
-/// What an automation may ask beside its controller it may ask of the two ends as often as it likes, over each connection,
-/// before its first command goes out there: while OPEN comes next OPEN, SELECT and STATUS, and while it asks whether its
-/// PLAY was lost STATUS.
-pub fn what_is_asked_beside_joins()
-    ensures joined { (plan : Plan) (port : ClockedPort) (asked more : List Command) (e : Ends) →
-        commands_in plan e.automation ≡ [] → All (MayAsk plan e.automation.state.stage) more → AreJoined plan port asked e →
-        AreJoined plan port asked (asking_all more e) }
-    ensures opens { (plan : Plan) (c : Command) → IsQuestion plan.port c → MayAsk plan (Ready phase.Open) c }
-    ensures probes { (plan : Plan) (k : ℕ) → MayAsk plan (Ready (phase.Probe k)) (Status 1) }
-{}
 
 /// Once the automation has ended so that all that went to air is reported, nothing more airs, whatever is still on its way.
 pub fn nothing_airs_after_a_complete_end()

@@ -1,0 +1,153 @@
+-- What a session does over a connection leads both ends on.
+use Rattle.std.proofs.Common.{ℕ, ◌≡◌, Bool, All, List, [], ◌++◌, refl, sym, ap, subst, ◌∙◌, append_assoc, append-nil}
+use Rattle.std.proofs.lemmas.List.Elements.{All-nil, All-weaker}
+use Rattle.std.specs.Prelude.{◌≢◌, Option, None, Some, Result, Err}
+use Rattle.vdcp_words.specs.declared.command.Command.{Command}
+use Rattle.vdcp_words.specs.declared.command.Command.TheVariants as command
+use Rattle.vdcp_port.specs.Clock.{ClockedPort}
+use Rattle.vdcp_auto.specs.Plan.{Plan}
+use Rattle.vdcp_auto.specs.State.{Stage, Ready, State}
+use Rattle.vdcp_auto.specs.declared.exchange.Exchange.{Exchange}
+use Rattle.vdcp_auto.specs.declared.phase.Phase.TheVariants as phase
+use Rattle.vdcp_wire.specs.Acts.{Act}
+use Rattle.vdcp_drive.specs.Auto.{Auto}
+use Rattle.vdcp_drive.specs.Hearing.{at_once}
+use Rattle.vdcp_drive.specs.Leaves.{HasRun, steps_in}
+use Rattle.vdcp_drive.specs.Reading.{Held}
+use Rattle.vdcp_drive.specs.Steps.{World}
+use Rattle.vdcp_drive.specs.Traces.{acts_in, came_in, commands_kept, kept_in, sent_in}
+use Rattle.vdcp_drive.specs.Turns.{Turn}
+use Rattle.vdcp_drive.specs.declared.hooks.BrokenOff.{BrokenOff}
+use Rattle.vdcp_drive.specs.declared.hooks.BrokenOff.TheVariants as fault
+use Rattle.vdcp_drive.specs.declared.line.Ran.{Ran}
+use Rattle.vdcp_journal_file.specs.Recording.{Recording}
+use Rattle.vdcp_laws.specs.Automation.{commands_in}
+use Rattle.vdcp_laws.specs.Carried.{AreCarried}
+use Rattle.vdcp_laws.specs.EndsHeadline.{EndsHeadline}
+use Rattle.vdcp_laws.specs.OneConnection.{ends_by}
+use Rattle.vdcp_laws.specs.Sessions.{acts_asked, acts_tried, ends_asked, ends_tried, log_tried, questions, state_tried}
+use Rattle.vdcp_laws.specs.TwoEnds.{AreJoined, AreLed, CanJoin, Ends, aired_now, log_now, sent_down, with_command}
+use Rattle.vdcp_laws.proofs.Asked.{IsAskedBy, Steps, asked_side, ear_of_run, ending, part_of_run}
+use Rattle.vdcp_laws.proofs.Asks.{MayAsk, opens, probes, sent_asked}
+use Rattle.vdcp_laws.proofs.CarriedRun.{of_joined}
+use Rattle.vdcp_laws.proofs.Carrying.{Side, no_act, side_of}
+use Rattle.vdcp_laws.proofs.Fronts.{came_of}
+use Rattle.vdcp_laws.proofs.Headline as headline
+use Rattle.vdcp_laws.proofs.Leading.{SendsAnswers, arrival_at, side_led}
+use Rattle.vdcp_run.specs.Asking.{AreAsked, Asker, HasAsked, Inquiring, IsAsked, Start, asker_of, asking, line_of, opening, probing}
+use Rattle.vdcp_run.specs.Session.{HasTried, played, unbegun}
+use Rattle.vdcp_run.specs.declared.run_end.LineEnd.{LineEnd}
+use Rattle.vdcp_run.specs.declared.run_end.LineEnd.TheVariants as line_end
+use Rattle.vdcp_run.specs.declared.run_end.RunEnd.{RunEnd}
+use Rattle.vdcp_run.specs.declared.settings.RunSettings.{RunSettings}
+
+-- It may be asked.
+may_ask : (start : Start) (cs : List Command) → AreAsked start cs → All (MayAsk start.plan start.state.stage) cs
+may_ask start cs (opening is asks) =
+    All-weaker (IsAsked start.plan.port) (MayAsk start.plan start.state.stage)
+    (λ c q. subst (λ (stage : Stage). MayAsk start.plan stage c) (sym is) (opens start.plan c q)) cs asks
+may_ask start cs (probing k is asks) =
+    All-weaker (λ c. c ≡ command.Status 1) (MayAsk start.plan start.state.stage)
+    (λ c same. subst (λ (stage : Stage). MayAsk start.plan stage c) (sym is)
+    (subst (MayAsk start.plan (Ready (phase.Probe k))) (sym same) (probes start.plan k))) cs asks
+
+-- vdcp_run::laws::only_questions_are_asked, and vdcp_drive::laws::steps_are_exchanges
+pub record Laws {W : Type 0} (does : Act → W → W → Type 0) : Type 0 where
+  pub asks : (ask : Bool) (start : Start) (asker : Asker) (unit count : ℕ) (a a' : Auto Held) (old new : World W Inquiring)
+      (answer : Result Ran BrokenOff) → asker_of ask start ≡ Some asker → a.state ≡ asker.state
+      → (h : HasRun (asking does asker.plan) at_once asker.plan unit count a a' old new answer)
+      → AreAsked start (commands_kept (kept_in (steps_in h.run)))
+  pub steps : Steps
+
+-- What was asked is asked by these acts; and all of it went out, if the list is begun.
+asked_by : {W : Type 0} {does : Act → W → W → Type 0} (law : Laws does) (settings : RunSettings) (start : Start) (e : Ends)
+    (ear' : Held) (wire wire' : W) (left : ℕ) (line : Option LineEnd) → start.state ≡ e.automation.state
+    → (asker : Option Asker) → asker_of settings.ask start ≡ asker
+    → (h : HasAsked asker does at_once settings e.automation.held ear' wire wire' left line)
+    → (a : IsAskedBy start.plan settings.unit e (questions does settings e.automation.held ear' wire wire' left line asker h) ear'
+    (acts_asked does settings e.automation.held ear' wire wire' left line asker h)) × (line ≡ None → a.unsent ≡ [])
+asked_by law settings start e ear' wire wire' left line same None is h = (
+  record {
+    may = All-nil (MayAsk start.plan e.automation.state.stage);
+    ear = h.0;
+    unsent = [];
+    part = refl;
+  },
+  λ begun. refl,
+)
+asked_by law settings start e ear' wire wire' left line same (Some asker) is h =
+    let runs = h.comes.runs in
+    let unit : ℕ = settings.unit in
+    let cs : List Command = commands_kept (kept_in (steps_in runs.run)) in
+    let a : Auto Held = record { ear = e.automation.held; state = asker.state } in
+    let last = ending law.steps asker.plan unit settings.listens a h.comes.auto h.answer runs.run in (
+      record {
+        may = subst (λ (s : State). All (MayAsk start.plan s.stage) cs) same
+            (may_ask start cs (law.asks settings.ask start asker unit settings.listens a h.comes.auto _ _ h.answer is refl runs));
+        ear = h.comes.ear_is ∙ ear_of_run law.steps asker.plan unit settings.listens a h.comes.auto h.answer runs.run;
+        unsent = last.unsent;
+        part = part_of_run law.steps asker.plan unit settings.listens a h.comes.auto h.answer runs.run;
+      },
+      λ begun. last.all (works h.answer (sym begun ∙ h.line_is)),
+    ) where
+      works : (answer : Result Ran BrokenOff) → None ≡ line_of h.last answer h.outcome → answer ≢ Err fault.Device
+      works answer line failed =
+          let none : None ≡ Some line_end.Failed =
+          line ∙ ap (λ (r : Result Ran BrokenOff). line_of h.last r h.outcome) failed in
+          cc none
+
+-- All of it.
+pub tried_led : {W F : Type 0} {does : Act → W → W → Type 0} {safe : F → Option (List ℕ)} (law : Laws does)
+    (settings : RunSettings) (plan : Plan) (from : ℕ) (e : Ends) (world : World W (Option (Recording F))) (end : RunEnd)
+    (turns : List Turn) (below : List Act) → commands_in plan e.automation ≡ []
+    → (tried : HasTried does safe at_once settings (record { plan = plan; from = from; state = e.automation.state })
+    e.automation.held world end)
+    → came_in below ≡ came_of arrival_at turns → SendsAnswers e turns below
+    → AreCarried plan settings.unit e (acts_tried tried) below
+    → AreLed plan settings.unit e (ends_tried tried e (e.downs ++ turns))
+tried_led {does} law settings plan from e world end turns below none (played ear' wire left asked plays) whole answers c =
+    let unit : ℕ = settings.unit in
+    let start : Start = record { plan = plan; from = from; state = e.automation.state } in
+    let asker : Option Asker = asker_of settings.ask start in
+    let list : List Act = acts_asked does settings e.automation.held ear' world.wire wire left None asker asked in
+    let more : List Act = acts_in (steps_in plays.runs.run) in
+    let now : Ends = ends_asked does settings e.automation.held ear' world.wire wire left None asker asked e in
+    let last : Ends = with_command plan (ends_by plan unit now plays.runs.run.events) in
+    let a = asked_by law settings start e ear' world.wire wire left None refl asker refl asked in
+    let sent : sent_down plan unit now ≡ sent_down plan unit e ++ sent_in list =
+    sent_asked plan unit e (questions does settings e.automation.held ear' world.wire wire left None asker asked) none ∙ ap (λ (l : List ℕ). sent_down plan unit e ++ l)
+    (a.0.part ∙ ap (λ (l : List ℕ). sent_in list ++ l) (a.1 refl) ∙ append-nil (sent_in list)) in
+    side_led plan unit e (list ++ more) last turns below
+    (asked_side plan unit e (questions does settings e.automation.held ear' world.wire wire left None asker asked) ear' list more last none a.0
+    (subst (λ (l : List ℕ). Side plan unit now l more last) sent
+    (side_of plan unit left now plays.ran plays.auto plays.runs.run))) whole answers c
+tried_led {does} law settings plan from e world end turns below none (unbegun ear' wire left line asked is) whole answers c =
+    let unit : ℕ = settings.unit in
+    let start : Start = record { plan = plan; from = from; state = e.automation.state } in
+    let asker : Option Asker = asker_of settings.ask start in
+    let list : List Act = acts_asked does settings e.automation.held ear' world.wire wire left (Some line) asker asked in
+    let now : Ends = ends_asked does settings e.automation.held ear' world.wire wire left (Some line) asker asked e in
+    let a = asked_by law settings start e ear' world.wire wire left (Some line) refl asker refl asked in
+    let sent : sent_down plan unit now ≡ (sent_down plan unit e ++ sent_in list) ++ a.0.unsent =
+    sent_asked plan unit e (questions does settings e.automation.held ear' world.wire wire left (Some line) asker asked) none ∙ ap (λ (l : List ℕ). sent_down plan unit e ++ l) a.0.part
+    ∙ sym (append_assoc (sent_down plan unit e) (sent_in list) a.0.unsent) in
+    side_led plan unit e list now turns below
+    (subst (λ (l : List Act). Side plan unit e (sent_down plan unit e) l now) (append-nil list)
+    (asked_side plan unit e (questions does settings e.automation.held ear' world.wire wire left (Some line) asker asked) ear' list [] now none a.0
+    (no_act plan unit now (sent_down plan unit e ++ sent_in list) a.0.unsent sent))) whole answers c
+
+-- The headline.
+pub tried_headline : {W F : Type 0} {does : Act → W → W → Type 0} {safe : F → Option (List ℕ)} (law : headline.Laws)
+    (settings : RunSettings) (plan : Plan) (from : ℕ) (port : ClockedPort) (asked : List Command) (e : Ends)
+    (world : World W (Option (Recording F))) (end : RunEnd) (downs : List Turn) → CanJoin plan port asked
+    → (tried : HasTried does safe at_once (record settings { unit = port.state.unit })
+    (record { plan = plan; from = from; state = e.automation.state }) e.automation.held world end)
+    → AreJoined plan port asked (ends_tried tried e downs)
+    → EndsHeadline plan port.clips (state_tried tried) (log_now e ++ log_tried tried) (aired_now (record e { downs = downs }))
+tried_headline {does} law settings plan from port asked e world end downs start (played ear' wire left was plays) j =
+    of_joined law plan port asked (ends_asked does (record settings { unit = port.state.unit }) e.automation.held ear' world.wire wire left None _ was e) left plays.ran plays.auto downs start plays.runs.run j
+tried_headline {does} law settings plan from port asked e world end downs start (unbegun ear' wire left line was is) j =
+    subst (λ (l : List Exchange). EndsHeadline plan port.clips e.automation.state l (aired_now (record e { downs = downs })))
+    (sym (append-nil (log_now e)))
+    (headline.of_ends law plan port asked (record (ends_asked does (record settings { unit = port.state.unit }) e.automation.held ear' world.wire wire left
+    (Some line) _ was e) { downs = downs }) start j)
