@@ -17,7 +17,6 @@ use Rattle.vdcp_drive.specs.Hearing.{at_once}
 use Rattle.vdcp_drive.specs.Leaves.{Ending, by_itself, by_hooks, in_keep, in_drop, in_send, in_listen, IsRun}
 use Rattle.vdcp_drive.specs.Reading.{Held}
 use Rattle.vdcp_drive.specs.Steps.{Step}
-use Rattle.vdcp_drive.specs.Traces.{came_in}
 use Rattle.vdcp_drive.specs.declared.hooks.BrokenOff.{BrokenOff}
 use Rattle.vdcp_drive.specs.declared.line.Ran.{Ran}
 use Rattle.vdcp_laws.specs.Automation.{Prompt, led}
@@ -26,10 +25,10 @@ use Rattle.vdcp_laws.specs.EndsHeadline.{EndsHeadline}
 use Rattle.vdcp_laws.specs.OneConnection.{ends_at, ends_by}
 use Rattle.vdcp_laws.specs.TwoEnds.{AreJoined, CanJoin, Ends, aired_now, log_now, new_ends, sent_down}
 use Rattle.vdcp_laws.proofs.Carrying.{Side}
-use Rattle.vdcp_laws.proofs.Fronts.{came_of}
-use Rattle.vdcp_laws.proofs.Leading.{SendsAnswers, arrival_at, side_led}
+use Rattle.vdcp_laws.proofs.Leading.{side_led}
 use Rattle.vdcp_laws.proofs.Headline.{Laws, before_tick, of_ends}
 use Rattle.vdcp_laws.proofs.OneRun.{goes, led_on}
+use Rattle.vdcp_laws.proofs.Servers.{ServedSo}
 use Rattle.vdcp_laws.proofs.Same.{led_log, led_so}
 
 pub left_at : (plan : Plan) (unit count : ℕ) (events : List Event) (a a' : Auto Held) (answer : Result Ran BrokenOff)
@@ -43,13 +42,12 @@ left_at plan unit count events a a' answer more (in_listen is m left) = inr left
 
 -- where ends are that are carried
 pub joined : (plan : Plan) (port : ClockedPort) (asked : List Command) (e last : Ends) (list : List Act)
-    (turns : List Turn) (below : List Act) → AreJoined plan port asked e
-    → Side plan port.state.unit e (sent_down plan port.state.unit e) list last
-    → came_in below ≡ came_of arrival_at turns → SendsAnswers e turns below → AreCarried plan port.state.unit e list below
-    → AreJoined plan port asked (record last { downs = e.downs ++ turns })
-joined plan port asked e last list turns below j s whole answers c =
+    (turns : List Turn) (below : List Act) (aired : List Item) → AreJoined plan port asked e
+    → Side plan port.state.unit e (sent_down plan port.state.unit e) list last → ServedSo e turns below aired
+    → AreCarried plan port.state.unit e list below → AreJoined plan port asked (record last { downs = e.downs ++ turns })
+joined plan port asked e last list turns below aired j s served c =
     led_on plan port.state.unit (new_ends port asked) e _ j
-    (side_led plan port.state.unit e list last turns below s whole answers c)
+    (side_led plan port.state.unit e list last turns below s served.whole served.answers c)
 
 -- The headline of a run after which the ends are joined.
 

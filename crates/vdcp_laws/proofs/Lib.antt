@@ -23,6 +23,7 @@ mod Numbered
 mod OneRun
 mod Queues
 mod Same
+mod Servers
 mod Serving
 mod SeveralRuns
 mod Running

@@ -2,6 +2,7 @@
 use Rattle.std.proofs.Common.{ℕ, ◌≡◌, Bool, All, List, [], ◌++◌, refl, sym, ap, subst, ◌∙◌, append_assoc, append-nil}
 use Rattle.std.proofs.lemmas.List.Elements.{All-nil, All-weaker}
 use Rattle.std.specs.Prelude.{◌≢◌, Option, None, Some, Result, Err}
+use Rattle.vdcp_value.specs.declared.part.Item.{Item}
 use Rattle.vdcp_words.specs.declared.command.Command.{Command}
 use Rattle.vdcp_words.specs.declared.command.Command.TheVariants as command
 use Rattle.vdcp_port.specs.Clock.{ClockedPort}
@@ -15,7 +16,7 @@ use Rattle.vdcp_drive.specs.Hearing.{at_once}
 use Rattle.vdcp_drive.specs.Leaves.{HasRun, steps_in}
 use Rattle.vdcp_drive.specs.Reading.{Held}
 use Rattle.vdcp_drive.specs.Steps.{World}
-use Rattle.vdcp_drive.specs.Traces.{acts_in, came_in, commands_kept, kept_in, sent_in}
+use Rattle.vdcp_drive.specs.Traces.{acts_in, commands_kept, kept_in, sent_in}
 use Rattle.vdcp_drive.specs.Turns.{Turn}
 use Rattle.vdcp_drive.specs.declared.hooks.BrokenOff.{BrokenOff}
 use Rattle.vdcp_drive.specs.declared.hooks.BrokenOff.TheVariants as fault
@@ -31,9 +32,9 @@ use Rattle.vdcp_laws.proofs.Asked.{IsAskedBy, Steps, asked_side, ear_of_run, end
 use Rattle.vdcp_laws.proofs.Asks.{MayAsk, opens, probes, sent_asked}
 use Rattle.vdcp_laws.proofs.CarriedRun.{of_joined}
 use Rattle.vdcp_laws.proofs.Carrying.{Side, no_act, side_of}
-use Rattle.vdcp_laws.proofs.Fronts.{came_of}
 use Rattle.vdcp_laws.proofs.Headline as headline
-use Rattle.vdcp_laws.proofs.Leading.{SendsAnswers, arrival_at, side_led}
+use Rattle.vdcp_laws.proofs.Leading.{side_led}
+use Rattle.vdcp_laws.proofs.Servers.{ServedSo}
 use Rattle.vdcp_run.specs.Asking.{AreAsked, Asker, HasAsked, Inquiring, IsAsked, Start, asker_of, asking, line_of, opening, probing}
 use Rattle.vdcp_run.specs.Session.{HasTried, played, unbegun}
 use Rattle.vdcp_run.specs.declared.run_end.LineEnd.{LineEnd}
@@ -99,13 +100,12 @@ asked_by law settings start e ear' wire wire' left line same (Some asker) is h =
 -- All of it.
 pub tried_led : {W F : Type 0} {does : Act → W → W → Type 0} {safe : F → Option (List ℕ)} (law : Laws does)
     (settings : RunSettings) (plan : Plan) (from : ℕ) (e : Ends) (world : World W (Option (Recording F))) (end : RunEnd)
-    (turns : List Turn) (below : List Act) → commands_in plan e.automation ≡ []
+    (turns : List Turn) (below : List Act) (aired : List Item) → commands_in plan e.automation ≡ []
     → (tried : HasTried does safe at_once settings (record { plan = plan; from = from; state = e.automation.state })
     e.automation.held world end)
-    → came_in below ≡ came_of arrival_at turns → SendsAnswers e turns below
-    → AreCarried plan settings.unit e (acts_tried tried) below
+    → ServedSo e turns below aired → AreCarried plan settings.unit e (acts_tried tried) below
     → AreLed plan settings.unit e (ends_tried tried e (e.downs ++ turns))
-tried_led {does} law settings plan from e world end turns below none (played ear' wire left asked plays) whole answers c =
+tried_led {does} law settings plan from e world end turns below aired none (played ear' wire left asked plays) served c =
     let unit : ℕ = settings.unit in
     let start : Start = record { plan = plan; from = from; state = e.automation.state } in
     let asker : Option Asker = asker_of settings.ask start in
@@ -120,8 +120,8 @@ tried_led {does} law settings plan from e world end turns below none (played ear
     side_led plan unit e (list ++ more) last turns below
     (asked_side plan unit e (questions does settings e.automation.held ear' world.wire wire left None asker asked) ear' list more last none a.0
     (subst (λ (l : List ℕ). Side plan unit now l more last) sent
-    (side_of plan unit left now plays.ran plays.auto plays.runs.run))) whole answers c
-tried_led {does} law settings plan from e world end turns below none (unbegun ear' wire left line asked is) whole answers c =
+    (side_of plan unit left now plays.ran plays.auto plays.runs.run))) served.whole served.answers c
+tried_led {does} law settings plan from e world end turns below aired none (unbegun ear' wire left line asked is) served c =
     let unit : ℕ = settings.unit in
     let start : Start = record { plan = plan; from = from; state = e.automation.state } in
     let asker : Option Asker = asker_of settings.ask start in
@@ -134,7 +134,7 @@ tried_led {does} law settings plan from e world end turns below none (unbegun ea
     side_led plan unit e list now turns below
     (subst (λ (l : List Act). Side plan unit e (sent_down plan unit e) l now) (append-nil list)
     (asked_side plan unit e (questions does settings e.automation.held ear' world.wire wire left (Some line) asker asked) ear' list [] now none a.0
-    (no_act plan unit now (sent_down plan unit e ++ sent_in list) a.0.unsent sent))) whole answers c
+    (no_act plan unit now (sent_down plan unit e ++ sent_in list) a.0.unsent sent))) served.whole served.answers c
 
 -- The headline.
 pub tried_headline : {W F : Type 0} {does : Act → W → W → Type 0} {safe : F → Option (List ℕ)} (law : headline.Laws)

@@ -14,3 +14,4 @@ pub mod Untorn
 pub mod AsrunLaw
 pub mod LossyEvents
 pub mod Sessions
+pub mod Servers

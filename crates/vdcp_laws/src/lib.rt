@@ -24,7 +24,7 @@ pub use lossy_lines::what_is_done_is_events;
 pub use sessions::a_session_keeps_the_headline;
 pub use two_ends::{
     a_carried_run_keeps_the_headline, a_journal_makes_the_automation, a_kill_loses_what_came_since,
-    an_untorn_run_keeps_the_headline, ends_in_time_are_a_channel,
-    nothing_airs_after_a_complete_end, several_runs_air_each_event_once,
-    two_ends_are_a_late_channel, two_ends_keep_the_headline, untorn_turns_are_at_once,
+    ends_in_time_are_a_channel, nothing_airs_after_a_complete_end,
+    several_runs_air_each_event_once, two_ends_are_a_late_channel, two_ends_keep_the_headline,
+    untorn_turns_are_at_once,
 };

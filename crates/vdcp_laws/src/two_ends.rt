@@ -21,28 +21,27 @@ ghost use Rattle.vdcp_journal.specs.Airings.{settled_in};
 ghost use Rattle.vdcp_journal.specs.Resume.{AreTold, after_rows, log_of};
 ghost use Rattle.vdcp_journal.specs.Thinned.{AreThinned, notes_in};
 ghost use Rattle.vdcp_journal.specs.declared.row.Row.{Row};
+ghost use Rattle.vdcp_wire.specs.Acts.{Act};
 ghost use Rattle.vdcp_drive.specs.Auto as auto;
 ghost use Rattle.vdcp_drive.specs.Auto.{Auto, Event, after};
 ghost use Rattle.vdcp_drive.specs.Hearing.{at_once};
 ghost use Rattle.vdcp_drive.specs.Leaves.{IsRun, steps_in};
 ghost use Rattle.vdcp_drive.specs.Reading.{Held};
-ghost use Rattle.vdcp_drive.specs.Steps.{Chain, steps_of};
+ghost use Rattle.vdcp_drive.specs.Steps.{steps_of};
 ghost use Rattle.vdcp_drive.specs.Traces.{acts_in, kept_in};
 ghost use Rattle.vdcp_drive.specs.declared.hooks.BrokenOff.{BrokenOff};
 ghost use Rattle.vdcp_drive.specs.declared.line.Ran.{Ran};
-ghost use Rattle.vdcp_drive.specs.declared.line.TurnsEnd.{TurnsEnd};
-ghost use Rattle.vdcp_drive.specs.declared.line.DriveFault.{DriveFault};
-ghost use Rattle.vdcp_drive.specs.ServeLeaves.{HasServed};
-ghost use Rattle.vdcp_drive.specs.Serving.{Serving, acts_of, begins, items_in, left_by, hook_steps};
+ghost use Rattle.vdcp_drive.specs.Serving.{acts_of, begins, items_in, left_by, hook_steps};
 ghost use Rattle.vdcp_drive.specs.Turns.{Turn};
 ghost use Rattle.vdcp_world.specs.LateLine.LateHeadline.{is_late_complete};
 ghost use Rattle.vdcp_laws.specs.Announced.{Announces, played_notes};
 ghost use Rattle.vdcp_laws.specs.Below.{Laws};
-ghost use Rattle.vdcp_laws.specs.Carried.{AreCarried, all_turns, driver_of};
+ghost use Rattle.vdcp_laws.specs.Carried.{AreCarried, driver_of};
 ghost use Rattle.vdcp_laws.specs.EndsHeadline.{EndsHeadline};
 ghost use Rattle.vdcp_laws.specs.OneConnection.{ends_at};
+ghost use Rattle.vdcp_laws.specs.Servers.{IsServed};
 ghost use Rattle.vdcp_laws.specs.SeveralRuns.{AiredEvent, AsksAtMost, HaveAired, IsEvent, aired_from};
-ghost use Rattle.vdcp_laws.specs.TwoEnds.{AreJoined, AreLed, CanJoin, Ends, IsLateChannel, IsSince, Step, aired_now, connected_anew, heard_again, log_now, new_ends, note_for, notes_given, port_now, server_now, with_command, with_kept};
+ghost use Rattle.vdcp_laws.specs.TwoEnds.{AreJoined, AreLed, CanJoin, Ends, IsLateChannel, IsSince, Step, aired_now, connected_anew, heard_again, log_now, new_ends, note_for, notes_given, port_now, with_command, with_kept};
 ghost use Rattle.vdcp_laws.specs.Untorn.{AreUntorn, at_once_for, server_at_silences};
 ghost use Rattle.vdcp_laws.specs.InTime.{AreChannel, AreNewInTime, CutsShort, IsInTime, IsNoStopNote, IsNoTakeNote};
 
@@ -73,38 +72,6 @@ pub fn two_ends_keep_the_headline()
     vdcp_world::laws::a_late_line_keeps_the_headline();
 }
 
-/// So the headline holds of a driver and a server that hear at once, however their runs end and whatever calls were made in
-/// them, with frames and silences at any moment, whose wires' acts are carried so that to each comes, in order, a beginning
-/// of the bytes that the other one sent by then: of new ones, of those that run or serve again (their runs are one), and of
-/// a driver that goes on from its journal over a new connection.
-pub fn a_carried_run_keeps_the_headline<C: Catalogue, B: Wire, H: ServerHooks<C>>()
-    ensures headline { (plan : Plan) (port : ClockedPort) (asked : List Command) (e : Ends) (turns count : ℕ)
-        (a' : Auto Held) (answer : Result Ran BrokenOff) (server server' : Serving B) (hooks hooks' : H)
-        (result : Result TurnsEnd DriveFault) → CanJoin plan port asked → AreJoined plan port asked e →
-        (run : IsRun at_once plan port.state.unit turns (driver_of e.automation) a' answer) →
-        (serving : HasServed B.does H.can_act (λ steps. Chain H.does steps hooks hooks') count (server_now e) server server'
-        result) →
-        AreCarried plan port.state.unit e (acts_in (steps_in run)) (acts_of (server_now e) serving.turns ++ serving.done) →
-        EndsHeadline plan port.clips a'.state
-        (log_now e ++ auto.log_of at_once plan port.state.unit (driver_of e.automation) run.events)
-        (aired_now (record e { downs = e.downs ++ all_turns serving.turns serving.done })) }
-    // such runs lead both ends on, with the next command given: to what a new connection may follow
-    ensures joined { (plan : Plan) (port : ClockedPort) (asked : List Command) (e : Ends) (turns count : ℕ)
-        (a' : Auto Held) (answer : Result Ran BrokenOff) (server server' : Serving B) (hooks hooks' : H)
-        (result : Result TurnsEnd DriveFault) → AreJoined plan port asked e →
-        (run : IsRun at_once plan port.state.unit turns (driver_of e.automation) a' answer) →
-        (serving : HasServed B.does H.can_act (λ steps. Chain H.does steps hooks hooks') count (server_now e) server server'
-        result) →
-        AreCarried plan port.state.unit e (acts_in (steps_in run)) (acts_of (server_now e) serving.turns ++ serving.done) →
-        AreJoined plan port asked (ends_at plan port.state.unit e run.events
-        (e.downs ++ all_turns serving.turns serving.done)) }
-{
-    two_ends_are_a_late_channel();
-    vdcp_world::laws::a_late_line_keeps_the_headline();
-    vdcp_drive::laws::servers_go_on();
-    vdcp_drive::laws::what_goes_out_is_answered();
-}
-
 /// A server that hears at silences, none of which tears a command, does what one does that hears at once and at which a frame
 /// passes after each silence: if each burst is read without a fault, and each silence comes after whole commands.
 pub fn untorn_turns_are_at_once()
@@ -121,34 +88,25 @@ pub fn untorn_turns_are_at_once()
     vdcp_drive::laws::servers_go_on();
 }
 
-/// So the headline holds of a server that hears at silences, too, if none tears a command: beside ends whose server would
-/// have heard the same turns at once.
-pub fn an_untorn_run_keeps_the_headline<C: Catalogue, B: Wire, H: ServerHooks<C>>()
-    ensures headline { (plan : Plan) (port : ClockedPort) (asked : List Command) (e : Ends) (turns count : ℕ)
-        (a' : Auto Held) (answer : Result Ran BrokenOff) (before : List Turn) (server server' : Serving B) (hooks hooks' : H)
-        (result : Result TurnsEnd DriveFault) → CanJoin plan port asked → AreJoined plan port asked e →
-        e.downs ≡ at_once_for before →
-        (run : IsRun at_once plan port.state.unit turns (driver_of e.automation) a' answer) →
-        (serving : HasServed B.does H.can_act (λ steps. Chain H.does steps hooks hooks') count
-        (server_at_silences e.port before) server server' result) →
-        AreUntorn [] (before ++ all_turns serving.turns serving.done) →
-        AreCarried plan port.state.unit e (acts_in (steps_in run))
-        (acts_of (server_at_silences e.port before) serving.turns ++ serving.done) →
-        EndsHeadline plan port.clips a'.state
-        (log_now e ++ auto.log_of at_once plan port.state.unit (driver_of e.automation) run.events)
-        (e.aired_before ++ items_in (hook_steps (begins Hearing.AtSilences e.port)
-        (before ++ all_turns serving.turns serving.done))) }
-    ensures joined { (plan : Plan) (port : ClockedPort) (asked : List Command) (e : Ends) (turns count : ℕ)
-        (a' : Auto Held) (answer : Result Ran BrokenOff) (before : List Turn) (server server' : Serving B) (hooks hooks' : H)
-        (result : Result TurnsEnd DriveFault) → AreJoined plan port asked e → e.downs ≡ at_once_for before →
-        (run : IsRun at_once plan port.state.unit turns (driver_of e.automation) a' answer) →
-        (serving : HasServed B.does H.can_act (λ steps. Chain H.does steps hooks hooks') count
-        (server_at_silences e.port before) server server' result) →
-        AreUntorn [] (before ++ all_turns serving.turns serving.done) →
-        AreCarried plan port.state.unit e (acts_in (steps_in run))
-        (acts_of (server_at_silences e.port before) serving.turns ++ serving.done) →
-        AreJoined plan port asked (ends_at plan port.state.unit e run.events
-        (at_once_for (before ++ all_turns serving.turns serving.done))) }
+/// So the headline holds of a driver that hears at once and of a server that does, or that hears at silences none of which
+/// tears a command, however their runs end and whatever calls were made in them, with frames and silences at any moment,
+/// if their wires' acts are carried so that to each comes, in order, a beginning of the bytes that the other one sent by then:
+/// of new ones, of those that run or serve again (their runs are one), and of a driver that goes on from its journal over a
+/// new connection.
+pub fn a_carried_run_keeps_the_headline<C: Catalogue, B: Wire, H: ServerHooks<C>>()
+    ensures headline { (plan : Plan) (port : ClockedPort) (asked : List Command) (e : Ends) (count : ℕ) (a' : Auto Held)
+        (answer : Result Ran BrokenOff) (turns : List Turn) (below : List Act) (aired : List Item) → CanJoin plan port asked →
+        AreJoined plan port asked e → (run : IsRun at_once plan port.state.unit count (driver_of e.automation) a' answer) →
+        IsServed B.does H.can_act H.does e turns below aired →
+        AreCarried plan port.state.unit e (acts_in (steps_in run)) below → EndsHeadline plan port.clips a'.state
+        (log_now e ++ auto.log_of at_once plan port.state.unit (driver_of e.automation) run.events) aired }
+    // such runs lead both ends on, with the next command given: to what a new connection may follow
+    ensures joined { (plan : Plan) (port : ClockedPort) (asked : List Command) (e : Ends) (count : ℕ) (a' : Auto Held)
+        (answer : Result Ran BrokenOff) (turns : List Turn) (below : List Act) (aired : List Item) →
+        AreJoined plan port asked e → (run : IsRun at_once plan port.state.unit count (driver_of e.automation) a' answer) →
+        IsServed B.does H.can_act H.does e turns below aired →
+        AreCarried plan port.state.unit e (acts_in (steps_in run)) below →
+        AreJoined plan port asked (ends_at plan port.state.unit e run.events (e.downs ++ turns)) }
 {
     two_ends_are_a_late_channel();
     vdcp_world::laws::a_late_line_keeps_the_headline();
