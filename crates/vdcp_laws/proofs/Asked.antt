@@ -29,7 +29,7 @@ use Rattle.vdcp_drive.specs.declared.hooks.Kept.TheVariants as row
 use Rattle.vdcp_drive.specs.declared.line.Ran.{Ran}
 use Rattle.vdcp_laws.specs.Automation.{Prompt, commands_in, end_notes, hears_all, holding, receives}
 use Rattle.vdcp_laws.specs.OneConnection.{hears_in}
-use Rattle.vdcp_laws.specs.TwoEnds.{Ends, asked_first, bytes_in, note_for, notes_ended, notes_heard, sent_down, with_automation, with_up}
+use Rattle.vdcp_laws.specs.TwoEnds.{AreLed, Ends, asked_first, bytes_in, note_for, notes_ended, notes_heard, sent_down, with_automation, with_up}
 use Rattle.vdcp_laws.proofs.Asks.{MayAsk, asking_all, asks_all, sent_asked}
 use Rattle.vdcp_laws.proofs.Carrying.{Last, Side, acts_both, came_both, heard_up, last_so, led_first, listening, sent_both}
 use Rattle.vdcp_laws.proofs.CarriedRun.{left_at}
@@ -125,18 +125,18 @@ pub record IsAskedBy (plan : Plan) (unit : ℕ) (e : Ends) (cs : List Command) (
 -- What follows goes on from there.
 pub asked_side : (plan : Plan) (unit : ℕ) (e : Ends) (cs : List Command) (held : Held) (list more : List Act) (last : Ends)
     → commands_in plan e.automation ≡ [] → IsAskedBy plan unit e cs held list
-    → Side plan unit (asked_first cs held (bytes_in (came_in list)) e) (sent_down plan unit e ++ sent_in list) more last
-    → Side plan unit e (sent_down plan unit e) (list ++ more) last
+    → Side plan unit (AreLed plan unit) (asked_first cs held (bytes_in (came_in list)) e) (sent_down plan unit e ++ sent_in list) more last
+    → Side plan unit (AreLed plan unit) e (sent_down plan unit e) (list ++ more) last
 asked_side plan unit e cs held list more last none a s =
     let there : heard_up plan unit (came_in list) (asking_all cs e) ≡ asked_first cs held (bytes_in (came_in list)) e =
     overhears_all plan unit (came_in list) (asking_all cs e)
     (none_awaited e.automation.log (awaited plan e.automation.state) none)
     ∙ ap (λ (h : Held). asked_first cs h (bytes_in (came_in list)) e) (sym a.ear) in
-    led_first plan unit e (asking_all cs e) (sent_down plan unit e) (list ++ more) last
+    led_first plan unit (AreLed plan unit) e (asking_all cs e) (sent_down plan unit e) (list ++ more) last
     (λ first downs j. asks_all plan unit first (record e { downs = downs }) cs none a.may j) refl refl
-    (listening plan unit list (asking_all cs e) (sent_down plan unit e) a.unsent more last
+    (listening plan unit (AreLed plan unit) list (asking_all cs e) (sent_down plan unit e) a.unsent more last
     (sent_asked plan unit e cs none ∙ ap (λ (l : List ℕ). sent_down plan unit e ++ l) a.part)
-    (subst (λ (x : Ends). Side plan unit x (sent_down plan unit e ++ sent_in list) more last) (sym there) s))
+    (subst (λ (x : Ends). Side plan unit (AreLed plan unit) x (sent_down plan unit e ++ sent_in list) more last) (sym there) s))
 
 -- A run of the automation that asks.
 
@@ -173,14 +173,16 @@ module _ (law : Steps) (plan : Plan) (unit count : ℕ) (a a' : Auto Held) (answ
   pub ending : Last plan unit (after at_once plan unit a run.events).state answer run.more
   ending = last_so plan unit count run.events (after at_once plan unit a run.events) a' answer run.more run.ending
 
+  pub came_of_run : came_in (acts_in (steps_in run)) ≡ arrivals run.events
+  came_of_run =
+      let steps : List Step = steps_of at_once plan unit a run.events in
+      ap came_in (acts_both steps run.more) ∙ came_both (acts_in steps) (acts_in run.more)
+      ∙ ap₂ (λ (l k : List Arrival). l ++ k) (law.came plan unit a run.events) ending.none ∙ append-nil (arrivals run.events)
+
   pub ear_of_run : a'.ear ≡ ear_over unit (came_in (acts_in (steps_in run))) a.ear
   ear_of_run =
-      let steps : List Step = steps_of at_once plan unit a run.events in
-      let same : came_in (acts_in (steps ++ run.more)) ≡ arrivals run.events =
-      ap came_in (acts_both steps run.more) ∙ came_both (acts_in steps) (acts_in run.more)
-      ∙ ap₂ (λ (l k : List Arrival). l ++ k) (law.came plan unit a run.events) ending.none ∙ append-nil (arrivals run.events) in
       stays (left_at plan unit count run.events (after at_once plan unit a run.events) a' answer run.more run.ending)
-      ∙ ear_so plan unit a run.events ∙ ap (λ (l : List Arrival). ear_over unit l a.ear) (sym same) where
+      ∙ ear_so plan unit a run.events ∙ ap (λ (l : List Arrival). ear_over unit l a.ear) (sym came_of_run) where
         stays : {b : Auto Held} → (a' ≡ b) ⊎ (a' ≡ auto.gives b) → a'.ear ≡ b.ear
         stays (inl left) = ap (λ (x : Auto Held). x.ear) left
         stays (inr left) = ap (λ (x : Auto Held). x.ear) left

@@ -1,5 +1,5 @@
 -- The headline of a driver whose wire's acts are carried.
-use Rattle.std.proofs.Common.{ℕ, ◌⊎◌, inl, inr, ◌≡◌, List, ◌++◌, sym, ap, ap₂, subst, ◌∙◌, append_assoc}
+use Rattle.std.proofs.Common.{ℕ, ◌⊎◌, inl, inr, ◌≡◌, List, [], ◌∷◌, ◌++◌, sym, ap, ap₂, subst, ◌∙◌, append_assoc}
 use Rattle.std.specs.Prelude.{Result}
 use Rattle.vdcp_value.specs.declared.part.Item.{Item}
 use Rattle.vdcp_words.specs.declared.command.Command.{Command}
@@ -7,7 +7,8 @@ use Rattle.vdcp_port.specs.Clock.{ClockedPort}
 use Rattle.vdcp_auto.specs.Plan.{Plan}
 use Rattle.vdcp_auto.specs.Turn.{ticked}
 use Rattle.vdcp_auto.specs.declared.exchange.Exchange.{Exchange}
-use Rattle.vdcp_wire.specs.Acts.{Act}
+use Rattle.vdcp_wire.specs.Acts.{Act, brings}
+use Rattle.vdcp_wire.specs.Wires.{Arrival, bytes, silence, close}
 use Rattle.vdcp_drive.specs.Serving.{begins, items_in, hook_steps}
 use Rattle.vdcp_drive.specs.Turns.{Turn}
 use Rattle.vdcp_drive.specs.declared.hearing.Hearing.TheVariants.{AtOnce}
@@ -22,10 +23,11 @@ use Rattle.vdcp_drive.specs.declared.line.Ran.{Ran}
 use Rattle.vdcp_laws.specs.Automation.{Prompt, led}
 use Rattle.vdcp_laws.specs.Carried.{AreCarried, driver_of}
 use Rattle.vdcp_laws.specs.EndsHeadline.{EndsHeadline}
-use Rattle.vdcp_laws.specs.OneConnection.{ends_at, ends_by}
-use Rattle.vdcp_laws.specs.TwoEnds.{AreJoined, CanJoin, Ends, aired_now, log_now, new_ends, sent_down}
-use Rattle.vdcp_laws.proofs.Carrying.{Side}
-use Rattle.vdcp_laws.proofs.Leading.{side_led}
+use Rattle.vdcp_laws.specs.OneConnection.{ends_at, ends_by, hears_in}
+use Rattle.vdcp_laws.specs.TwoEnds as two
+use Rattle.vdcp_laws.specs.TwoEnds.{AreJoined, AreLed, CanJoin, Ends, aired_now, log_now, new_ends, sent_down}
+use Rattle.vdcp_laws.proofs.Carrying.{Leads, Side}
+use Rattle.vdcp_laws.proofs.Leading.{IsFront, IsQuiet, side_led}
 use Rattle.vdcp_laws.proofs.Headline.{Laws, before_tick, of_ends}
 use Rattle.vdcp_laws.proofs.OneRun.{goes, led_on}
 use Rattle.vdcp_laws.proofs.Servers.{ServedSo}
@@ -41,13 +43,28 @@ left_at plan unit count events a a' answer more (in_send c front rest is g parts
 left_at plan unit count events a a' answer more (in_listen is m left) = inr left
 
 -- where ends are that are carried
+
+pub leads_on : (plan : Plan) (unit : ℕ) → Leads plan unit (AreLed plan unit)
+leads_on plan unit = record { begun = λ e. two.begun; on = λ step calm j. two.went_on j step }
+
+pub led_by : (plan : Plan) (unit : ℕ) (e : Ends) (list : List Act) (last : Ends) (turns : List Turn) (below : List Act)
+    (aired : List Item) → Side plan unit (AreLed plan unit) e (sent_down plan unit e) list last → ServedSo e turns below aired
+    → AreCarried plan unit e list below → AreLed plan unit e (record last { downs = e.downs ++ turns })
+led_by plan unit e list last turns below aired s served c =
+    side_led plan unit (AreLed plan unit) (leads_on plan unit) e list last turns below s waits served.whole served.answers c where
+      waits : (now : Ends) (autos : List Act) (a : Arrival) → IsFront list (autos ++ brings a ∷ []) → IsQuiet a
+          → AreLed plan unit e now → AreLed plan unit e (hears_in plan unit a now)
+      waits now autos (bytes piece) front quiet j = absurd quiet
+      waits now autos silence front quiet j = two.went_on j two.waited
+      waits now autos close front quiet j = two.went_on j two.waited
+
 pub joined : (plan : Plan) (port : ClockedPort) (asked : List Command) (e last : Ends) (list : List Act)
     (turns : List Turn) (below : List Act) (aired : List Item) → AreJoined plan port asked e
-    → Side plan port.state.unit e (sent_down plan port.state.unit e) list last → ServedSo e turns below aired
+    → Side plan port.state.unit (AreLed plan port.state.unit) e (sent_down plan port.state.unit e) list last → ServedSo e turns below aired
     → AreCarried plan port.state.unit e list below → AreJoined plan port asked (record last { downs = e.downs ++ turns })
 joined plan port asked e last list turns below aired j s served c =
     led_on plan port.state.unit (new_ends port asked) e _ j
-    (side_led plan port.state.unit e list last turns below s served.whole served.answers c)
+    (led_by plan port.state.unit e list last turns below aired s served c)
 
 -- The headline of a run after which the ends are joined.
 

@@ -28,7 +28,7 @@ use Rattle.vdcp_laws.specs.Automation.{gives, listens}
 use Rattle.vdcp_laws.specs.Carried.{driver_of}
 use Rattle.vdcp_laws.specs.OneConnection.{ends_by, hears_in, heeds_in}
 use Rattle.vdcp_laws.specs.TwoEnds as two
-use Rattle.vdcp_laws.specs.TwoEnds.{AreLed, Ends, bytes_in, sent_down, with_command}
+use Rattle.vdcp_laws.specs.TwoEnds.{Ends, bytes_in, sent_down, with_command}
 use Rattle.vdcp_laws.proofs.Commands.{commands_listens}
 use Rattle.vdcp_laws.proofs.Fronts.{head_so, tail_so}
 use Rattle.vdcp_laws.proofs.Joining.{sent_given}
@@ -176,15 +176,28 @@ abbrev pub heard_up : Plan → ℕ → List Arrival → Ends → Ends
 heard_up plan unit [] e = e
 heard_up plan unit (a ∷ came) e = heard_up plan unit came (hears_in plan unit a e)
 
+-- Steps that neither wait, nor ask, nor begin anew.
+abbrev pub IsCalm : {plan : Plan} {unit : ℕ} {e e' : Ends} → two.Step plan unit e e' → Type 0
+IsCalm two.waited = ⊥
+IsCalm (two.asks question c is none) = ⊥
+IsCalm (two.resumed goes) = ⊥
+IsCalm (two.restarted goes) = ⊥
+IsCalm _ = Unit {0}
+
+-- what such steps lead to is led to
+pub record Leads (plan : Plan) (unit : ℕ) (R : Ends → Ends → Type 0) : Type 0 where
+  pub begun : (e : Ends) → R e e
+  pub on : {first e e' : Ends} → (step : two.Step plan unit e e') → IsCalm step → R first e → R first e'
+
 -- From these ends on, of whose bytes these had gone out, by these acts of the automation's wire, to those.
-pub record Side (plan : Plan) (unit : ℕ) (e : Ends) (sent : List ℕ) (list : List Act) (last : Ends) : Type 0 where
+pub record Side (plan : Plan) (unit : ℕ) (R : Ends → Ends → Type 0) (e : Ends) (sent : List ℕ) (list : List Act) (last : Ends) : Type 0 where
   -- the ends once this came up, with all that they give before more comes
   pub at : List Arrival → Ends
-  pub begins : (first : Ends) (downs : List Turn) → AreLed plan unit first (record e { downs = downs })
-      → AreLed plan unit first (record (at []) { downs = downs })
+  pub begins : (first : Ends) (downs : List Turn) → R first (record e { downs = downs })
+      → R first (record (at []) { downs = downs })
   pub goes_on : (first : Ends) (downs : List Turn) (came rest : List Arrival) (a : Arrival) → came_in list ≡ came ++ a ∷ rest
-      → AreLed plan unit first (record (hears_in plan unit a (at came)) { downs = downs })
-      → AreLed plan unit first (record (at (came ++ a ∷ [])) { downs = downs })
+      → R first (record (hears_in plan unit a (at came)) { downs = downs })
+      → R first (record (at (came ++ a ∷ [])) { downs = downs })
   pub sends : (some behind : List Act) → list ≡ some ++ behind
       → (more : List ℕ) × (sent_down plan unit (at (came_in some)) ≡ sent ++ (sent_in some ++ more))
   pub ups : (came rest : List Arrival) → came_in list ≡ came ++ rest → (at came).ups ≡ e.ups ++ bytes_in came
@@ -201,9 +214,9 @@ none_before : {A : Type 0} (xs ys : List A) → [] ≡ xs ++ ys → xs ≡ []
 none_before [] ys is = refl
 none_before (x ∷ xs) ys is = cc
 
-pub no_act : (plan : Plan) (unit : ℕ) (e : Ends) (sent more : List ℕ) → sent_down plan unit e ≡ sent ++ more
-    → Side plan unit e sent [] e
-no_act plan unit e sent more is = record {
+pub no_act : (plan : Plan) (unit : ℕ) (R : Ends → Ends → Type 0) (e : Ends) (sent more : List ℕ) → sent_down plan unit e ≡ sent ++ more
+    → Side plan unit R e sent [] e
+no_act plan unit R e sent more is = record {
   at = λ came. e;
   begins = λ first downs j. j;
   goes_on = λ first downs came rest a none j. absurd (none_comes came rest a none);
@@ -217,11 +230,11 @@ no_act plan unit e sent more is = record {
 }
 
 -- The ends are led on, and nothing is done on the wire.
-pub led_first : (plan : Plan) (unit : ℕ) (e e' : Ends) (sent : List ℕ) (list : List Act) (last : Ends)
-    → ((first : Ends) (downs : List Turn) → AreLed plan unit first (record e { downs = downs })
-    → AreLed plan unit first (record e' { downs = downs }))
-    → e'.ups ≡ e.ups → e'.port ≡ e.port → Side plan unit e' sent list last → Side plan unit e sent list last
-led_first plan unit e e' sent list last on ups port s = record {
+pub led_first : (plan : Plan) (unit : ℕ) (R : Ends → Ends → Type 0) (e e' : Ends) (sent : List ℕ) (list : List Act) (last : Ends)
+    → ((first : Ends) (downs : List Turn) → R first (record e { downs = downs })
+    → R first (record e' { downs = downs }))
+    → e'.ups ≡ e.ups → e'.port ≡ e.port → Side plan unit R e' sent list last → Side plan unit R e sent list last
+led_first plan unit R e e' sent list last on ups port s = record {
   at = s.at;
   begins = λ first downs j. s.begins first downs (on first downs j);
   goes_on = s.goes_on;
@@ -241,9 +254,9 @@ abbrev tail_of : List Act → List Act
 tail_of [] = []
 tail_of (x ∷ xs) = xs
 
-module _ (plan : Plan) (unit : ℕ) (e : Ends) (sent now : List ℕ) (act : Act) (b : List ℕ) (list : List Act) (last : Ends)
+module _ (plan : Plan) (unit : ℕ) (R : Ends → Ends → Type 0) (e : Ends) (sent now : List ℕ) (act : Act) (b : List ℕ) (list : List Act) (last : Ends)
     (came_so : (l : List Act) → came_in (act ∷ l) ≡ came_in l) (sent_so : (l : List Act) → sent_in (act ∷ l) ≡ b ++ sent_in l)
-    (is : now ≡ sent ++ b) (s : Side plan unit e now list last) where
+    (is : now ≡ sent ++ b) (s : Side plan unit R e now list last) where
   act_sends : (some behind : List Act) → act ∷ list ≡ some ++ behind
       → (more : List ℕ) × (sent_down plan unit (s.at (came_in some)) ≡ sent ++ (sent_in some ++ more))
   act_sends [] behind front =
@@ -260,7 +273,7 @@ module _ (plan : Plan) (unit : ℕ) (e : Ends) (sent now : List ℕ) (act : Act)
             ∙ ap (λ (l : List ℕ). l ++ m.0) (sym (sent_so some))),
       )
 
-  act_first : Side plan unit e sent (act ∷ list) last
+  act_first : Side plan unit R e sent (act ∷ list) last
   act_first = record {
     at = s.at;
     begins = s.begins;
@@ -277,14 +290,14 @@ abbrev then_at : Ends → (List Arrival → Ends) → List Arrival → Ends
 then_at e at [] = e
 then_at e at (a ∷ came) = at came
 
-module _ (plan : Plan) (unit : ℕ) (e : Ends) (sent more : List ℕ) (what : Arrival) (list : List Act) (last : Ends)
-    (is : sent_down plan unit e ≡ sent ++ more) (s : Side plan unit (hears_in plan unit what e) sent list last) where
+module _ (plan : Plan) (unit : ℕ) (R : Ends → Ends → Type 0) (e : Ends) (sent more : List ℕ) (what : Arrival) (list : List Act) (last : Ends)
+    (is : sent_down plan unit e ≡ sent ++ more) (s : Side plan unit R (hears_in plan unit what e) sent list last) where
   brought_on : (first : Ends) (downs : List Turn) (came rest : List Arrival) (a : Arrival)
       → what ∷ came_in list ≡ came ++ a ∷ rest
-      → AreLed plan unit first (record (hears_in plan unit a (then_at e s.at came)) { downs = downs })
-      → AreLed plan unit first (record (then_at e s.at (came ++ a ∷ [])) { downs = downs })
+      → R first (record (hears_in plan unit a (then_at e s.at came)) { downs = downs })
+      → R first (record (then_at e s.at (came ++ a ∷ [])) { downs = downs })
   brought_on first downs [] rest a next j = s.begins first downs
-      (subst (λ (x : Arrival). AreLed plan unit first (record (hears_in plan unit x e) { downs = downs }))
+      (subst (λ (x : Arrival). R first (record (hears_in plan unit x e) { downs = downs }))
       (sym (head_so what a (came_in list) rest next)) j)
   brought_on first downs (x ∷ came) rest a next j =
       s.goes_on first downs came rest a (tail_so what x (came_in list) (came ++ a ∷ rest) next) j
@@ -308,7 +321,7 @@ module _ (plan : Plan) (unit : ℕ) (e : Ends) (sent more : List ℕ) (what : Ar
   brought_port [] = refl
   brought_port (a ∷ came) = s.port came ∙ heard_port plan unit what e
 
-  brings_first : Side plan unit e sent (brings what ∷ list) last
+  brings_first : Side plan unit R e sent (brings what ∷ list) last
   brings_first = record {
     at = then_at e s.at;
     begins = λ first downs j. j;
@@ -320,82 +333,82 @@ module _ (plan : Plan) (unit : ℕ) (e : Ends) (sent more : List ℕ) (what : Ar
   }
 
 -- acts in which the automation gives nothing: what goes out was given before
-pub listening : (plan : Plan) (unit : ℕ) (front : List Act) (e : Ends) (sent unsent : List ℕ) (list : List Act) (last : Ends)
+pub listening : (plan : Plan) (unit : ℕ) (R : Ends → Ends → Type 0) (front : List Act) (e : Ends) (sent unsent : List ℕ) (list : List Act) (last : Ends)
     → sent_down plan unit e ≡ sent ++ (sent_in front ++ unsent)
-    → Side plan unit (heard_up plan unit (came_in front) e) (sent ++ sent_in front) list last
-    → Side plan unit e sent (front ++ list) last
-listening plan unit [] e sent unsent list last is s =
-    subst (λ (l : List ℕ). Side plan unit e l list last) (append-nil sent) s
-listening plan unit (sends b ∷ front) e sent unsent list last is s =
-    act_first plan unit e sent (sent ++ b) (sends b) b (front ++ list) last (λ l. refl) (λ l. refl) refl
-    (listening plan unit front e (sent ++ b) unsent list last
+    → Side plan unit R (heard_up plan unit (came_in front) e) (sent ++ sent_in front) list last
+    → Side plan unit R e sent (front ++ list) last
+listening plan unit R [] e sent unsent list last is s =
+    subst (λ (l : List ℕ). Side plan unit R e l list last) (append-nil sent) s
+listening plan unit R (sends b ∷ front) e sent unsent list last is s =
+    act_first plan unit R e sent (sent ++ b) (sends b) b (front ++ list) last (λ l. refl) (λ l. refl) refl
+    (listening plan unit R front e (sent ++ b) unsent list last
     (is ∙ ap (λ (l : List ℕ). sent ++ l) (append_assoc b (sent_in front) unsent)
     ∙ sym (append_assoc sent b (sent_in front ++ unsent)))
-    (subst (λ (l : List ℕ). Side plan unit (heard_up plan unit (came_in front) e) l list last)
+    (subst (λ (l : List ℕ). Side plan unit R (heard_up plan unit (came_in front) e) l list last)
     (sym (append_assoc sent b (sent_in front))) s))
-listening plan unit (brings a ∷ front) e sent unsent list last is s =
-    brings_first plan unit e sent (sent_in front ++ unsent) a (front ++ list) last is
-    (listening plan unit front (hears_in plan unit a e) sent unsent list last (heard_down plan unit a e ∙ is) s)
-listening plan unit (drops ∷ front) e sent unsent list last is s =
-    act_first plan unit e sent sent drops [] (front ++ list) last (λ l. refl) (λ l. refl) (sym (append-nil sent))
-    (listening plan unit front e sent unsent list last is s)
-listening plan unit (fails ∷ front) e sent unsent list last is s =
-    act_first plan unit e sent sent fails [] (front ++ list) last (λ l. refl) (λ l. refl) (sym (append-nil sent))
-    (listening plan unit front e sent unsent list last is s)
+listening plan unit R (brings a ∷ front) e sent unsent list last is s =
+    brings_first plan unit R e sent (sent_in front ++ unsent) a (front ++ list) last is
+    (listening plan unit R front (hears_in plan unit a e) sent unsent list last (heard_down plan unit a e ∙ is) s)
+listening plan unit R (drops ∷ front) e sent unsent list last is s =
+    act_first plan unit R e sent sent drops [] (front ++ list) last (λ l. refl) (λ l. refl) (sym (append-nil sent))
+    (listening plan unit R front e sent unsent list last is s)
+listening plan unit R (fails ∷ front) e sent unsent list last is s =
+    act_first plan unit R e sent sent fails [] (front ++ list) last (λ l. refl) (λ l. refl) (sym (append-nil sent))
+    (listening plan unit R front e sent unsent list last is s)
 
 -- these acts end it
-pub last_side : (plan : Plan) (unit : ℕ) (e : Ends) (sent unsent : List ℕ) (list : List Act) → came_in list ≡ []
-    → sent_down plan unit e ≡ sent ++ (sent_in list ++ unsent) → Side plan unit e sent list e
-last_side plan unit e sent unsent list none is =
-    subst (λ (l : List Act). Side plan unit e sent l e) (append-nil list)
-    (listening plan unit list e sent unsent [] e is
-    (subst (λ (l : List Arrival). Side plan unit (heard_up plan unit l e) (sent ++ sent_in list) [] e) (sym none)
-    (no_act plan unit e (sent ++ sent_in list) unsent (is ∙ sym (append_assoc sent (sent_in list) unsent)))))
+pub last_side : (plan : Plan) (unit : ℕ) (R : Ends → Ends → Type 0) (e : Ends) (sent unsent : List ℕ) (list : List Act) → came_in list ≡ []
+    → sent_down plan unit e ≡ sent ++ (sent_in list ++ unsent) → Side plan unit R e sent list e
+last_side plan unit R e sent unsent list none is =
+    subst (λ (l : List Act). Side plan unit R e sent l e) (append-nil list)
+    (listening plan unit R list e sent unsent [] e is
+    (subst (λ (l : List Arrival). Side plan unit R (heard_up plan unit l e) (sent ++ sent_in list) [] e) (sym none)
+    (no_act plan unit R e (sent ++ sent_in list) unsent (is ∙ sym (append_assoc sent (sent_in list) unsent)))))
 
 -- A run.
 
 -- one round: what is given goes out, and something comes
-one_round : (plan : Plan) (unit : ℕ) (o : Option Command) (e : Ends) (sent : List ℕ) (what : Arrival) (list : List Act)
+one_round : (plan : Plan) (unit : ℕ) (R : Ends → Ends → Type 0) (o : Option Command) (e : Ends) (sent : List ℕ) (what : Arrival) (list : List Act)
     (last : Ends) → sent_down plan unit e ≡ sent ++ bytes_of unit (option_to_list o)
-    → Side plan unit (hears_in plan unit what e) (sent_down plan unit (hears_in plan unit what e)) list last
-    → Side plan unit e sent (first_acts unit o ++ brings what ∷ list) last
-one_round plan unit None e sent what list last is s =
-    brings_first plan unit e sent [] what list last is
-    (subst (λ (l : List ℕ). Side plan unit (hears_in plan unit what e) l list last)
+    → Side plan unit R (hears_in plan unit what e) (sent_down plan unit (hears_in plan unit what e)) list last
+    → Side plan unit R e sent (first_acts unit o ++ brings what ∷ list) last
+one_round plan unit R None e sent what list last is s =
+    brings_first plan unit R e sent [] what list last is
+    (subst (λ (l : List ℕ). Side plan unit R (hears_in plan unit what e) l list last)
     (heard_down plan unit what e ∙ is ∙ append-nil sent) s)
-one_round plan unit (Some c) e sent what list last is s =
+one_round plan unit R (Some c) e sent what list last is s =
     let b : List ℕ = command_bytes unit c in
     let all : sent_down plan unit e ≡ sent ++ b = is ∙ ap (λ (l : List ℕ). sent ++ l) (append-nil b) in
-    act_first plan unit e sent (sent ++ b) (sends b) b (brings what ∷ list) last (λ l. refl) (λ l. refl) refl
-    (brings_first plan unit e (sent ++ b) [] what list last (all ∙ sym (append-nil (sent ++ b)))
-    (subst (λ (l : List ℕ). Side plan unit (hears_in plan unit what e) l list last) (heard_down plan unit what e ∙ all) s))
+    act_first plan unit R e sent (sent ++ b) (sends b) b (brings what ∷ list) last (λ l. refl) (λ l. refl) refl
+    (brings_first plan unit R e (sent ++ b) [] what list last (all ∙ sym (append-nil (sent ++ b)))
+    (subst (λ (l : List ℕ). Side plan unit R (hears_in plan unit what e) l list last) (heard_down plan unit what e ∙ all) s))
 
-run_side : (plan : Plan) (unit count : ℕ) (all events : List Event) (e : Ends) (answer : Result Ran BrokenOff)
+run_side : (plan : Plan) (unit count : ℕ) (R : Ends → Ends → Type 0) (leads : Leads plan unit R) (all events : List Event) (e : Ends) (answer : Result Ran BrokenOff)
     (more : List Step) (a' : Auto Held)
     → Ending at_once plan unit count all (after at_once plan unit (driver_of e.automation) events) answer more a'
     → AreMade at_once plan unit (driver_of e.automation) events
-    → Side plan unit e (sent_down plan unit e)
+    → Side plan unit R e (sent_down plan unit e)
     (acts_in (steps_of at_once plan unit (driver_of e.automation) events ++ more))
     (with_command plan (ends_by plan unit e events))
-run_side plan unit count all [] e answer more a' ending made =
+run_side plan unit count R leads all [] e answer more a' ending made =
     let last = last_so plan unit count all (driver_of e.automation) a' answer more ending in
-    led_first plan unit e (with_command plan e) (sent_down plan unit e) (acts_in more) (with_command plan e)
-    (λ first downs j. two.went_on j two.gave) refl refl
-    (last_side plan unit (with_command plan e) (sent_down plan unit e) (last.unsent ++ bytes_of unit last.others)
+    led_first plan unit R e (with_command plan e) (sent_down plan unit e) (acts_in more) (with_command plan e)
+    (λ first downs j. leads.on two.gave tt j) refl refl
+    (last_side plan unit R (with_command plan e) (sent_down plan unit e) (last.unsent ++ bytes_of unit last.others)
     (acts_in more) last.none (sent_given plan unit e ∙ ap (λ (l : List ℕ). sent_down plan unit e ++ l)
     (ap (bytes_of unit) last.given_is
     ∙ flat_map-append (command_bytes unit) (commands_kept (kept_in more)) last.others
     ∙ ap (λ (l : List ℕ). l ++ bytes_of unit last.others) last.part
     ∙ append_assoc (sent_in (acts_in more)) last.unsent (bytes_of unit last.others))))
-run_side plan unit count all (calls call.Take ∷ later) e answer more a' ending made =
-    led_first plan unit e (heeds_in call.Take e) (sent_down plan unit e) _ _
-    (λ first downs j. two.went_on j (two.took made.0)) refl refl
-    (run_side plan unit count all later (heeds_in call.Take e) answer more a' ending made.1)
-run_side plan unit count all (calls call.Stop ∷ later) e answer more a' ending made =
-    led_first plan unit e (heeds_in call.Stop e) (sent_down plan unit e) _ _
-    (λ first downs j. two.went_on j (two.halted made.0)) refl refl
-    (run_side plan unit count all later (heeds_in call.Stop e) answer more a' ending made.1)
-run_side plan unit count all (arrives what ∷ later) e answer more a' ending made =
+run_side plan unit count R leads all (calls call.Take ∷ later) e answer more a' ending made =
+    led_first plan unit R e (heeds_in call.Take e) (sent_down plan unit e) _ _
+    (λ first downs j. leads.on (two.took made.0) tt j) refl refl
+    (run_side plan unit count R leads all later (heeds_in call.Take e) answer more a' ending made.1)
+run_side plan unit count R leads all (calls call.Stop ∷ later) e answer more a' ending made =
+    led_first plan unit R e (heeds_in call.Stop e) (sent_down plan unit e) _ _
+    (λ first downs j. leads.on (two.halted made.0) tt j) refl refl
+    (run_side plan unit count R leads all later (heeds_in call.Stop e) answer more a' ending made.1)
+run_side plan unit count R leads all (arrives what ∷ later) e answer more a' ending made =
     let now : Ends = with_command plan e in
     let then : Ends = hears_in plan unit what now in
     let last : Ends = with_command plan (ends_by plan unit then later) in
@@ -403,22 +416,22 @@ run_side plan unit count all (arrives what ∷ later) e answer more a' ending ma
     let x : Auto Held = auto.listens at_once plan unit what (auto.gives a) in
     let same : driver_of then.automation ≡ x =
     ap driver_of (heard_by plan unit what now) ∙ listens_so plan unit what (gives e.automation) in
-    led_first plan unit e now (sent_down plan unit e) _ last (λ first downs j. two.went_on j two.gave) refl refl
-    (subst (λ (l : List Act). Side plan unit now (sent_down plan unit e) l last)
+    led_first plan unit R e now (sent_down plan unit e) _ last (λ first downs j. leads.on two.gave tt j) refl refl
+    (subst (λ (l : List Act). Side plan unit R now (sent_down plan unit e) l last)
     (sym (ap acts_in (append_assoc (round at_once plan unit what a) (steps_of at_once plan unit x later) more)
     ∙ round_so plan unit what a (steps_of at_once plan unit x later ++ more)))
-    (one_round plan unit (given plan e.automation.state) now (sent_down plan unit e) what
+    (one_round plan unit R (given plan e.automation.state) now (sent_down plan unit e) what
     (acts_in (steps_of at_once plan unit x later ++ more)) last (sent_given plan unit e)
-    (subst (λ (y : Auto Held). Side plan unit then (sent_down plan unit then)
+    (subst (λ (y : Auto Held). Side plan unit R then (sent_down plan unit then)
     (acts_in (steps_of at_once plan unit y later ++ more)) last) same
-    (run_side plan unit count all later then answer more a'
+    (run_side plan unit count R leads all later then answer more a'
     (subst (λ (y : Auto Held). Ending at_once plan unit count all (after at_once plan unit y later) answer more a')
     (sym same) ending)
     (subst (λ (y : Auto Held). AreMade at_once plan unit y later) (sym same) made)))))
 
-pub side_of : (plan : Plan) (unit count : ℕ) (e : Ends) (answer : Result Ran BrokenOff) (a' : Auto Held)
+pub side_of : (plan : Plan) (unit count : ℕ) (R : Ends → Ends → Type 0) (leads : Leads plan unit R) (e : Ends) (answer : Result Ran BrokenOff) (a' : Auto Held)
     → (run : IsRun at_once plan unit count (driver_of e.automation) a' answer)
-    → Side plan unit e (sent_down plan unit e) (acts_in (steps_in run))
+    → Side plan unit R e (sent_down plan unit e) (acts_in (steps_in run))
     (with_command plan (ends_by plan unit e run.events))
-side_of plan unit count e answer a' run =
-    run_side plan unit count run.events run.events e answer run.more a' run.ending run.made
+side_of plan unit count R leads e answer a' run =
+    run_side plan unit count R leads run.events run.events e answer run.more a' run.ending run.made

@@ -15,8 +15,8 @@ use Rattle.vdcp_laws.specs.Carried.{AreCarried}
 use Rattle.vdcp_laws.specs.Carried as carried
 use Rattle.vdcp_laws.specs.OneConnection.{hears_in}
 use Rattle.vdcp_laws.specs.TwoEnds as two
-use Rattle.vdcp_laws.specs.TwoEnds.{AreLed, Ends, bytes_in, sent_down, sent_up, server_new, server_now, with_down}
-use Rattle.vdcp_laws.proofs.Carrying.{Side, came_both, sent_both}
+use Rattle.vdcp_laws.specs.TwoEnds.{Ends, bytes_in, sent_down, sent_up, server_new, server_now, with_down}
+use Rattle.vdcp_laws.proofs.Carrying.{Leads, Side, came_both, sent_both}
 use Rattle.vdcp_laws.proofs.Fronts.{came_of, next_of, upto, upto_came, upto_front}
 use Rattle.vdcp_laws.proofs.Serving.{bytes_both}
 
@@ -28,7 +28,7 @@ enough now sent some came piece rest more all is =
     ∙ ap (λ (l : List ℕ). came ++ l) (append_assoc piece rest more)
 
 -- a front without its last act
-abbrev IsFront : List Act → List Act → Type 0
+abbrev pub IsFront : List Act → List Act → Type 0
 IsFront list so_far = (behind : List Act) × (list ≡ so_far ++ behind)
 
 without : (list so_far : List Act) (act : Act) → IsFront list (so_far ++ act ∷ []) → IsFront list so_far
@@ -126,20 +126,19 @@ turns_whole s (listen a ∷ later) done =
     (came_sent s.port.state.unit (replies a s) (then ++ done) ∙ turns_whole (serves (listen a) s) later done)
 
 -- the frames that follow pass
-frames_on : (plan : Plan) (unit : ℕ) (first e : Ends) (downs later : List Turn)
-    → AreLed plan unit first (record e { downs = downs })
-    → AreLed plan unit first (record e { downs = downs ++ upto arrival_at later [] })
-frames_on plan unit first e downs [] j =
-    subst (λ (l : List Turn). AreLed plan unit first (record e { downs = l })) (sym (append-nil downs)) j
-frames_on plan unit first e downs (listen a ∷ later) j =
-    subst (λ (l : List Turn). AreLed plan unit first (record e { downs = l })) (sym (append-nil downs)) j
-frames_on plan unit first e downs (frame ∷ later) j =
-    subst (λ (l : List Turn). AreLed plan unit first (record e { downs = l }))
-    (append_assoc downs (frame ∷ []) (upto arrival_at later []))
-    (frames_on plan unit first e (downs ++ frame ∷ []) later (two.went_on j two.passed))
+frames_on : (plan : Plan) (unit : ℕ) (R : Ends → Ends → Type 0) (leads : Leads plan unit R) (first e : Ends)
+    (downs later : List Turn) → R first (record e { downs = downs })
+    → R first (record e { downs = downs ++ upto arrival_at later [] })
+frames_on plan unit R leads first e downs [] j =
+    subst (λ (l : List Turn). R first (record e { downs = l })) (sym (append-nil downs)) j
+frames_on plan unit R leads first e downs (listen a ∷ later) j =
+    subst (λ (l : List Turn). R first (record e { downs = l })) (sym (append-nil downs)) j
+frames_on plan unit R leads first e downs (frame ∷ later) j =
+    subst (λ (l : List Turn). R first (record e { downs = l })) (append_assoc downs (frame ∷ []) (upto arrival_at later []))
+    (frames_on plan unit R leads first e (downs ++ frame ∷ []) later (leads.on two.passed tt j))
 
 -- what comes next in a list
-next_in : (list so_far behind : List Act) (what : Arrival) → list ≡ (so_far ++ brings what ∷ []) ++ behind
+pub next_in : (list so_far behind : List Act) (what : Arrival) → list ≡ (so_far ++ brings what ∷ []) ++ behind
     → came_in list ≡ came_in so_far ++ what ∷ came_in behind
 next_in list so_far behind what is =
     ap came_in (is ∙ append_assoc so_far (brings what ∷ []) behind) ∙ came_both so_far (brings what ∷ behind)
@@ -155,31 +154,39 @@ downs_so e turns below servers whole back =
     (turns_so (upto arrival_at turns (came_in servers))
     ∙ upto_came arrival_at turns (came_in servers) (came_in back.0) (sym whole ∙ ap came_in back.1 ∙ came_both servers back.0))
 
--- where both ends are then
-abbrev IsThere : Plan → ℕ → Ends → (List Arrival → Ends) → List Turn → List Act → List Act → Type 0
-IsThere plan unit e at turns autos servers =
-    AreLed plan unit e (record (at (came_in autos)) { downs = e.downs ++ upto arrival_at turns (came_in servers) })
+-- it brings no bytes
+abbrev pub IsQuiet : Arrival → Type 0
+IsQuiet (bytes piece) = ⊥
+IsQuiet silence = Unit {0}
+IsQuiet close = Unit {0}
 
-module _ (plan : Plan) (unit : ℕ) (e : Ends) (list : List Act) (last : Ends) (turns : List Turn) (below : List Act)
-    (s : Side plan unit e (sent_down plan unit e) list last) (whole : came_in below ≡ came_of arrival_at turns)
+-- where both ends are then
+abbrev IsThere : (Ends → Ends → Type 0) → Ends → (List Arrival → Ends) → List Turn → List Act → List Act → Type 0
+IsThere R e at turns autos servers =
+    R e (record (at (came_in autos)) { downs = e.downs ++ upto arrival_at turns (came_in servers) })
+
+module _ (plan : Plan) (unit : ℕ) (R : Ends → Ends → Type 0) (leads : Leads plan unit R) (e : Ends) (list : List Act)
+    (last : Ends) (turns : List Turn) (below : List Act) (s : Side plan unit R e (sent_down plan unit e) list last)
+    (waits : (now : Ends) (autos : List Act) (a : Arrival) → IsFront list (autos ++ brings a ∷ []) → IsQuiet a
+    → R e now → R e (hears_in plan unit a now)) (whole : came_in below ≡ came_of arrival_at turns)
     (answers : SendsAnswers e turns below) where
   silent : (autos : List Act) (act : Act) (servers : List Act) → came_in (act ∷ []) ≡ []
-      → IsThere plan unit e s.at turns autos servers → IsThere plan unit e s.at turns (autos ++ act ∷ []) servers
+      → IsThere R e s.at turns autos servers → IsThere R e s.at turns (autos ++ act ∷ []) servers
   silent autos act servers none h =
-      subst (λ (l : List Arrival). AreLed plan unit e
+      subst (λ (l : List Arrival). R e
       (record (s.at l) { downs = e.downs ++ upto arrival_at turns (came_in servers) })) (sym (same_came autos act none)) h
 
   silent_below : (autos servers : List Act) (act : Act) → came_in (act ∷ []) ≡ []
-      → IsThere plan unit e s.at turns autos servers → IsThere plan unit e s.at turns autos (servers ++ act ∷ [])
+      → IsThere R e s.at turns autos servers → IsThere R e s.at turns autos (servers ++ act ∷ [])
   silent_below autos servers act none h =
-      subst (λ (l : List Arrival). AreLed plan unit e
+      subst (λ (l : List Arrival). R e
       (record (s.at (came_in autos)) { downs = e.downs ++ upto arrival_at turns l })) (sym (same_came servers act none)) h
 
   -- something comes down, and the frames that follow pass
   lower : (autos servers : List Act) (what : Arrival) → IsFront below (servers ++ brings what ∷ [])
-      → AreLed plan unit e (with_down (listen what) (record (s.at (came_in autos))
+      → R e (with_down (listen what) (record (s.at (came_in autos))
       { downs = e.downs ++ upto arrival_at turns (came_in servers) }))
-      → IsThere plan unit e s.at turns autos (servers ++ brings what ∷ [])
+      → IsThere R e s.at turns autos (servers ++ brings what ∷ [])
   lower autos servers what back j =
       let n = next_of arrival_at turns (came_in servers) what (came_in back.0)
       (sym whole ∙ next_in below servers back.0 what back.1) in
@@ -193,24 +200,24 @@ module _ (plan : Plan) (unit : ℕ) (e : Ends) (list : List Act) (last : Ends) (
       ∙ ap (λ (l : List Turn). e.downs ++ l)
       (ap (λ (x : Turn). front ++ x ∷ frames) (sym (it_listens n.what what n.is)) ∙ sym n.on_is
       ∙ ap (upto arrival_at turns) (sym (came_both servers (brings what ∷ [])))) in
-      subst (λ (l : List Turn). AreLed plan unit e (record now { downs = l })) all
-      (frames_on plan unit e now ((e.downs ++ front) ++ listen what ∷ []) n.later j)
+      subst (λ (l : List Turn). R e (record now { downs = l })) all
+      (frames_on plan unit R leads e now ((e.downs ++ front) ++ listen what ∷ []) n.later j)
 
   -- something comes up
   higher : (autos servers : List Act) (what : Arrival) → IsFront list (autos ++ brings what ∷ [])
-      → AreLed plan unit e (record (hears_in plan unit what (s.at (came_in autos)))
+      → R e (record (hears_in plan unit what (s.at (came_in autos)))
       { downs = e.downs ++ upto arrival_at turns (came_in servers) })
-      → IsThere plan unit e s.at turns (autos ++ brings what ∷ []) servers
+      → IsThere R e s.at turns (autos ++ brings what ∷ []) servers
   higher autos servers what front j =
       let downs : List Turn = e.downs ++ upto arrival_at turns (came_in servers) in
-      subst (λ (l : List Arrival). AreLed plan unit e (record (s.at l) { downs = downs }))
+      subst (λ (l : List Arrival). R e (record (s.at l) { downs = downs }))
       (sym (came_both autos (brings what ∷ [])))
       (s.goes_on e downs (came_in autos) (came_in front.0) what (next_in list autos front.0 what front.1) j)
 
   come : (autos servers : List Act) → AreCarried plan unit e autos servers → IsFront list autos → IsFront below servers
-      → IsThere plan unit e s.at turns autos servers
+      → IsThere R e s.at turns autos servers
   come _ _ carried.begun front back =
-      frames_on plan unit e (s.at []) e.downs turns (s.begins e e.downs two.begun)
+      frames_on plan unit R leads e (s.at []) e.downs turns (s.begins e e.downs (leads.begun e))
   come _ _ (carried.sent {autos} {servers} h b) front back =
       silent autos (sends b) servers refl (come autos servers h (without list autos (sends b) front) back)
   come _ _ (carried.up {autos} {servers} h piece rest is) front back =
@@ -219,17 +226,18 @@ module _ (plan : Plan) (unit : ℕ) (e : Ends) (list : List Act) (last : Ends) (
       let downs : List Turn = e.downs ++ upto arrival_at turns (came_in servers) in
       let came : List ℕ = e.ups ++ bytes_in (came_in autos) in
       higher autos servers (bytes piece) front
-      (two.went_on (come autos servers h before back) (two.came_up piece (rest ++ out.0)
+      (leads.on (two.came_up piece (rest ++ out.0)
       (ap (λ (p : ClockedPort). sent_in (acts_of (begins AtOnce p) downs)) (s.port (came_in autos))
       ∙ enough (sent_in (acts_of (server_new e) downs)) (sent_up e) (sent_in servers) came piece rest out.0 out.1 is
       ∙ ap (λ (l : List ℕ). l ++ (piece ++ (rest ++ out.0)))
-      (sym (s.ups (came_in autos) (came_in before.0) (ap came_in before.1 ∙ came_both autos before.0))))))
+      (sym (s.ups (came_in autos) (came_in before.0) (ap came_in before.1 ∙ came_both autos before.0)))))
+      tt (come autos servers h before back))
   come _ _ (carried.waited {autos} {servers} h) front back =
       higher autos servers silence front
-      (two.went_on (come autos servers h (without list autos (brings silence) front) back) two.waited)
+      (waits _ autos silence front tt (come autos servers h (without list autos (brings silence) front) back))
   come _ _ (carried.hung_up {autos} {servers} h) front back =
       higher autos servers close front
-      (two.went_on (come autos servers h (without list autos (brings close) front) back) two.waited)
+      (waits _ autos close front tt (come autos servers h (without list autos (brings close) front) back))
   come _ _ (carried.failed {autos} {servers} h) front back =
       silent autos fails servers refl (come autos servers h (without list autos fails front) back)
   come _ _ (carried.answered {autos} {servers} h b) front back =
@@ -239,23 +247,24 @@ module _ (plan : Plan) (unit : ℕ) (e : Ends) (list : List Act) (last : Ends) (
       let out = s.sends autos front.0 front.1 in
       let came : List ℕ = bytes_in (arrivals e.downs) ++ bytes_in (came_in servers) in
       lower autos servers (bytes piece) back
-      (two.went_on (come autos servers h front before) (two.came_down piece (rest ++ out.0)
+      (leads.on (two.came_down piece (rest ++ out.0)
       (enough (sent_down plan unit (s.at (came_in autos))) (sent_down plan unit e) (sent_in autos) came piece rest out.0
       out.1 is
-      ∙ ap (λ (l : List ℕ). l ++ (piece ++ (rest ++ out.0))) (sym (downs_so e turns below servers whole before)))))
+      ∙ ap (λ (l : List ℕ). l ++ (piece ++ (rest ++ out.0))) (sym (downs_so e turns below servers whole before))))
+      tt (come autos servers h front before))
   come _ _ (carried.paused {autos} {servers} h) front back =
       lower autos servers silence back
-      (two.went_on (come autos servers h front (without below servers (brings silence) back)) two.paused)
+      (leads.on two.paused tt (come autos servers h front (without below servers (brings silence) back)))
   come _ _ (carried.shut {autos} {servers} h) front back =
       lower autos servers close back
-      (two.went_on (come autos servers h front (without below servers (brings close) back)) two.shut)
+      (leads.on two.shut tt (come autos servers h front (without below servers (brings close) back)))
   come _ _ (carried.broke {autos} {servers} h) front back =
       silent_below autos servers fails refl (come autos servers h front (without below servers fails back))
 
   -- all of it
-  pub side_led : AreCarried plan unit e list below → AreLed plan unit e (record last { downs = e.downs ++ turns })
+  pub side_led : AreCarried plan unit e list below → R e (record last { downs = e.downs ++ turns })
   side_led c =
-      subst (λ (x : Ends). AreLed plan unit e (record x { downs = e.downs ++ turns })) s.ends
-      (subst (λ (l : List Turn). AreLed plan unit e (record (s.at (came_in list)) { downs = e.downs ++ l }))
+      subst (λ (x : Ends). R e (record x { downs = e.downs ++ turns })) s.ends
+      (subst (λ (l : List Turn). R e (record (s.at (came_in list)) { downs = e.downs ++ l }))
       (ap₂ (upto arrival_at) (sym (append-nil turns)) whole ∙ upto_front arrival_at turns [] ∙ append-nil turns)
       (come list below c ([], sym (append-nil list)) ([], sym (append-nil below))))

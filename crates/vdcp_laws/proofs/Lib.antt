@@ -27,6 +27,7 @@ mod Servers
 mod Serving
 mod SeveralRuns
 mod Running
+mod Unsilent
 mod Untorn
 mod AsrunRows
 mod LossyGoings

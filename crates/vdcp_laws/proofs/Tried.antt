@@ -30,10 +30,9 @@ use Rattle.vdcp_laws.specs.Sessions.{acts_asked, acts_tried, ends_asked, ends_tr
 use Rattle.vdcp_laws.specs.TwoEnds.{AreJoined, AreLed, CanJoin, Ends, aired_now, log_now, sent_down, with_command}
 use Rattle.vdcp_laws.proofs.Asked.{IsAskedBy, Steps, asked_side, ear_of_run, ending, part_of_run}
 use Rattle.vdcp_laws.proofs.Asks.{MayAsk, opens, probes, sent_asked}
-use Rattle.vdcp_laws.proofs.CarriedRun.{of_joined}
+use Rattle.vdcp_laws.proofs.CarriedRun.{leads_on, led_by, of_joined}
 use Rattle.vdcp_laws.proofs.Carrying.{Side, no_act, side_of}
 use Rattle.vdcp_laws.proofs.Headline as headline
-use Rattle.vdcp_laws.proofs.Leading.{side_led}
 use Rattle.vdcp_laws.proofs.Servers.{ServedSo}
 use Rattle.vdcp_run.specs.Asking.{AreAsked, Asker, HasAsked, Inquiring, IsAsked, Start, asker_of, asking, line_of, opening, probing}
 use Rattle.vdcp_run.specs.Session.{HasTried, played, unbegun}
@@ -117,10 +116,10 @@ tried_led {does} law settings plan from e world end turns below aired none (play
     let sent : sent_down plan unit now ≡ sent_down plan unit e ++ sent_in list =
     sent_asked plan unit e (questions does settings e.automation.held ear' world.wire wire left None asker asked) none ∙ ap (λ (l : List ℕ). sent_down plan unit e ++ l)
     (a.0.part ∙ ap (λ (l : List ℕ). sent_in list ++ l) (a.1 refl) ∙ append-nil (sent_in list)) in
-    side_led plan unit e (list ++ more) last turns below
+    led_by plan unit e (list ++ more) last turns below aired
     (asked_side plan unit e (questions does settings e.automation.held ear' world.wire wire left None asker asked) ear' list more last none a.0
-    (subst (λ (l : List ℕ). Side plan unit now l more last) sent
-    (side_of plan unit left now plays.ran plays.auto plays.runs.run))) served.whole served.answers c
+    (subst (λ (l : List ℕ). Side plan unit (AreLed plan unit) now l more last) sent
+    (side_of plan unit left (AreLed plan unit) (leads_on plan unit) now plays.ran plays.auto plays.runs.run))) served c
 tried_led {does} law settings plan from e world end turns below aired none (unbegun ear' wire left line asked is) served c =
     let unit : ℕ = settings.unit in
     let start : Start = record { plan = plan; from = from; state = e.automation.state } in
@@ -131,10 +130,10 @@ tried_led {does} law settings plan from e world end turns below aired none (unbe
     let sent : sent_down plan unit now ≡ (sent_down plan unit e ++ sent_in list) ++ a.0.unsent =
     sent_asked plan unit e (questions does settings e.automation.held ear' world.wire wire left (Some line) asker asked) none ∙ ap (λ (l : List ℕ). sent_down plan unit e ++ l) a.0.part
     ∙ sym (append_assoc (sent_down plan unit e) (sent_in list) a.0.unsent) in
-    side_led plan unit e list now turns below
-    (subst (λ (l : List Act). Side plan unit e (sent_down plan unit e) l now) (append-nil list)
+    led_by plan unit e list now turns below aired
+    (subst (λ (l : List Act). Side plan unit (AreLed plan unit) e (sent_down plan unit e) l now) (append-nil list)
     (asked_side plan unit e (questions does settings e.automation.held ear' world.wire wire left (Some line) asker asked) ear' list [] now none a.0
-    (no_act plan unit now (sent_down plan unit e ++ sent_in list) a.0.unsent sent))) served.whole served.answers c
+    (no_act plan unit (AreLed plan unit) now (sent_down plan unit e ++ sent_in list) a.0.unsent sent))) served c
 
 -- The headline.
 pub tried_headline : {W F : Type 0} {does : Act → W → W → Type 0} {safe : F → Option (List ℕ)} (law : headline.Laws)

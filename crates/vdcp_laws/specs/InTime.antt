@@ -5,6 +5,7 @@ use Rattle.vdcp_auto.specs.Plan.{Plan}
 use Rattle.vdcp_auto.specs.Turn.{is_awaiting}
 use Rattle.vdcp_journal.specs.declared.row.Note.{Note}
 use Rattle.vdcp_journal.specs.declared.row.Note.TheVariants as note
+use Rattle.vdcp_wire.specs.Wires.{Arrival, bytes, silence, close}
 use Rattle.vdcp_drive.specs.Turns.{arrivals}
 use Rattle.vdcp_world.specs.Channel.{after_events, channel_to}
 use Rattle.vdcp_world.specs.InTime.{IsNoStop, LosesNone}
@@ -33,6 +34,12 @@ pub data AreInTime (plan : Plan) (unit : ℕ) (first : Ends) : Ends → Type 0 w
 -- and of two ends, of which the automation is new
 abbrev pub AreNewInTime : Plan → ClockedPort → Ends → Type 0
 AreNewInTime plan port e = AreInTime plan port.state.unit (new_ends port []) e
+
+-- a listen brought bytes
+abbrev pub IsPiece : Arrival → Type 0
+IsPiece (bytes piece) = Unit {0}
+IsPiece silence = ⊥
+IsPiece close = ⊥
 
 -- the operator didn't stop, nor take
 

@@ -26,5 +26,5 @@ pub use two_ends::{
     a_carried_run_keeps_the_headline, a_journal_makes_the_automation, a_kill_loses_what_came_since,
     ends_in_time_are_a_channel, nothing_airs_after_a_complete_end,
     several_runs_air_each_event_once, two_ends_are_a_late_channel, two_ends_keep_the_headline,
-    untorn_turns_are_at_once,
+    untorn_turns_are_at_once, what_is_never_silent_is_in_time,
 };

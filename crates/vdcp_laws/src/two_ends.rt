@@ -23,7 +23,7 @@ ghost use Rattle.vdcp_journal.specs.Thinned.{AreThinned, notes_in};
 ghost use Rattle.vdcp_journal.specs.declared.row.Row.{Row};
 ghost use Rattle.vdcp_wire.specs.Acts.{Act};
 ghost use Rattle.vdcp_drive.specs.Auto as auto;
-ghost use Rattle.vdcp_drive.specs.Auto.{Auto, Event, after};
+ghost use Rattle.vdcp_drive.specs.Auto.{Auto, Event, after, arrivals};
 ghost use Rattle.vdcp_drive.specs.Hearing.{at_once};
 ghost use Rattle.vdcp_drive.specs.Leaves.{IsRun, steps_in};
 ghost use Rattle.vdcp_drive.specs.Reading.{Held};
@@ -34,6 +34,7 @@ ghost use Rattle.vdcp_drive.specs.declared.line.Ran.{Ran};
 ghost use Rattle.vdcp_drive.specs.Serving.{acts_of, begins, items_in, left_by, hook_steps};
 ghost use Rattle.vdcp_drive.specs.Turns.{Turn};
 ghost use Rattle.vdcp_world.specs.LateLine.LateHeadline.{is_late_complete};
+ghost use Rattle.vdcp_laws.specs.Automation.{new_prompt};
 ghost use Rattle.vdcp_laws.specs.Announced.{Announces, played_notes};
 ghost use Rattle.vdcp_laws.specs.Below.{Laws};
 ghost use Rattle.vdcp_laws.specs.Carried.{AreCarried, driver_of};
@@ -43,9 +44,9 @@ ghost use Rattle.vdcp_laws.specs.Servers.{IsServed};
 ghost use Rattle.vdcp_laws.specs.SeveralRuns.{AiredEvent, AsksAtMost, HaveAired, IsEvent, aired_from};
 ghost use Rattle.vdcp_laws.specs.TwoEnds.{AreJoined, AreLed, CanJoin, Ends, IsLateChannel, IsSince, Step, aired_now, connected_anew, heard_again, log_now, new_ends, note_for, notes_given, port_now, with_command, with_kept};
 ghost use Rattle.vdcp_laws.specs.Untorn.{AreUntorn, at_once_for, server_at_silences};
-ghost use Rattle.vdcp_laws.specs.InTime.{AreChannel, AreNewInTime, CutsShort, IsInTime, IsNoStopNote, IsNoTakeNote};
+ghost use Rattle.vdcp_laws.specs.InTime.{AreChannel, AreNewInTime, CutsShort, IsInTime, IsNoStopNote, IsNoTakeNote, IsPiece};
 
-use vdcp_drive::{Hearing, ServerHooks};
+use vdcp_drive::{AtOnce, Hearing, ServerHooks};
 use vdcp_port::Catalogue;
 use vdcp_wire::Wire;
 
@@ -175,6 +176,22 @@ pub fn ends_in_time_are_a_channel()
     vdcp_world::laws::what_loses_nothing_plays_the_list();
     vdcp_world::laws::any_port_keeps_the_headline();
     vdcp_world::laws::no_cut_without_a_take();
+}
+
+/// Such are a new driver and a server, if each listen of the driver brings bytes, so that nothing times out: in plain mode
+/// each command is answered in time then.
+pub fn what_is_never_silent_is_in_time<C: Catalogue, B: Wire, H: ServerHooks<C>>()
+    ensures { (plan : Plan) (port : ClockedPort) (count : ℕ) (a' : Auto Held) (answer : Result Ran BrokenOff)
+        (turns : List Turn) (below : List Act) (aired : List Item) →
+        (run : IsRun at_once plan port.state.unit count (driver_of new_prompt) a' answer) →
+        All IsPiece (arrivals run.events) → IsServed B.does H.can_act H.does (new_ends port []) turns below aired →
+        AreCarried plan port.state.unit (new_ends port []) (acts_in (steps_in run)) below →
+        AreNewInTime plan port (ends_at plan port.state.unit (new_ends port []) run.events turns) }
+{
+    untorn_turns_are_at_once();
+    vdcp_drive::laws::servers_go_on();
+    vdcp_drive::laws::what_goes_out_is_answered();
+    vdcp_drive::laws::steps_are_exchanges::<AtOnce>();
 }
 
 /// An automation that is killed goes on as it was when the last of what is safe in its journal was noted, if it gave no

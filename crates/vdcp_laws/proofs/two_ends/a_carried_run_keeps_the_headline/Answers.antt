@@ -1,13 +1,12 @@
-use Rattle.std.proofs.Common.{List, ◌++◌, subst}
-use Rattle.vdcp_value.specs.declared.part.Item.{Item}
+use Rattle.std.proofs.Common.{◌++◌, subst}
 use Rattle.vdcp_drive.specs.Auto as auto
 use Rattle.vdcp_drive.specs.Hearing.{at_once}
 use Rattle.vdcp_drive.specs.Leaves.{steps_in}
 use Rattle.vdcp_drive.specs.Traces.{acts_in}
 use Rattle.vdcp_laws.specs.Carried.{driver_of}
 use Rattle.vdcp_laws.specs.EndsHeadline.{EndsHeadline}
-use Rattle.vdcp_laws.specs.TwoEnds.{log_now}
-use Rattle.vdcp_laws.proofs.CarriedRun.{joined, of_joined}
+use Rattle.vdcp_laws.specs.TwoEnds.{AreLed, log_now}
+use Rattle.vdcp_laws.proofs.CarriedRun.{joined, leads_on, of_joined}
 use Rattle.vdcp_laws.proofs.Carrying.{side_of}
 use Rattle.vdcp_laws.proofs.Servers.{Laws, served_so}
 use Rattle.vdcp_laws.proofs.two_ends.a_carried_run_keeps_the_headline.Given.{Over}
@@ -24,7 +23,7 @@ laws g c = record {
 pub returns-clause-joined : goal.returns-clause-joined
 returns-clause-joined g c plan port asked e count a' answer turns below aired j run served carried =
     joined plan port asked e _ (acts_in (steps_in run)) turns below aired j
-    (side_of plan port.state.unit count e answer a' run) (served_so (laws g c) e turns below aired served) carried
+    (side_of plan port.state.unit count (AreLed plan port.state.unit) (leads_on plan port.state.unit) e answer a' run) (served_so (laws g c) e turns below aired served) carried
 
 pub returns-clause-headline : goal.returns-clause-headline
 returns-clause-headline g c plan port asked e count a' answer turns below aired start j run served carried =
