@@ -29,7 +29,7 @@ use Rattle.vdcp_laws.specs.TwoEnds.{AreJoined, AreLed, CanJoin, Ends, aired_now,
 use Rattle.vdcp_laws.proofs.Carrying.{Leads, Side}
 use Rattle.vdcp_laws.proofs.Leading.{IsFront, IsQuiet, side_led}
 use Rattle.vdcp_laws.proofs.Headline.{Laws, before_tick, of_ends}
-use Rattle.vdcp_laws.proofs.OneRun.{goes, led_on}
+use Rattle.vdcp_laws.proofs.OneRun.{automation_so, led_on, stays}
 use Rattle.vdcp_laws.proofs.Servers.{ServedSo}
 use Rattle.vdcp_laws.proofs.Same.{led_log, led_so}
 
@@ -79,16 +79,16 @@ with_next law plan port asked e events downs start j =
     let now : Ends = ends_by plan unit e events in
     let p : Prompt = led plan unit e.automation events in
     let more : List Exchange = log_of at_once plan unit (driver_of e.automation) events in
-    let g = goes plan unit e events in
+    let automation = automation_so plan unit e events in
     let aired : List Item = aired_now (record e { downs = downs }) in
     let log_is : now.log_before ++ now.automation.log ≡ log_now e ++ more =
-    ap₂ (λ (l : List Exchange) (q : Prompt). l ++ q.log) g.log_before g.automation
+    ap₂ (λ (l : List Exchange) (q : Prompt). l ++ q.log) (stays (λ p l i. l) plan unit e events) automation
     ∙ ap (λ (l : List Exchange). e.log_before ++ l) (led_log plan unit e.automation events)
     ∙ sym (append_assoc e.log_before e.automation.log more) in
     let aired_is : aired_now (record now { downs = downs }) ≡ aired =
-    ap₂ (λ (l : List Item) (q : ClockedPort). l ++ items_in (hook_steps (begins AtOnce q) downs)) g.aired_before g.port in
+    stays (λ p l i. i ++ items_in (hook_steps (begins AtOnce p) downs)) plan unit e events in
     let state_is : driver_of now.automation ≡ after at_once plan unit (driver_of e.automation) events =
-    ap driver_of g.automation ∙ led_so plan unit e.automation events in
+    ap driver_of automation ∙ led_so plan unit e.automation events in
     subst (λ (x : Auto Held). EndsHeadline plan port.clips (ticked x.state) (log_now e ++ more) aired) state_is
     (subst (λ (l : List Exchange). EndsHeadline plan port.clips (ticked now.automation.state) l aired) log_is
     (subst (EndsHeadline plan port.clips (ticked now.automation.state) (now.log_before ++ now.automation.log)) aired_is

@@ -1,6 +1,5 @@
 -- What is carried between an automation's side and a server leads both ends on.
 use Rattle.std.proofs.Common.{ℕ, ◌≡◌, List, [], ◌∷◌, ◌++◌, refl, sym, ap, ap₂, subst, ◌∙◌, append_assoc, append-nil}
-use Rattle.std.specs.Prelude.{Option, None, Some}
 use Rattle.vdcp_words.specs.declared.reply.Reply.{Reply}
 use Rattle.vdcp_port.specs.Clock.{ClockedPort}
 use Rattle.vdcp_auto.specs.Plan.{Plan}
@@ -17,7 +16,7 @@ use Rattle.vdcp_laws.specs.OneConnection.{hears_in}
 use Rattle.vdcp_laws.specs.TwoEnds as two
 use Rattle.vdcp_laws.specs.TwoEnds.{Ends, bytes_in, sent_down, sent_up, server_new, server_now, with_down}
 use Rattle.vdcp_laws.proofs.Carrying.{Leads, Side, came_both, sent_both}
-use Rattle.vdcp_laws.proofs.Fronts.{came_of, next_of, upto, upto_came, upto_front}
+use Rattle.vdcp_laws.proofs.Fronts.{next_of, upto, upto_came, upto_front}
 use Rattle.vdcp_laws.proofs.Serving.{bytes_both}
 
 -- if what went out is enough for what came, so is all that was to go out
@@ -38,28 +37,14 @@ same_came : (so_far : List Act) (act : Act) → came_in (act ∷ []) ≡ [] → 
 same_came so_far act none =
     came_both so_far (act ∷ []) ∙ ap (λ (l : List Arrival). came_in so_far ++ l) none ∙ append-nil (came_in so_far)
 
--- What happens to the server brings this.
-abbrev pub arrival_at : Turn → Option Arrival
-arrival_at (listen a) = Some a
-arrival_at frame = None
-
-pub turns_so : (turns : List Turn) → arrivals turns ≡ came_of arrival_at turns
-turns_so [] = refl
-turns_so (listen a ∷ later) = ap (λ (l : List Arrival). a ∷ l) (turns_so later)
-turns_so (frame ∷ later) = turns_so later
-
-it_listens : (what : Turn) (a : Arrival) → arrival_at what ≡ Some a → what ≡ listen a
-it_listens (listen b) a is = cc
-it_listens frame a is = cc
-
 -- what it has sent by any act of its wire is of what it answers to what had happened by then
 abbrev pub SendsAnswers : Ends → List Turn → List Act → Type 0
 SendsAnswers e turns list = (some behind : List Act) → list ≡ some ++ behind → (rest : List ℕ)
-    × (sent_in (acts_of (server_new e) (e.downs ++ upto arrival_at turns (came_in some)))
+    × (sent_in (acts_of (server_new e) (e.downs ++ upto turns (came_in some)))
     ≡ sent_up e ++ (sent_in some ++ rest))
 
 -- frames send nothing
-silent_frames : (s : Service) (later : List Turn) → acts_of s (upto arrival_at later []) ≡ []
+silent_frames : (s : Service) (later : List Turn) → acts_of s (upto later []) ≡ []
 silent_frames s [] = refl
 silent_frames s (listen a ∷ later) = refl
 silent_frames s (frame ∷ later) = silent_frames (serves frame s) later
@@ -95,10 +80,10 @@ pub sends_answers : (law : ServersGoOn) (e : Ends) (turns : List Turn) (list : L
 sends_answers law e turns list moments some behind parts =
     let m = moments some behind parts in
     let all : List Turn = e.downs ++ m.upto in
-    let frames : List Turn = upto arrival_at m.later [] in
-    let front : e.downs ++ upto arrival_at turns (came_in some) ≡ all ++ frames =
+    let frames : List Turn = upto m.later [] in
+    let front : e.downs ++ upto turns (came_in some) ≡ all ++ frames =
     ap (λ (l : List Turn). e.downs ++ l)
-    (ap₂ (upto arrival_at) m.parts (sym m.came ∙ turns_so m.upto) ∙ upto_front arrival_at m.upto m.later)
+    (ap₂ upto m.parts (sym m.came) ∙ upto_front m.upto m.later)
     ∙ sym (append_assoc e.downs m.upto frames) in
     let acts : acts_of (server_new e) (all ++ frames) ≡ acts_of (server_new e) all =
     law (server_new e) all frames
@@ -112,9 +97,9 @@ came_sent unit [] more = refl
 came_sent unit (r ∷ replies) more = came_sent unit replies more
 
 pub turns_whole : (s : Service) (turns : List Turn) (done : List Act)
-    → came_in (acts_of s turns ++ done) ≡ came_of arrival_at (turns ++ only (came_in done))
+    → came_in (acts_of s turns ++ done) ≡ arrivals (turns ++ only (came_in done))
 turns_whole s [] done = all (came_in done) where
-  all : (came : List Arrival) → came ≡ came_of arrival_at (only came)
+  all : (came : List Arrival) → came ≡ arrivals (only came)
   all [] = refl
   all (a ∷ came) = ap (λ (l : List Arrival). a ∷ l) (all came)
 turns_whole s (frame ∷ later) done = turns_whole (serves frame s) later done
@@ -128,13 +113,13 @@ turns_whole s (listen a ∷ later) done =
 -- the frames that follow pass
 frames_on : (plan : Plan) (unit : ℕ) (R : Ends → Ends → Type 0) (leads : Leads plan unit R) (first e : Ends)
     (downs later : List Turn) → R first (record e { downs = downs })
-    → R first (record e { downs = downs ++ upto arrival_at later [] })
+    → R first (record e { downs = downs ++ upto later [] })
 frames_on plan unit R leads first e downs [] j =
     subst (λ (l : List Turn). R first (record e { downs = l })) (sym (append-nil downs)) j
 frames_on plan unit R leads first e downs (listen a ∷ later) j =
     subst (λ (l : List Turn). R first (record e { downs = l })) (sym (append-nil downs)) j
 frames_on plan unit R leads first e downs (frame ∷ later) j =
-    subst (λ (l : List Turn). R first (record e { downs = l })) (append_assoc downs (frame ∷ []) (upto arrival_at later []))
+    subst (λ (l : List Turn). R first (record e { downs = l })) (append_assoc downs (frame ∷ []) (upto later []))
     (frames_on plan unit R leads first e (downs ++ frame ∷ []) later (leads.on two.passed tt j))
 
 -- what comes next in a list
@@ -144,15 +129,14 @@ next_in list so_far behind what is =
     ap came_in (is ∙ append_assoc so_far (brings what ∷ []) behind) ∙ came_both so_far (brings what ∷ behind)
 
 -- what came down by then
-downs_so : (e : Ends) (turns : List Turn) (below servers : List Act) → came_in below ≡ came_of arrival_at turns
+downs_so : (e : Ends) (turns : List Turn) (below servers : List Act) → came_in below ≡ arrivals turns
     → IsFront below servers
-    → bytes_in (arrivals (e.downs ++ upto arrival_at turns (came_in servers)))
+    → bytes_in (arrivals (e.downs ++ upto turns (came_in servers)))
     ≡ bytes_in (arrivals e.downs) ++ bytes_in (came_in servers)
 downs_so e turns below servers whole back =
-    bytes_both e.downs (upto arrival_at turns (came_in servers))
+    bytes_both e.downs (upto turns (came_in servers))
     ∙ ap (λ (l : List Arrival). bytes_in (arrivals e.downs) ++ bytes_in l)
-    (turns_so (upto arrival_at turns (came_in servers))
-    ∙ upto_came arrival_at turns (came_in servers) (came_in back.0) (sym whole ∙ ap came_in back.1 ∙ came_both servers back.0))
+    (upto_came turns (came_in servers) (came_in back.0) (sym whole ∙ ap came_in back.1 ∙ came_both servers back.0))
 
 -- it brings no bytes
 abbrev pub IsQuiet : Arrival → Type 0
@@ -163,53 +147,51 @@ IsQuiet close = Unit {0}
 -- where both ends are then
 abbrev IsThere : (Ends → Ends → Type 0) → Ends → (List Arrival → Ends) → List Turn → List Act → List Act → Type 0
 IsThere R e at turns autos servers =
-    R e (record (at (came_in autos)) { downs = e.downs ++ upto arrival_at turns (came_in servers) })
+    R e (record (at (came_in autos)) { downs = e.downs ++ upto turns (came_in servers) })
 
 module _ (plan : Plan) (unit : ℕ) (R : Ends → Ends → Type 0) (leads : Leads plan unit R) (e : Ends) (list : List Act)
     (last : Ends) (turns : List Turn) (below : List Act) (s : Side plan unit R e (sent_down plan unit e) list last)
     (waits : (now : Ends) (autos : List Act) (a : Arrival) → IsFront list (autos ++ brings a ∷ []) → IsQuiet a
-    → R e now → R e (hears_in plan unit a now)) (whole : came_in below ≡ came_of arrival_at turns)
+    → R e now → R e (hears_in plan unit a now)) (whole : came_in below ≡ arrivals turns)
     (answers : SendsAnswers e turns below) where
   silent : (autos : List Act) (act : Act) (servers : List Act) → came_in (act ∷ []) ≡ []
       → IsThere R e s.at turns autos servers → IsThere R e s.at turns (autos ++ act ∷ []) servers
   silent autos act servers none h =
       subst (λ (l : List Arrival). R e
-      (record (s.at l) { downs = e.downs ++ upto arrival_at turns (came_in servers) })) (sym (same_came autos act none)) h
+      (record (s.at l) { downs = e.downs ++ upto turns (came_in servers) })) (sym (same_came autos act none)) h
 
   silent_below : (autos servers : List Act) (act : Act) → came_in (act ∷ []) ≡ []
       → IsThere R e s.at turns autos servers → IsThere R e s.at turns autos (servers ++ act ∷ [])
   silent_below autos servers act none h =
       subst (λ (l : List Arrival). R e
-      (record (s.at (came_in autos)) { downs = e.downs ++ upto arrival_at turns l })) (sym (same_came servers act none)) h
+      (record (s.at (came_in autos)) { downs = e.downs ++ upto turns l })) (sym (same_came servers act none)) h
 
   -- something comes down, and the frames that follow pass
   lower : (autos servers : List Act) (what : Arrival) → IsFront below (servers ++ brings what ∷ [])
       → R e (with_down (listen what) (record (s.at (came_in autos))
-      { downs = e.downs ++ upto arrival_at turns (came_in servers) }))
+      { downs = e.downs ++ upto turns (came_in servers) }))
       → IsThere R e s.at turns autos (servers ++ brings what ∷ [])
   lower autos servers what back j =
-      let n = next_of arrival_at turns (came_in servers) what (came_in back.0)
+      let n = next_of turns (came_in servers) what (came_in back.0)
       (sym whole ∙ next_in below servers back.0 what back.1) in
-      let front : List Turn = upto arrival_at turns (came_in servers) in
+      let front : List Turn = upto turns (came_in servers) in
       let now : Ends = s.at (came_in autos) in
-      let frames : List Turn = upto arrival_at n.later [] in
+      let frames : List Turn = upto n.0 [] in
       let all : ((e.downs ++ front) ++ listen what ∷ []) ++ frames
-      ≡ e.downs ++ upto arrival_at turns (came_in (servers ++ brings what ∷ [])) =
+      ≡ e.downs ++ upto turns (came_in (servers ++ brings what ∷ [])) =
       append_assoc (e.downs ++ front) (listen what ∷ []) frames
       ∙ append_assoc e.downs front (listen what ∷ frames)
-      ∙ ap (λ (l : List Turn). e.downs ++ l)
-      (ap (λ (x : Turn). front ++ x ∷ frames) (sym (it_listens n.what what n.is)) ∙ sym n.on_is
-      ∙ ap (upto arrival_at turns) (sym (came_both servers (brings what ∷ [])))) in
+      ∙ ap (λ (l : List Turn). e.downs ++ l) (sym n.1 ∙ ap (upto turns) (sym (came_both servers (brings what ∷ [])))) in
       subst (λ (l : List Turn). R e (record now { downs = l })) all
-      (frames_on plan unit R leads e now ((e.downs ++ front) ++ listen what ∷ []) n.later j)
+      (frames_on plan unit R leads e now ((e.downs ++ front) ++ listen what ∷ []) n.0 j)
 
   -- something comes up
   higher : (autos servers : List Act) (what : Arrival) → IsFront list (autos ++ brings what ∷ [])
       → R e (record (hears_in plan unit what (s.at (came_in autos)))
-      { downs = e.downs ++ upto arrival_at turns (came_in servers) })
+      { downs = e.downs ++ upto turns (came_in servers) })
       → IsThere R e s.at turns (autos ++ brings what ∷ []) servers
   higher autos servers what front j =
-      let downs : List Turn = e.downs ++ upto arrival_at turns (came_in servers) in
+      let downs : List Turn = e.downs ++ upto turns (came_in servers) in
       subst (λ (l : List Arrival). R e (record (s.at l) { downs = downs }))
       (sym (came_both autos (brings what ∷ [])))
       (s.goes_on e downs (came_in autos) (came_in front.0) what (next_in list autos front.0 what front.1) j)
@@ -223,7 +205,7 @@ module _ (plan : Plan) (unit : ℕ) (R : Ends → Ends → Type 0) (leads : Lead
   come _ _ (carried.up {autos} {servers} h piece rest is) front back =
       let before = without list autos (brings (bytes piece)) front in
       let out = answers servers back.0 back.1 in
-      let downs : List Turn = e.downs ++ upto arrival_at turns (came_in servers) in
+      let downs : List Turn = e.downs ++ upto turns (came_in servers) in
       let came : List ℕ = e.ups ++ bytes_in (came_in autos) in
       higher autos servers (bytes piece) front
       (leads.on (two.came_up piece (rest ++ out.0)
@@ -266,5 +248,5 @@ module _ (plan : Plan) (unit : ℕ) (R : Ends → Ends → Type 0) (leads : Lead
   side_led c =
       subst (λ (x : Ends). R e (record x { downs = e.downs ++ turns })) s.ends
       (subst (λ (l : List Turn). R e (record (s.at (came_in list)) { downs = e.downs ++ l }))
-      (ap₂ (upto arrival_at) (sym (append-nil turns)) whole ∙ upto_front arrival_at turns [] ∙ append-nil turns)
+      (ap₂ upto (sym (append-nil turns)) whole ∙ upto_front turns [] ∙ append-nil turns)
       (come list below c ([], sym (append-nil list)) ([], sym (append-nil below))))

@@ -24,7 +24,7 @@ use Rattle.vdcp_laws.specs.Automation.{Prompt, gives, hears, listens}
 use Rattle.vdcp_laws.specs.Carried.{driver_of}
 use Rattle.vdcp_laws.specs.OneConnection.{ends_at, ends_by, hears_in, heeds_in}
 use Rattle.vdcp_laws.specs.TwoEnds.{Ends, note_for, notes_given, notes_heard, with_command}
-use Rattle.vdcp_laws.proofs.OneRun.{goes}
+use Rattle.vdcp_laws.proofs.OneRun.{automation_so}
 use Rattle.vdcp_laws.proofs.Same.{led_so, listens_so}
 
 rows_both : (xs ys : List Step) → kept_in (xs ++ ys) ≡ kept_in xs ++ kept_in ys
@@ -103,4 +103,4 @@ pub noted_at : (plan : Plan) (unit : ℕ) (e : Ends) (events : List Event) (down
     ++ notes_given plan (after at_once plan unit (driver_of e.automation) events).state
 noted_at plan unit e events downs =
     ap₂ (λ (l : List Note) (x : Auto Held). l ++ notes_given plan x.state) (noted plan unit e events)
-    (ap driver_of (goes plan unit e events).automation ∙ led_so plan unit e.automation events)
+    (ap driver_of (automation_so plan unit e events) ∙ led_so plan unit e.automation events)

@@ -1,68 +1,37 @@
 -- One run, by what happened in it: where both ends are led.
-use Rattle.std.proofs.Common.{ℕ, ◌≡◌, List, [], ◌∷◌, ◌++◌, refl, sym, ◌∙◌, append_assoc, append-nil}
+use Rattle.std.proofs.Common.{ℕ, ◌≡◌, List, [], ◌∷◌, refl}
+use Rattle.vdcp_value.specs.declared.part.Item.{Item}
+use Rattle.vdcp_port.specs.Clock.{ClockedPort}
 use Rattle.vdcp_auto.specs.Plan.{Plan}
+use Rattle.vdcp_auto.specs.declared.exchange.Exchange.{Exchange}
 use Rattle.vdcp_wire.specs.Wires.{bytes, silence, close}
-use Rattle.vdcp_drive.specs.Auto.{Event, arrivals, arrives, calls}
-use Rattle.vdcp_laws.specs.Automation.{Prompt, led}
+use Rattle.vdcp_drive.specs.Auto.{Event, arrives, calls}
+use Rattle.vdcp_laws.specs.Automation.{led}
 use Rattle.vdcp_laws.specs.OneConnection.{ends_by, hears_in, heeds_in}
 use Rattle.vdcp_laws.specs.TwoEnds as two
-use Rattle.vdcp_laws.specs.TwoEnds.{AreLed, Ends, bytes_in, with_command}
+use Rattle.vdcp_laws.specs.TwoEnds.{AreLed, Ends, with_command}
 
--- what happens to the automation leaves the rest
-pub record Goes (e : Ends) (p : Prompt) (up : List ℕ) (e' : Ends) : Type 0 where
-  pub asked : e'.asked ≡ e.asked
-  pub automation : e'.automation ≡ p
-  pub ups : e'.ups ≡ e.ups ++ up
-  pub port : e'.port ≡ e.port
-  pub log_before : e'.log_before ≡ e.log_before
-  pub aired_before : e'.aired_before ≡ e.aired_before
+pub automation_so : (plan : Plan) (unit : ℕ) (e : Ends) (events : List Event)
+    → (ends_by plan unit e events).automation ≡ led plan unit e.automation events
+automation_so plan unit e [] = refl
+automation_so plan unit e (arrives (bytes piece) ∷ later) =
+    automation_so plan unit (hears_in plan unit (bytes piece) (with_command plan e)) later
+automation_so plan unit e (arrives silence ∷ later) =
+    automation_so plan unit (hears_in plan unit silence (with_command plan e)) later
+automation_so plan unit e (arrives close ∷ later) =
+    automation_so plan unit (hears_in plan unit close (with_command plan e)) later
+automation_so plan unit e (calls c ∷ later) = automation_so plan unit (heeds_in c e) later
 
-pub goes : (plan : Plan) (unit : ℕ) (e : Ends) (events : List Event)
-    → Goes e (led plan unit e.automation events) (bytes_in (arrivals events)) (ends_by plan unit e events)
-goes plan unit e [] = record {
-  asked = refl;
-  automation = refl;
-  ups = sym (append-nil e.ups);
-  port = refl;
-  log_before = refl;
-  aired_before = refl;
-}
-goes plan unit e (arrives (bytes piece) ∷ later) =
-    let g = goes plan unit (hears_in plan unit (bytes piece) (with_command plan e)) later in record {
-      asked = g.asked;
-      automation = g.automation;
-      ups = g.ups ∙ append_assoc e.ups piece (bytes_in (arrivals later));
-      port = g.port;
-      log_before = g.log_before;
-      aired_before = g.aired_before;
-    }
-goes plan unit e (arrives silence ∷ later) =
-    let g = goes plan unit (hears_in plan unit silence (with_command plan e)) later in record {
-      asked = g.asked;
-      automation = g.automation;
-      ups = g.ups;
-      port = g.port;
-      log_before = g.log_before;
-      aired_before = g.aired_before;
-    }
-goes plan unit e (arrives close ∷ later) =
-    let g = goes plan unit (hears_in plan unit close (with_command plan e)) later in record {
-      asked = g.asked;
-      automation = g.automation;
-      ups = g.ups;
-      port = g.port;
-      log_before = g.log_before;
-      aired_before = g.aired_before;
-    }
-goes plan unit e (calls c ∷ later) =
-    let g = goes plan unit (heeds_in c e) later in record {
-      asked = g.asked;
-      automation = g.automation;
-      ups = g.ups;
-      port = g.port;
-      log_before = g.log_before;
-      aired_before = g.aired_before;
-    }
+-- what happens to the automation leaves these
+pub stays : {A : Type 0} (f : ClockedPort → List Exchange → List Item → A) (plan : Plan) (unit : ℕ) (e : Ends)
+    (events : List Event) → (let now : Ends = ends_by plan unit e events in f now.port now.log_before now.aired_before)
+    ≡ f e.port e.log_before e.aired_before
+stays f plan unit e [] = refl
+stays f plan unit e (arrives (bytes piece) ∷ later) =
+    stays f plan unit (hears_in plan unit (bytes piece) (with_command plan e)) later
+stays f plan unit e (arrives silence ∷ later) = stays f plan unit (hears_in plan unit silence (with_command plan e)) later
+stays f plan unit e (arrives close ∷ later) = stays f plan unit (hears_in plan unit close (with_command plan e)) later
+stays f plan unit e (calls c ∷ later) = stays f plan unit (heeds_in c e) later
 
 pub led_on : (plan : Plan) (unit : ℕ) (first e e' : Ends) → AreLed plan unit first e → AreLed plan unit e e'
     → AreLed plan unit first e'

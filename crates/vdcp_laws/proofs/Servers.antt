@@ -9,7 +9,7 @@ use Rattle.vdcp_drive.specs.ServeLeaves.{ServeEnding}
 use Rattle.vdcp_drive.specs.Served.{IsMoment, only}
 use Rattle.vdcp_drive.specs.Serving.{HookStep, Service, acts_of, begins, hook_steps, items_in, left_by}
 use Rattle.vdcp_drive.specs.Traces.{came_in}
-use Rattle.vdcp_drive.specs.Turns.{Turn}
+use Rattle.vdcp_drive.specs.Turns.{Turn, arrivals}
 use Rattle.vdcp_drive.specs.declared.hearing.Hearing.{Hearing}
 use Rattle.vdcp_drive.specs.declared.hearing.Hearing.TheVariants.{AtOnce, AtSilences}
 use Rattle.vdcp_drive.specs.declared.line.DriveFault.{DriveFault}
@@ -19,8 +19,7 @@ use Rattle.vdcp_laws.specs.Servers.{IsServed}
 use Rattle.vdcp_laws.specs.Servers as servers
 use Rattle.vdcp_laws.specs.TwoEnds.{Ends, aired_now, server_now}
 use Rattle.vdcp_laws.specs.Untorn.{AreUntorn, at_once_for, server_at_silences}
-use Rattle.vdcp_laws.proofs.Fronts.{came_of}
-use Rattle.vdcp_laws.proofs.Leading.{SendsAnswers, ServersGoOn, arrival_at, moment_of, sends_answers, turns_whole}
+use Rattle.vdcp_laws.proofs.Leading.{SendsAnswers, ServersGoOn, moment_of, sends_answers, turns_whole}
 use Rattle.vdcp_laws.proofs.Untorn.{ActSame, all_downs, silent_moment, silent_whole}
 
 -- vdcp_drive::laws: servers_go_on, what_goes_out_is_answered; laws::untorn_turns_are_at_once
@@ -35,7 +34,7 @@ pub record Laws : Type 0 where
       → items_in (hook_steps (begins AtOnce p) (at_once_for turns)) ≡ items_in (hook_steps (begins AtSilences p) turns)
 
 pub record ServedSo (e : Ends) (turns : List Turn) (below : List Act) (aired : List Item) : Type 0 where
-  pub whole : came_in below ≡ came_of arrival_at turns
+  pub whole : came_in below ≡ arrivals turns
   pub answers : SendsAnswers e turns below
   pub aired_is : aired_now (record e { downs = e.downs ++ turns }) ≡ aired
 

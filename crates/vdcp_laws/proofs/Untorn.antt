@@ -26,8 +26,7 @@ use Rattle.vdcp_laws.specs.TwoEnds.{Ends, server_new}
 use Rattle.vdcp_laws.specs.Untorn.{AreUntorn, IsRead, at_once_for, server_at_silences}
 use Rattle.vdcp_laws.proofs.Bytes.{front_all, nothing_unfinished}
 use Rattle.vdcp_laws.proofs.Carrying.{sent_both}
-use Rattle.vdcp_laws.proofs.Fronts.{came_of}
-use Rattle.vdcp_laws.proofs.Leading.{ServersGoOn, IsMomentOf, arrival_at, turns_so, turns_whole}
+use Rattle.vdcp_laws.proofs.Leading.{ServersGoOn, IsMomentOf, turns_whole}
 
 -- the laws below: of vdcp_frame written_is_read, and of vdcp_drive servers_go_on
 pub record Laws : Type 0 where
@@ -185,10 +184,10 @@ arrivals_same (listen close ∷ later) = ap (λ (l : List Arrival). close ∷ l)
 arrivals_same (frame ∷ later) = arrivals_same later
 
 pub silent_whole : (s : Service) (turns : List Turn) (done : List Act)
-    → came_in (acts_of s turns ++ done) ≡ came_of arrival_at (at_once_for (turns ++ only (came_in done)))
+    → came_in (acts_of s turns ++ done) ≡ arrivals (at_once_for (turns ++ only (came_in done)))
 silent_whole s turns done =
     let all : List Turn = turns ++ only (came_in done) in
-    turns_whole s turns done ∙ sym (turns_so all) ∙ sym (arrivals_same all) ∙ turns_so (at_once_for all)
+    turns_whole s turns done ∙ sym (arrivals_same all)
 
 pub all_downs : (downs before turns : List Turn) → downs ≡ at_once_for before
     → downs ++ at_once_for turns ≡ at_once_for (before ++ turns)
