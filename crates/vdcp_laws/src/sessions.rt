@@ -8,6 +8,7 @@ ghost use Rattle.vdcp_port.specs.Clock.{ClockedPort};
 ghost use Rattle.vdcp_auto.specs.Plan.{Plan};
 ghost use Rattle.vdcp_wire.specs.Acts.{Act};
 ghost use Rattle.vdcp_drive.specs.Hearing.{at_once};
+ghost use Rattle.vdcp_drive.specs.Reading.{holds};
 ghost use Rattle.vdcp_drive.specs.Turns.{Turn};
 ghost use Rattle.vdcp_journal_file.specs.Recording.{Recording};
 ghost use Rattle.vdcp_laws.specs.Automation.{commands_in};
@@ -16,22 +17,22 @@ ghost use Rattle.vdcp_laws.specs.EndsHeadline.{EndsHeadline};
 ghost use Rattle.vdcp_laws.specs.Servers.{IsServed};
 ghost use Rattle.vdcp_laws.specs.Sessions.{acts_tried, ends_tried, log_tried, state_tried};
 ghost use Rattle.vdcp_laws.specs.TwoEnds.{AreJoined, CanJoin, Ends, connected_anew, log_now};
-ghost use Rattle.vdcp_run.specs.Asking.{over};
-ghost use Rattle.vdcp_run.specs.Session.{HasTried};
+ghost use Rattle.vdcp_run.specs.Asking.{Start, over};
+ghost use Rattle.vdcp_run.specs.Session.{HasTried, TriesOver};
 ghost use Rattle.vdcp_run.specs.declared.run_end.RunEnd.{RunEnd};
 ghost use Rattle.vdcp_run.specs.declared.settings.RunSettings.{RunSettings};
 
 use crate::two_ends::{two_ends_are_a_late_channel, untorn_turns_are_at_once};
-use vdcp_drive::{AtOnce, ServerHooks};
+use vdcp_drive::{AtOnce, Hearing, ServerHooks};
 use vdcp_journal_file::Disk;
 use vdcp_port::Catalogue;
 use vdcp_wire::Wire;
 
-/// Whatever a session of `vdcp run` does with an ear that hears at once (`HasTried` of its `play_over`, over any wire and any
-/// disk): it asks the port first, by an automation of its own, if it has to, and plays its list with the ear that this hands
-/// on, or doesn't begin it. If its wire and a server's carry to each, in order, a beginning of the bytes that the other one
-/// sent by then, the headline holds of its list's controller and the server. That hears at once, or at silences none of which
-/// tears a command; and this controller has given no command over the connection yet, but may go on from a journal.
+/// What `vdcp run` does over a connection with an ear that hears at once (`HasTried`, which its `play_over` gives over any
+/// wire and any disk): an automation of its own asks first what has to be asked, and with the ear that this hands on the list
+/// is played, or it isn't begun. If its wire and a server's carry to each, in order, a beginning of the bytes that the other
+/// one sent by then, the headline holds: of the list's controller, which is new, or goes on from its journal over a new
+/// connection, and of the server, which hears at once, or at silences none of which tears a command.
 pub fn a_session_keeps_the_headline<C: Catalogue, A: Wire, D: Disk, B: Wire, H: ServerHooks<C>>()
     ensures headline { (plan : Plan) (from : ℕ) (settings : RunSettings) (port : ClockedPort) (asked : List Command) (e : Ends)
         (wire : A) (recorder : Option (Recording D)) (end : RunEnd) (turns : List Turn) (below : List Act) (aired : List Item) →
@@ -50,6 +51,10 @@ pub fn a_session_keeps_the_headline<C: Catalogue, A: Wire, D: Disk, B: Wire, H: 
         IsServed B.does H.can_act H.does e turns below aired →
         AreCarried plan port.state.unit e (acts_tried tried) below →
         AreJoined plan port asked (ends_tried tried e (e.downs ++ turns)) }
+    // `play_over` gives one with a new ear, as new ends have it, and those over a new connection
+    ensures given { (settings : RunSettings) (start : Start) (wire : A) (recorder : Option (Recording D)) (end : RunEnd) →
+        TriesOver A.does D.safe (record settings { hearing = Hearing.AtOnce }) start wire recorder end →
+        HasTried A.does D.safe at_once (record settings { hearing = Hearing.AtOnce }) start (holds []) (over wire recorder) end }
     // over which nothing was given yet
     ensures anew { (plan : Plan) (port : ClockedPort) (e : Ends) →
         commands_in plan (connected_anew plan port e).automation ≡ [] }

@@ -40,3 +40,6 @@ returns-clause-headline g c plan from settings port asked e wire recorder end tu
 
 pub returns-clause-anew : goal.returns-clause-anew
 returns-clause-anew g c plan port e = ap option_to_list (timed_out plan e.automation.state)
+
+pub returns-clause-given : goal.returns-clause-given
+returns-clause-given g c settings start wire recorder end tried = tried
