@@ -1,5 +1,5 @@
 -- What a recorder has written once it was given things to keep, one after another.
-use Rattle.std.proofs.Common.{ℕ, ◌≡◌, inl, inr, ◌≤◌, List, [], ◌∷◌, ◌++◌, Bool, true, false, cond, not, length, map, take, drop, refl, sym, ap, subst, ◌∙◌, append_assoc, append-nil, arith}
+use Rattle.std.proofs.Common.{ℕ, ◌≡◌, inl, inr, List, [], ◌∷◌, ◌++◌, Bool, true, false, cond, not, map, take, drop, refl, sym, ap, subst, ◌∙◌, append_assoc, append-nil, arith}
 use Rattle.std.proofs.lemmas.Grind.{flat_map-append}
 use Rattle.std.proofs.lemmas.List.{take-append-drop}
 use Rattle.std.proofs.lemmas.List.Elements.{filter-append}
@@ -31,7 +31,7 @@ use Rattle.vdcp_journal.specs.declared.moment.Moment.{Moment}
 use Rattle.vdcp_journal.specs.declared.row.Note.{Note}
 use Rattle.vdcp_journal.specs.declared.row.Note.TheVariants as note
 use Rattle.vdcp_journal.specs.declared.row.Row.{Row}
-use Rattle.vdcp_journal_file.specs.Recorded.{HasSafe, IsNoAct, IsRecorded, IsTornBy, MayBeLeft, MayHold, KeepsRow, Loses, LosesRow, Notes, NotesEnd, acting, call_note, commands_of_note, commands_of_rows, note_for}
+use Rattle.vdcp_journal_file.specs.Recorded.{AsksState, HasSafe, IsEnd, IsRecorded, IsTornBy, MayBeLeft, MayHold, KeepsRow, Loses, LosesRow, Notes, NotesEnd, WaitsSince, acting, call_note, commands_of_note, commands_of_rows, is_end, note_for}
 use Rattle.vdcp_journal_file.specs.Recording.{MakesBeginning, MakesSafe, Recording, after_row, announces, end_note, ended, is_again, is_announced, notes_seen, rows_due, rows_left, says_nothing_new, seen_before, seen_last, seen_of, with_play}
 use Rattle.vdcp_journal_file.specs.declared.pending.Pending.{Pending}
 use Rattle.vdcp_journal_file.specs.declared.pending.Pending.TheVariants as pending
@@ -65,15 +65,6 @@ notes_both : (xs ys : List Row) → notes_in (xs ++ ys) ≡ notes_in xs ++ notes
 notes_both [] ys = refl
 notes_both (x ∷ xs) ys = ap (λ (l : List Note). x.note ∷ l) (notes_both xs ys)
 
-few_left : (p : Pending) → length (rows_left p) ≤ 4
-few_left pending.Nothing = omega arith
-few_left (pending.End row) = omega arith
-few_left (pending.Asked before asks) = omega arith
-few_left (pending.Answered before asks hears) = omega arith
-few_left (pending.Played before asks hears plays) = omega arith
-few_left (pending.Over before asks hears plays row) = omega arith
-few_left (pending.Failed f) = omega arith
-
 acting_both : (xs ys : List Command) → acting (xs ++ ys) ≡ acting xs ++ acting ys
 acting_both xs ys = filter-append (λ (c : Command). not (is_status_command c)) xs ys
 
@@ -85,8 +76,24 @@ acting_rows : (x : Row) (xs : List Row)
     → acting (commands_of_rows (x ∷ xs)) ≡ acting (commands_of_note x.note) ++ acting (commands_of_rows xs)
 acting_rows x xs = acting_both (commands_of_note x.note) (commands_of_rows xs)
 
-acting_none : (x : Row) (xs : List Row) → IsNoAct x → acting (commands_of_rows (x ∷ xs)) ≡ acting (commands_of_rows xs)
+acting_none : (x : Row) (xs : List Row) → acting (commands_of_note x.note) ≡ []
+    → acting (commands_of_rows (x ∷ xs)) ≡ acting (commands_of_rows xs)
 acting_none x xs none = acting_rows x xs ∙ ap (λ (l : List Command). l ++ acting (commands_of_rows xs)) none
+
+asking_no_act : (n : Note) → asks_state n ≡ true → acting (commands_of_note n) ≡ []
+asking_no_act (note.Sent c) asks = acting_one c true asks
+asking_no_act n asks = cc asks
+
+asks_none : (x : Row) (xs : List Row) → AsksState x → acting (commands_of_rows (x ∷ xs)) ≡ acting (commands_of_rows xs)
+asks_none x xs asks = acting_none x xs (asking_no_act x.note asks)
+
+end_no_act : (n : Note) → is_end n ≡ true → acting (commands_of_note n) ≡ []
+end_no_act (note.Heard h) is = refl
+end_no_act note.Silence is = refl
+end_no_act n is = cc is
+
+ends_none : (x : Row) (xs : List Row) → IsEnd x → acting (commands_of_rows (x ∷ xs)) ≡ acting (commands_of_rows xs)
+ends_none x xs is = acting_none x xs (end_no_act x.note is)
 
 -- the acting commands that are still to be written
 abbrev held : Pending → List Command
@@ -229,14 +236,11 @@ end_no_command : (heard : Option Heard) (more : List Kept) → commands_kept (en
 end_no_command None more = refl
 end_no_command (Some h) more = refl
 
-pub end_note_no_command : (heard : Option Heard) → commands_of_note (end_note heard) ≡ []
-end_note_no_command None = refl
-end_note_no_command (Some h) = refl
+pub end_note_ends : (heard : Option Heard) (time : Moment) → IsEnd (record { time = time; note = end_note heard })
+end_note_ends None time = refl
+end_note_ends (Some h) time = refl
 
-pub end_note_no_act : (heard : Option Heard) (time : Moment) → IsNoAct (record { time = time; note = end_note heard })
-end_note_no_act heard time = ap acting (end_note_no_command heard)
-
-pub ended_may_hold : (p : Pending) (row : Row) → IsNoAct row → MayHold p → MayHold (ended p row)
+pub ended_may_hold : (p : Pending) (row : Row) → IsEnd row → MayHold p → MayHold (ended p row)
 ended_may_hold pending.Nothing row h may = h
 ended_may_hold (pending.End before) row h may = h
 ended_may_hold (pending.Asked before asks) row h may = (may, h)
@@ -254,25 +258,25 @@ seen_ended (pending.Played before asks hears plays) row = refl
 seen_ended (pending.Over before asks hears plays last) row = refl
 seen_ended (pending.Failed f) row = refl
 
-held_ended : (p : Pending) (row : Row) → IsNoAct row → MayHold p → held (ended p row) ≡ held p
-held_ended pending.Nothing row h may = acting_none row [] h
-held_ended (pending.End before) row h may = acting_none row [] h ∙ sym (acting_none before [] may)
+held_ended : (p : Pending) (row : Row) → IsEnd row → MayHold p → held (ended p row) ≡ held p
+held_ended pending.Nothing row h may = ends_none row [] h
+held_ended (pending.End before) row h may = ends_none row [] h ∙ sym (ends_none before [] may)
 held_ended (pending.Asked before asks) row h may =
-    acting_none asks (row ∷ []) may ∙ acting_none row [] h ∙ sym (acting_none asks [] may)
+    asks_none asks (row ∷ []) may ∙ ends_none row [] h ∙ sym (asks_none asks [] may)
 held_ended (pending.Answered before asks hears) row h may =
-    acting_none asks (row ∷ []) may.0 ∙ acting_none row [] h
-    ∙ sym (acting_none asks (hears ∷ []) may.0 ∙ acting_none hears [] may.1)
+    asks_none asks (row ∷ []) may.0 ∙ ends_none row [] h
+    ∙ sym (asks_none asks (hears ∷ []) may.0 ∙ ends_none hears [] may.1)
 held_ended (pending.Played before asks hears plays) row h may =
-    acting_none asks (hears ∷ plays ∷ row ∷ []) may.2 ∙ acting_none hears (plays ∷ row ∷ []) may.3
+    asks_none asks (hears ∷ plays ∷ row ∷ []) may.2 ∙ ends_none hears (plays ∷ row ∷ []) may.3
     ∙ acting_rows plays (row ∷ [])
-    ∙ ap (λ (l : List Command). acting (commands_of_note plays.note) ++ l) (acting_none row [] h)
-    ∙ sym (acting_none asks (hears ∷ plays ∷ []) may.2 ∙ acting_none hears (plays ∷ []) may.3 ∙ acting_rows plays [])
+    ∙ ap (λ (l : List Command). acting (commands_of_note plays.note) ++ l) (ends_none row [] h)
+    ∙ sym (asks_none asks (hears ∷ plays ∷ []) may.2 ∙ ends_none hears (plays ∷ []) may.3 ∙ acting_rows plays [])
 held_ended (pending.Over before asks hears plays last) row h may =
-    acting_none asks (hears ∷ plays ∷ row ∷ []) may.2 ∙ acting_none hears (plays ∷ row ∷ []) may.3
+    asks_none asks (hears ∷ plays ∷ row ∷ []) may.2 ∙ ends_none hears (plays ∷ row ∷ []) may.3
     ∙ acting_rows plays (row ∷ [])
     ∙ ap (λ (l : List Command). acting (commands_of_note plays.note) ++ l)
-    (acting_none row [] h ∙ sym (acting_none last [] may.4))
-    ∙ sym (acting_none asks (hears ∷ plays ∷ last ∷ []) may.2 ∙ acting_none hears (plays ∷ last ∷ []) may.3
+    (ends_none row [] h ∙ sym (ends_none last [] may.4))
+    ∙ sym (asks_none asks (hears ∷ plays ∷ last ∷ []) may.2 ∙ ends_none hears (plays ∷ last ∷ []) may.3
     ∙ acting_rows plays (last ∷ []))
 held_ended (pending.Failed f) row h may = refl
 
@@ -309,24 +313,15 @@ play_may_hold p row a may =
     (a.done, a.plays, (subst MayHold a.left may).0, (subst MayHold a.left may).1)
 
 pub row_may_hold : (p : Pending) (row : Row) (plays asks : Bool) → is_announced p row.note ≡ plays
-    → (asks ≡ true → IsNoAct row) → MayHold p → MayHold (left_after p row plays asks)
+    → (asks ≡ true → AsksState row) → MayHold p → MayHold (left_after p row plays asks)
 row_may_hold p row plays true is none may = none refl
 row_may_hold p row true false is none may = play_may_hold p row (plays_after p row.note is) may
 row_may_hold p row false false is none may = tt
 
-asking_no_act : (n : Note) → asks_state n ≡ true → acting (commands_of_note n) ≡ []
-asking_no_act (note.Sent c) asks = acting_one c true asks
-asking_no_act (note.Heard h) asks = cc asks
-asking_no_act note.Silence asks = cc asks
-asking_no_act note.Take asks = cc asks
-asking_no_act note.Stop asks = cc asks
-asking_no_act (note.End outcome) asks = cc asks
-asking_no_act (note.From k) asks = cc asks
-
 -- of what says nothing new nothing acts
 nothing_held : (p : Pending) (s : Seen) → seen_last p ≡ Some s → MayHold p → held p ≡ []
 nothing_held (pending.Answered before asks hears) s is may =
-    acting_none asks (hears ∷ []) may.0 ∙ acting_none hears [] may.1
+    asks_none asks (hears ∷ []) may.0 ∙ ends_none hears [] may.1
 nothing_held _ s is may = cc is
 
 held_with : (p : Pending) (row : Row)
@@ -653,8 +648,7 @@ row_more {F} safe one more k l m parts goes n r =
     let left : l.pending ≡ after_row p row = ap (λ (x : Recording F). x.pending) n.2 in
     let same : l.unit ≡ k.unit = ap (λ (x : Recording F). x.unit) n.2 in
     let may : MayHold k.pending → MayHold l.pending = λ may.
-    subst MayHold (sym left) (row_may_hold p row (is_announced p row.note) (asks_state row.note) refl
-    (asking_no_act row.note) may) in
+    subst MayHold (sym left) (row_may_hold p row (is_announced p row.note) (asks_state row.note) refl (λ asks. asks) may) in
     let next_stands = stands_then p row (says_nothing_new p row.note) (is_announced p row.note) (asks_state row.note) refl refl in
     record {
       rows = now ++ r.rows;
@@ -745,7 +739,7 @@ end_more {F} safe heard more k l m n r =
     let same : l.unit ≡ k.unit = ap (λ (x : Recording F). x.unit) n.1 in
     let stays : l.file ≡ k.file = ap (λ (x : Recording F). x.file) n.1 in
     let may : MayHold k.pending → MayHold l.pending = λ is.
-    subst MayHold (sym left) (ended_may_hold k.pending row (end_note_no_act heard n.0) is) in record {
+    subst MayHold (sym left) (ended_may_hold k.pending row (end_note_ends heard n.0) is) in record {
       rows = r.rows;
       appends = subst (λ (f : F). Appends (safe f) (safe m.file) (rows_text k.unit r.rows)) stays
           (subst (λ (u : ℕ). Appends (safe l.file) (safe m.file) (rows_text u r.rows)) same r.appends);
@@ -753,7 +747,7 @@ end_more {F} safe heard more k l m n r =
       acts = λ is.
           ap (λ (l : List Command). held k.pending ++ acting l) (end_no_command heard more)
           ∙ ap (λ (l : List Command). l ++ acting (commands_kept more))
-          (sym (ap held left ∙ held_ended k.pending row (end_note_no_act heard n.0) is))
+          (sym (ap held left ∙ held_ended k.pending row (end_note_ends heard n.0) is))
           ∙ r.acts (may is);
       holds = λ is. r.holds (may is);
       stands = subst (λ (o : Option Seen). Stands (notes_seen o ++ notes_in r.rows) (seen_before m.pending))
@@ -781,13 +775,13 @@ rows_of safe (kept.Silence ∷ more) k m chain =
 -- of what is left only a PLAY acts
 may_be_left : (q : Pending) (notes : List Note) → Stands notes (seen_before q) → MayHold q → MayBeLeft notes (held q)
 may_be_left pending.Nothing notes stands may = inl refl
-may_be_left (pending.End row) notes stands may = inl (acting_none row [] may)
-may_be_left (pending.Asked before asks) notes stands may = inl (acting_none asks [] may)
+may_be_left (pending.End row) notes stands may = inl (ends_none row [] may)
+may_be_left (pending.Asked before asks) notes stands may = inl (asks_none asks [] may)
 may_be_left (pending.Answered before asks hears) notes stands may =
-    inl (acting_none asks (hears ∷ []) may.0 ∙ acting_none hears [] may.1)
+    inl (asks_none asks (hears ∷ []) may.0 ∙ ends_none hears [] may.1)
 may_be_left (pending.Played before asks hears plays) notes stands may = inr (
-  acting_none asks (hears ∷ plays ∷ []) may.2
-      ∙ acting_none hears (plays ∷ []) may.3
+  asks_none asks (hears ∷ plays ∷ []) may.2
+      ∙ ends_none hears (plays ∷ []) may.3
       ∙ ap (λ (n : Note). acting (commands_of_note n ++ [])) may.1,
   record {
     before = stands.front;
@@ -799,10 +793,10 @@ may_be_left (pending.Played before asks hears plays) notes stands may = inr (
   },
 )
 may_be_left (pending.Over before asks hears plays row) notes stands may = inr (
-  acting_none asks (hears ∷ plays ∷ row ∷ []) may.2
-      ∙ acting_none hears (plays ∷ row ∷ []) may.3
+  asks_none asks (hears ∷ plays ∷ row ∷ []) may.2
+      ∙ ends_none hears (plays ∷ row ∷ []) may.3
       ∙ acting_rows plays (row ∷ [])
-      ∙ ap (λ (l : List Command). acting (commands_of_note plays.note) ++ l) (acting_none row [] may.4)
+      ∙ ap (λ (l : List Command). acting (commands_of_note plays.note) ++ l) (ends_none row [] may.4)
       ∙ ap (λ (n : Note). acting (commands_of_note n) ++ []) may.1,
   record {
     before = stands.front;
@@ -842,6 +836,45 @@ pub rows_at : {F : Type 0} (safe : F → Option (List ℕ)) (notes : List Kept) 
 rows_at safe notes k m none chain =
     let r = rows_of safe notes k m chain in (r.rows, has_rows safe notes k m none r)
 
+-- what waits behind them
+waits_so : {F : Type 0} (safe : F → Option (List ℕ)) (notes : List Kept) (k m : Recording F) → MayHold k.pending
+    → (r : RowsOf safe notes k m) → Alternates (is_pending k.pending) notes → WaitsSince k.pending notes r.rows m.pending
+waits_so safe notes k m none r alternate =
+    let before : List Note = notes_seen (seen_before k.pending) in record {
+      holds = r.holds none;
+      front = r.stands.front;
+      stands = r.stands.is;
+      thinned = subst (IsThinned (before ++ (notes_in (rows_left k.pending) ++ map note_for notes)))
+          (ap (λ (l : List Note). before ++ l) (notes_both r.rows (rows_left m.pending))
+          ∙ sym (append_assoc before (notes_in r.rows) (notes_in (rows_left m.pending))))
+          (r.tells alternate);
+    }
+
+-- and a beginning of what was noted
+alternates_first : (b : Bool) (some more : List Kept) → Alternates b (some ++ more) → Alternates b some
+alternates_first b [] more h = tt
+alternates_first b (kept.Sent c ∷ some) more h = alternates_first false some more h
+alternates_first b (kept.Called c ∷ some) more h = alternates_first false some more h
+alternates_first false (kept.Heard x ∷ some) more h = alternates_first true some more h
+alternates_first false (kept.Silence ∷ some) more h = alternates_first true some more h
+alternates_first true (kept.Heard x ∷ some) more h = absurd h
+alternates_first true (kept.Silence ∷ some) more h = absurd h
+
+pub waits_at : {E W F : Type 0} (safe : F → Option (List ℕ)) (told : W → Option Told) (fold : Fold E) (plan : Plan)
+    (unit : ℕ) (a a' : Auto E) (wire wire' : W) (answer : Result Ran BrokenOff) (k m l : Recording F) (events : List Event)
+    (some more : List Kept) → MayHold k.pending → awaited plan a.state ≡ None
+    → KeepsRun (Notes safe) (Loses safe) told fold plan unit a a' wire wire' answer k m events (some ++ more)
+    → Chain (Notes safe) some k l
+    → (rows : List Row) × HasSafe safe k l (commands_kept some) rows [] × WaitsSince k.pending some rows l.pending
+waits_at safe told fold plan unit a a' wire wire' answer k m l events some more none idle n chain =
+    let r = rows_of safe some k l chain in (
+      r.rows,
+      has_rows safe some k l none r,
+      waits_so safe some k l none r (alternates_first (is_pending k.pending) some more
+          (shown (Notes safe) (Loses safe) told fold plan unit a a' wire wire' answer k m events (some ++ more) n
+          (is_pending k.pending) idle)),
+    )
+
 -- if each command was kept
 whole_run : {E W F : Type 0} (safe : F → Option (List ℕ)) (told : W → Option Told) (fold : Fold E) (plan : Plan)
     (unit : ℕ) (a a' : Auto E) (wire wire' : W) (answer : Result Ran BrokenOff) (k m : Recording F)
@@ -853,8 +886,7 @@ whole_run : {E W F : Type 0} (safe : F → Option (List ℕ)) (told : W → Opti
 whole_run safe told fold plan unit a a' wire wire' answer k m events notes n none chain untorn =
     let r = rows_of safe notes k m chain in record {
       rows = r.rows;
-      last = rows_left m.pending;
-      few = few_left m.pending;
+      last = m.pending;
       torn = [];
       torn_by = untorn;
       commands = commands_kept notes;
@@ -862,8 +894,8 @@ whole_run safe told fold plan unit a a' wire wire' answer k m events notes n non
       has = has_rows safe notes k m none r;
       waits = r.holds none;
       comes = n.comes;
-      shows = λ idle. r.tells (shown (Notes safe) (Loses safe) told fold plan unit a a' wire wire' answer k m events notes n
-          (is_pending k.pending) idle);
+      shows = λ idle. waits_so safe notes k m none r
+          (shown (Notes safe) (Loses safe) told fold plan unit a a' wire wire' answer k m events notes n (is_pending k.pending) idle);
     }
 
 -- if the next one couldn't be kept
@@ -881,8 +913,7 @@ lost_run {F = F} safe told fold plan unit a a' wire wire' k l m one events notes
     (asks_state row.note) in
     record {
       rows = r.rows;
-      last = rows_left l.pending;
-      few = few_left l.pending;
+      last = l.pending;
       torn = take lost.2.0 text;
       torn_by = (
         row,
@@ -900,8 +931,9 @@ lost_run {F = F} safe told fold plan unit a a' wire wire' k l m one events notes
       };
       waits = subst MayHold (sym (ap (λ (x : Recording F). x.pending) lost.3)) tt;
       comes = n.comes;
-      shows = λ idle. r.tells (shown (Notes safe) (Loses safe) told fold plan unit a a' wire wire' (Err fault.Unkept) k m
-          events notes n (is_pending k.pending) idle);
+      shows = λ idle. waits_so safe notes k l none r
+          (shown (Notes safe) (Loses safe) told fold plan unit a a' wire wire' (Err fault.Unkept) k m events notes n
+          (is_pending k.pending) idle);
     }
 
 -- what is kept in a run is recorded

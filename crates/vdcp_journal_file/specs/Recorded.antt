@@ -1,7 +1,7 @@
 -- What a journal has of the run of an automation that has its exchanges kept there.
 use Rattle.std.specs.Io.KnownBytes.{Appends}
 use Rattle.std.specs.List.{flat_map}
-use Rattle.std.specs.Prelude.{ℕ, ◌≡◌, ◌⊎◌, ◌≤◌, IsTrue, false, not, List, [], ◌∷◌, ◌++◌, filter, length, map, Option, None, Some, Result, Ok, Err}
+use Rattle.std.specs.Prelude.{ℕ, ◌≡◌, ◌⊎◌, Bool, true, IsTrue, false, not, List, [], ◌∷◌, ◌++◌, filter, map, Option, None, Some, Result, Ok, Err}
 use Rattle.vdcp_auto.specs.Commands.{is_status_command}
 use Rattle.vdcp_auto.specs.Plan.{Plan}
 use Rattle.vdcp_auto.specs.Turn.{awaited}
@@ -62,20 +62,43 @@ commands_of_rows rows = flat_map (λ row. commands_of_note row.note) rows
 abbrev pub acting : List Command → List Command
 acting commands = filter (λ c. not (is_status_command c)) commands
 
-abbrev pub IsNoAct : Row → Type 0
-IsNoAct row = acting (commands_of_note row.note) ≡ []
+-- something came, or nothing in time
+abbrev pub is_end : Note → Bool
+is_end (note.Heard h) = true
+is_end note.Silence = true
+is_end n = false
 
--- of commands, only those that ask for the state are still to be written, and a PLAY that is announced
+abbrev pub IsEnd : Row → Type 0
+IsEnd row = IsTrue (is_end row.note)
+
+abbrev pub AsksState : Row → Type 0
+AsksState row = IsTrue (asks_state row.note)
+
+-- only these are still to be written: a state that is asked, what ended an exchange, and a PLAY that is announced
 abbrev pub MayHold : Pending → Type 0
 MayHold pending.Nothing = Unit {0}
-MayHold (pending.End row) = IsNoAct row
-MayHold (pending.Asked before asks) = IsNoAct asks
-MayHold (pending.Answered before asks hears) = IsNoAct asks × IsNoAct hears
+MayHold (pending.End row) = IsEnd row
+MayHold (pending.Asked before asks) = AsksState asks
+MayHold (pending.Answered before asks hears) = AsksState asks × IsEnd hears
 MayHold (pending.Played before asks hears plays) =
-    IsTrue (announces (Some before)) × (plays.note ≡ note.Sent command.Play) × IsNoAct asks × IsNoAct hears
+    IsTrue (announces (Some before)) × (plays.note ≡ note.Sent command.Play) × AsksState asks × IsEnd hears
 MayHold (pending.Over before asks hears plays row) =
-    IsTrue (announces (Some before)) × (plays.note ≡ note.Sent command.Play) × IsNoAct asks × IsNoAct hears × IsNoAct row
+    IsTrue (announces (Some before)) × (plays.note ≡ note.Sent command.Play) × AsksState asks × IsEnd hears × IsEnd row
 MayHold (pending.Failed fault) = Unit {0}
+
+-- With these rows and what is left all is told that was noted, but for what says nothing new: of what is left only what may
+-- be, and the state that was seen before it stands last.
+pub record Waits (noted rows : List Note) (left : Pending) : Type 0 where
+  pub holds : MayHold left
+  pub front : List Note
+  pub stands : rows ≡ front ++ notes_seen (seen_before left)
+  pub thinned : IsThinned noted (rows ++ notes_in (rows_left left))
+
+-- in a run in which these were noted, and these rows made safe
+abbrev pub WaitsSince : Pending → List Kept → List Row → Pending → Type 0
+WaitsSince old notes rows left =
+    Waits (notes_seen (seen_before old) ++ (notes_in (rows_left old) ++ map note_for notes))
+    (notes_seen (seen_before old) ++ notes_in rows) left
 
 -- these notes end with a state that was heard with the cue done, while a clip plays: a PLAY may go out before its row is safe
 pub record Announces (notes : List Note) : Type 0 where
@@ -159,12 +182,10 @@ pub record IsRecorded {E W F : Type 0} (safe : F → Option (List ℕ)) (told : 
     (unit : ℕ) (a a' : Auto E) (wire wire' : W) (answer : Result Ran BrokenOff) (old new : Recording F) (events : List Event)
     (notes : List Kept) : Type 0 where
   pub rows : List Row
-  -- what was noted after them, and is safe with a later command: a state that is asked, a PLAY that was announced, what
-  -- was heard last
-  pub last : List Row
-  pub few : length last ≤ 4
+  -- what was noted after them, and is safe with a later command
+  pub last : Pending
   pub torn : List ℕ
-  pub torn_by : IsTornBy answer old.unit last torn
+  pub torn_by : IsTornBy answer old.unit (rows_left last) torn
   -- what went out since is the bytes of these commands, or a beginning of them
   pub commands : List Command
   pub sends : (t : Told) → told wire ≡ Some t → IfTold (told wire') (λ u. (unsent : List ℕ)
@@ -175,7 +196,4 @@ pub record IsRecorded {E W F : Type 0} (safe : F → Option (List ℕ)) (told : 
   pub comes : (t : Told) → told wire ≡ Some t → has_closed t.came ≡ false
       → IfTold (told wire') (λ u. u.came ≡ t.came ++ arrivals events)
   -- if nothing was awaited before, the rows are just what was noted, but for what says nothing new
-  pub shows : awaited plan a.state ≡ None
-      → IsThinned (notes_seen (seen_before old.pending) ++ (notes_in (rows_left old.pending)
-      ++ map note_for notes))
-      (notes_seen (seen_before old.pending) ++ notes_in (rows ++ last))
+  pub shows : awaited plan a.state ≡ None → WaitsSince old.pending notes rows last

@@ -1,6 +1,6 @@
 -- What goes on from a journal, and why nothing does.
 use Rattle.std.specs.Borrow.{Bor}
-use Rattle.std.specs.Prelude.{ℕ, ◌≡◌, ◌≢◌, ◌⊎◌, ◌+◌, ◌≤◌, ◌<◌, Bool, true, false, IsFalse, IsTrue, List, [], ◌∷◌, ◌++◌, Option, None, Some, Result, Ok, Err, drop, length}
+use Rattle.std.specs.Prelude.{ℕ, ◌≡◌, ◌≢◌, ◌⊎◌, ◌+◌, ◌≤◌, ◌<◌, Bool, IsFalse, IsTrue, List, [], ◌∷◌, ◌++◌, Option, None, Some, Result, Ok, Err, drop, length}
 use Rattle.vdcp_auto.specs.Law.{IsLawful}
 use Rattle.vdcp_auto.specs.Plan.{Plan, View, plan_of}
 use Rattle.vdcp_auto.specs.Snapshots.{CanStand, view_of}
@@ -27,7 +27,6 @@ use Rattle.vdcp_journal.specs.declared.faults.ResumeFault.TheVariants as refused
 use Rattle.vdcp_journal.specs.declared.row.Heading.{Heading}
 use Rattle.vdcp_journal.specs.declared.row.Row.{Row}
 use Rattle.vdcp_journal.specs.declared.row.Note.{Note}
-use Rattle.vdcp_journal.specs.declared.row.Note.TheVariants as notes
 use Rattle.vdcp_list.specs.Rests.{FromEvent, items_left}
 use Rattle.vdcp_list.specs.Rows.{FileBytes}
 use Rattle.vdcp_journal_file.specs.Recording.{IsUnopened, IsUnwritten}

@@ -1,10 +1,12 @@
-use Rattle.std.proofs.Common.{subst}
+use Rattle.std.proofs.Common.{ap, subst, ◌∙◌}
 use Rattle.std.specs.Prelude.{Option}
+use Rattle.vdcp_drive.proofs.Tracing.{rows_both}
 use Rattle.vdcp_drive.specs.Hooked.{MayKeep}
+use Rattle.vdcp_drive.specs.Keeping.{KeepsRun}
 use Rattle.vdcp_drive.specs.Leaves.{steps_in}
 use Rattle.vdcp_drive.specs.Steps.{Chain}
 use Rattle.vdcp_drive.specs.Traces.{kept_in}
-use Rattle.vdcp_journal_file.proofs.Chains.{rows_at, run_is_recorded}
+use Rattle.vdcp_journal_file.proofs.Chains.{rows_at, run_is_recorded, waits_at}
 use Rattle.vdcp_journal_file.proofs.Hooked.{all_kept, keeps_by_one, keeps_none, notes_happen}
 use Rattle.vdcp_journal_file.proofs.laws.a_run_is_recorded.Goals as goal
 use Rattle.vdcp_journal_file.specs.Recorded.{Loses, Notes, recorder_rules}
@@ -38,3 +40,19 @@ returns-clause-moments g c some old moment happened kept before is may =
     (notes_happen (recorder_rules g.W.Wire.does safe) (λ state next before after is. is) some old moment kept happened)) in
     let rows = rows_at safe (kept_in some) before all.0 may all.2 in
     (all.0, rows.0, all.1, rows.1)
+
+pub returns-clause-waits : goal.returns-clause-waits
+returns-clause-waits g c plan unit count a b old new moment answer some more h is_steps happened kept idle before is may =
+    let safe = g.F.Disk.safe in
+    let told = g.W.Wire.told in
+    let fold = g.E.Ear.fold in
+    let all = all_kept (Notes safe) (kept_in some) before moment.keep
+    (subst (λ (o : Option (Recording _)). Chain (MayKeep (Notes safe)) (kept_in some) o moment.keep) is
+    (notes_happen (recorder_rules g.W.Wire.does safe) (λ state next before after is. is) some old moment kept happened)) in
+    let run = keeps_by_one (Notes safe) (Loses safe) told fold plan unit a b old.wire new.wire answer before old.keep
+    new.keep h.run.events (kept_in (steps_in h.run)) is (c.what_a_run_keeps.ensures plan unit count a b old new answer h) in
+    let w = waits_at safe told fold plan unit a b old.wire new.wire answer before run.0 all.0 h.run.events (kept_in some)
+    (kept_in more) may idle
+    (subst (KeepsRun (Notes safe) (Loses safe) told fold plan unit a b old.wire new.wire answer before run.0 h.run.events)
+    (ap kept_in is_steps ∙ rows_both some more) run.2) all.2 in
+    (all.0, w.0, all.1, w.1, w.2)
