@@ -16,6 +16,7 @@ mod Joining
 mod Killed
 mod Leading
 mod Mended
+mod Waiting
 mod Logging
 mod Noting
 mod Noted

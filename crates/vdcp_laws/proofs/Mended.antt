@@ -55,7 +55,7 @@ same_heard all _ (before_play before after false asks hears free a h f thin) =
 
 -- And in the last run it is that of the journal.
 
-noted_behind : (rows more : List Row) → notes_in (rows ++ more) ≡ notes_in rows ++ notes_in more
+pub noted_behind : (rows more : List Row) → notes_in (rows ++ more) ≡ notes_in rows ++ notes_in more
 noted_behind rows more = map-append (λ row. row.note) rows more
 
 run_heard : (begins : Option ℕ) (row : Row) (run : Run) → begins_at row.note ≡ begins
@@ -131,18 +131,18 @@ notes_told plan s [] told = tt
 notes_told plan s (row ∷ rows) told =
     (told.0, notes_told plan (after_call_if plan (call_of row.note) s) rows told.1)
 
-told_behind : (plan : Plan) (s : State) (notes more : List Note) → AllTold plan s (notes ++ more)
+pub told_behind : (plan : Plan) (s : State) (notes more : List Note) → AllTold plan s (notes ++ more)
     → AllTold plan (after_notes plan s notes) more
 told_behind plan s [] more told = told
 told_behind plan s (n ∷ notes) more told = told_behind plan (after_call_if plan (call_of n) s) notes more told.1
 
 -- these notes, and more behind them
-record Made (plan : Plan) (e : Ends) (notes more : List Note) : Type 0 where
-  told : AllTold plan start (notes ++ more)
-  state_is : after_notes plan (after_notes plan start notes) more ≡ e.automation.state
+pub record Made (plan : Plan) (e : Ends) (notes more : List Note) : Type 0 where
+  pub told : AllTold plan start (notes ++ more)
+  pub state_is : after_notes plan (after_notes plan start notes) more ≡ e.automation.state
 
 -- with the time of some row
-made : Below → (time : Moment) (plan : Plan) (port : ClockedPort) (asked : List Command) (e : Ends) → CanJoin plan port asked
+pub made : Below → (time : Moment) (plan : Plan) (port : ClockedPort) (asked : List Command) (e : Ends) → CanJoin plan port asked
     → AreJoined plan port asked e → (notes more : List Note) → IsThinned e.notes (notes ++ more) → Made plan e notes more
 made below time plan port asked e can j notes more thin =
     let all : List Row = rows_at time e.notes in

@@ -1,7 +1,7 @@
 //! The laws of runs that are killed, any number of times, and go on from their journals.
 //!
 //! The functions do nothing: their contracts are the laws, and a caller whose proof needs one calls it.
-ghost use Rattle.std.specs.Prelude.{◌≡◌, ◌∷◌, ◌++◌, [], All, Bool, IsTrue, List, Some};
+ghost use Rattle.std.specs.Prelude.{◌≡◌, ◌∷◌, ◌++◌, [], All, Bool, IsTrue, List, None, Some, map};
 ghost use Rattle.vdcp_auto.specs.Plan.{Plan};
 ghost use Rattle.vdcp_auto.specs.declared.exchange.Heard.{Heard};
 ghost use Rattle.vdcp_auto.specs.Turn.{given, start};
@@ -13,10 +13,14 @@ ghost use Rattle.vdcp_journal.specs.declared.moment.Moment.{Moment};
 ghost use Rattle.vdcp_journal.specs.declared.row.Note.{Note};
 ghost use Rattle.vdcp_journal.specs.declared.row.Note.TheVariants as note;
 ghost use Rattle.vdcp_journal.specs.declared.row.Row.{Row};
+ghost use Rattle.vdcp_drive.specs.declared.hooks.Kept.{Kept};
+ghost use Rattle.vdcp_journal_file.specs.Recorded.{WaitsSince};
+ghost use Rattle.vdcp_journal_file.specs.Recording.{rows_left, seen_before};
+ghost use Rattle.vdcp_journal_file.specs.declared.pending.Pending.{Pending};
 ghost use Rattle.vdcp_laws.specs.Announced.{Announces, played_notes};
 ghost use Rattle.vdcp_laws.specs.Kills.{IsRun, asked_in_vain, played, silence_notes};
-ghost use Rattle.vdcp_laws.specs.Mended.{AreSafe, GoesOnGiven, IsMendedOf};
-ghost use Rattle.vdcp_laws.specs.TwoEnds.{AreJoined, CanJoin, Ends, connected_anew, port_now};
+ghost use Rattle.vdcp_laws.specs.Mended.{AreSafe, GoesOnGiven, IsMendedOf, heard_since};
+ghost use Rattle.vdcp_laws.specs.TwoEnds.{AreJoined, CanJoin, Ends, connected_anew, note_for, port_now};
 ghost use Rattle.vdcp_port.specs.Clock.{ClockedPort};
 ghost use Rattle.vdcp_world.specs.LateLine.GoingOn.{IsNoTick, gone_on};
 ghost use Rattle.vdcp_world.specs.LateLine.LateChannel.{LateChannel, IsLateReached, after_late_event, after_late_events};
@@ -90,6 +94,20 @@ pub fn what_going_on_adds_was_given()
     ensures joined { (plan : Plan) (port : ClockedPort) (asked : List Command) (e on : Ends) →
         AreJoined plan port asked e → GoesOnGiven plan e on →
         AreJoined plan port asked (connected_anew plan (port_now on) on) }
+{
+    vdcp_journal::laws::an_announced_play_comes_next();
+    crate::two_ends::a_journal_makes_the_automation();
+}
+
+/// What a recorder still has to write is what its safe rows may lack, and what was heard since. So at each moment of a run
+/// that is recorded, also behind earlier rows, a kill leaves rows of which `what_going_on_adds_was_given` tells, with the
+/// ends as they were before they heard that.
+pub fn what_waits_may_be_lacking()
+    ensures { (plan : Plan) (port : ClockedPort) (asked : List Command) (e : Ends) (before left : Pending)
+        (earlier rows : List Row) (all : List Note) (notes : List Kept) → CanJoin plan port asked →
+        AreJoined plan port asked e → IsThinned all (notes_in (earlier ++ rows_left before)) → seen_before before ≡ None →
+        WaitsSince before notes rows left → e.notes ++ heard_since left ≡ all ++ map note_for notes →
+        AreSafe plan e (earlier ++ rows) }
 {
     vdcp_journal::laws::an_announced_play_comes_next();
     crate::two_ends::a_journal_makes_the_automation();
