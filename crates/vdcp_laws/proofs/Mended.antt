@@ -193,7 +193,7 @@ heard_done : (plan : Plan) (t : State) (last : Option Heard) (free h : Heard) (c
     → given plan (came_to plan (Some h) t) ≡ Some command.Play → IsTrue (hears_done (note.Heard h))
 heard_done plan t last free h c ann is plays = grind (arith, after_play, on_refusal_plays, on_silence_plays)
 
-still_announced : (plan : Plan) (s : State) (last : Option Heard) (free : Heard) (groups : ℕ)
+pub still_announced : (plan : Plan) (s : State) (last : Option Heard) (free : Heard) (groups : ℕ)
     → announced_state last s.stage ≡ Some free → given plan s ≡ Some (command.Status groups)
     → announced_state last (ticked s).stage ≡ Some free
 still_announced plan s last free groups ann gives = grind arith

@@ -14,7 +14,7 @@ use Rattle.vdcp_auto.specs.declared.exchange.Heard.TheVariants as heard
 use Rattle.vdcp_auto.specs.declared.phase.Phase.TheVariants as phase
 use Rattle.vdcp_journal.specs.Mending.{after_notes, announced_state, free_state}
 use Rattle.vdcp_journal.specs.Resume.{Tells, after_call_if, call_of}
-use Rattle.vdcp_journal.specs.Thinned.{IsThinned, asks_state, before_play, heard_last, notes_in, takes, whole, without}
+use Rattle.vdcp_journal.specs.Thinned.{IsThinned, asks_state, before_play, heard_from, heard_last, notes_in, takes, whole, without}
 use Rattle.vdcp_journal.specs.declared.moment.Moment.{Moment}
 use Rattle.vdcp_journal.specs.declared.row.Note.{Note}
 use Rattle.vdcp_journal.specs.declared.row.Note.TheVariants as note
@@ -32,8 +32,8 @@ use Rattle.vdcp_laws.specs.Mended as safe
 use Rattle.vdcp_laws.specs.Mended.{AreSafe, AreUnkept, MayLack, heard_since}
 use Rattle.vdcp_laws.specs.TwoEnds.{AreJoined, CanJoin, Ends, note_for}
 use Rattle.vdcp_laws.proofs.Announced.{thinned_more}
-use Rattle.vdcp_laws.proofs.Journaled.{AllTold, after_more, of_rows}
-use Rattle.vdcp_laws.proofs.Mended.{Below, made, noted_behind, told_behind}
+use Rattle.vdcp_laws.proofs.Journaled.{AllTold, after_more, given_awaited, of_rows}
+use Rattle.vdcp_laws.proofs.Mended.{Below, made, noted_behind, still_announced, told_behind}
 use Rattle.vdcp_laws.proofs.Running.{last_more}
 
 -- What was heard last is lost.
@@ -215,74 +215,263 @@ lacks_play plan s g h free last is announced =
 first_so : (a b : Bool) → (a && b) ≡ true → a ≡ true
 first_so a b is = grind arith
 
--- a PLAY that is announced
-plays_so : Below → (time : Moment) → (plan : Plan) (port : ClockedPort) (asked : List Command) (e : Ends) → CanJoin plan port asked
-    → AreJoined plan port asked e → (front : List Note) (seen : Seen) (asks hears : Note) → IsTrue (announces (Some seen))
+-- A state is asked once more behind one that announces a PLAY, and then PLAY given.
+record Waited (plan : Plan) (rows : List Note) (asks hears : Note) : Type 0 where
+  groups : ℕ
+  asks_so : asks ≡ note.Sent (command.Status groups)
+  came : Heard
+  hears_so : hears ≡ note.Heard came
+  last : Heard
+  last_so : heard_last rows ≡ Some last
+  free : Heard
+  announced : announced_state (Some last) (after_notes plan start rows).stage ≡ Some free
+  gives : given plan (after_notes plan start rows) ≡ Some (command.Status groups)
+
+waited_so : (plan : Plan) (front : List Note) (seen : Seen) (asks hears : Note) → IsTrue (announces (Some seen))
     → asks_state asks ≡ true → is_end hears ≡ true
-    → IsThinned e.notes ((front ++ notes_seen (Some seen)) ++ asks ∷ hears ∷ note.Sent command.Play ∷ [])
-    → Unkept plan e (front ++ notes_seen (Some seen))
-plays_so below time plan port asked e can j front seen asks hears announced is ends thin =
+    → AllTold plan start ((front ++ notes_seen (Some seen)) ++ asks ∷ hears ∷ note.Sent command.Play ∷ [])
+    → Waited plan (front ++ notes_seen (Some seen)) asks hears
+waited_so plan front seen asks hears announced is ends all_told =
     let q = asks_is asks is in
     let before : List Note = notes_seen (Some seen) in
-    let rows : List Note = front ++ before in
-    let plays : Note = note.Sent command.Play in
     let h : Heard = seen_heard seen.groups seen.state in
     let asked_so : Note = note.Sent (command.Status q.0) in
-    let thin_so : IsThinned e.notes (rows ++ asked_so ∷ hears ∷ plays ∷ []) =
-    subst (λ (n : Note). IsThinned e.notes (rows ++ n ∷ hears ∷ plays ∷ [])) q.1 thin in
+    let plays : Note = note.Sent command.Play in
     let t : State = after_notes plan start front in
     let s : State = came_to plan (Some h) (ticked t) in
-    let s_is : after_notes plan start rows ≡ s = after_more plan start front before in
+    let s_is : after_notes plan start (front ++ before) ≡ s = after_more plan start front before in
     let told = told_behind plan start front (before ++ asked_so ∷ hears ∷ plays ∷ [])
     (subst (AllTold plan start) (append_assoc front before (asked_so ∷ hears ∷ plays ∷ []))
-    (made below time plan port asked e can j rows (asked_so ∷ hears ∷ plays ∷ []) thin_so).told) in
+    (subst (λ (n : Note). AllTold plan start ((front ++ before) ++ n ∷ hears ∷ plays ∷ [])) q.1 all_told)) in
     let done : is_done (reply.State seen.groups (Some seen.state)) ≡ true =
     first_so (is_done (reply.State seen.groups (Some seen.state))) (is_playing (reply.State seen.groups (Some seen.state))) announced in
     let l : Lacks plan s h hears = lacks_in plan s s.stage q.0 seen.groups seen.state hears refl
-    (waits_then plan t seen.asked q.0 seen.groups seen.state told.0 done told.1.1.0) done told.1.1.0 ends told.1.1.1.1.0 in
-    let last : heard_last rows ≡ Some h = last_more None front before in
-    let unkept : List Note = asked_so ∷ note.Heard l.heard_so ∷ plays ∷ [] in record {
-      unkept = unkept;
-      may_lack = subst (λ (x : State). MayLack plan x (heard_last rows) unkept) (sym s_is)
-          (subst (λ (x : Option Heard). MayLack plan s x unkept) (sym last)
-          (lacks_play plan s q.0 l.heard_so l.free (Some h) told.1.1.0 l.announced));
-      thinned = subst (λ (n : Note). IsThinned e.notes (rows ++ asked_so ∷ n ∷ plays ∷ [])) l.is_heard thin_so;
+    (waits_then plan t seen.asked q.0 seen.groups seen.state told.0 done told.1.1.0) done told.1.1.0 ends told.1.1.1.1.0 in record {
+      groups = q.0;
+      asks_so = q.1;
+      came = l.heard_so;
+      hears_so = l.is_heard;
+      last = h;
+      last_so = last_more None front before;
+      free = l.free;
+      announced = ap (λ (x : State). announced_state (Some h) x.stage) s_is ∙ l.announced;
+      gives = ap (given plan) s_is ∙ told.1.1.0;
     }
 
-plays_unkept : Below → (time : Moment) → (plan : Plan) (port : ClockedPort) (asked : List Command) (e : Ends) → CanJoin plan port asked
+-- So the rows may lack all of it, or what comes behind the command that asks, or the PLAY alone.
+
+all_unkept : (plan : Plan) (e : Ends) (rows : List Note) (asks hears : Note) → Waited plan rows asks hears
+    → IsThinned e.notes (rows ++ asks ∷ hears ∷ note.Sent command.Play ∷ []) → Unkept plan e rows
+all_unkept plan e rows asks hears w thin =
+    let s : State = after_notes plan start rows in
+    let plays : Note = note.Sent command.Play in
+    let unkept : List Note = note.Sent (command.Status w.groups) ∷ note.Heard w.came ∷ plays ∷ [] in record {
+      unkept = unkept;
+      may_lack = subst (λ (x : Option Heard). MayLack plan s x unkept) (sym w.last_so)
+          (lacks_play plan s w.groups w.came w.free (Some w.last) w.gives w.announced);
+      thinned = subst (λ (n : Note). IsThinned e.notes (rows ++ note.Sent (command.Status w.groups) ∷ n ∷ plays ∷ [])) w.hears_so
+          (subst (λ (n : Note). IsThinned e.notes (rows ++ n ∷ hears ∷ plays ∷ [])) w.asks_so thin);
+    }
+
+hears_unkept : (plan : Plan) (e : Ends) (rows : List Note) (asks hears : Note) → Waited plan rows asks hears
+    → IsThinned e.notes (rows ++ asks ∷ hears ∷ note.Sent command.Play ∷ []) → Unkept plan e (rows ++ asks ∷ [])
+hears_unkept plan e rows asks hears w thin =
+    let s : State = after_notes plan start rows in
+    let asked : Note = note.Sent (command.Status w.groups) in
+    let plays : Note = note.Sent command.Play in
+    let unkept : List Note = note.Heard w.came ∷ plays ∷ [] in
+    let last : heard_last (rows ++ asked ∷ []) ≡ Some w.last =
+    last_more None rows (asked ∷ []) ∙ ap (λ (x : Option Heard). heard_from x (asked ∷ [])) w.last_so in
+    subst (λ (n : Note). Unkept plan e (rows ++ n ∷ [])) (sym w.asks_so) (record {
+      unkept = unkept;
+      may_lack = subst (λ (x : State). MayLack plan x (heard_last (rows ++ asked ∷ [])) unkept)
+          (sym (after_more plan start rows (asked ∷ [])))
+          (subst (λ (x : Option Heard). MayLack plan (ticked s) x unkept) (sym last)
+          (subst (λ (o : Option Command).
+          AreUnkept o (given plan (ticked s)) (announced_state (Some w.last) (ticked s).stage) unkept)
+          (sym (given_awaited plan s.stage s (command.Status w.groups) w.gives))
+          (subst (λ (o : Option Heard). AreUnkept (Some (command.Status w.groups)) (given plan (ticked s)) o unkept)
+          (sym (still_announced plan s (Some w.last) w.free w.groups w.announced w.gives))
+          (safe.hears w.came))));
+      thinned = subst (IsThinned e.notes) (sym (append_assoc rows (asked ∷ []) unkept))
+          (subst (λ (n : Note). IsThinned e.notes (rows ++ asked ∷ n ∷ plays ∷ [])) w.hears_so
+          (subst (λ (n : Note). IsThinned e.notes (rows ++ n ∷ hears ∷ plays ∷ [])) w.asks_so thin));
+    })
+
+unawaited_play : (plan : Plan) (s : State) → given plan s ≡ Some command.Play → awaited plan s ≡ None
+unawaited_play plan s is = grind arith
+
+play_unkept : (plan : Plan) (e : Ends) (rows : List Note)
+    → AllTold plan start (rows ++ note.Sent command.Play ∷ []) → IsThinned e.notes (rows ++ note.Sent command.Play ∷ [])
+    → Unkept plan e rows
+play_unkept plan e rows all_told thin =
+    let s : State = after_notes plan start rows in
+    let plays : List Note = note.Sent command.Play ∷ [] in
+    let announced : Option Heard = announced_state (heard_last rows) s.stage in
+    let told = told_behind plan start rows plays all_told in record {
+      unkept = plays;
+      may_lack = subst (λ (o : Option Command). AreUnkept o (given plan s) announced plays) (sym (unawaited_play plan s told.0))
+          (subst (λ (o : Option Command). AreUnkept None o announced plays) (sym told.0) safe.plays);
+      thinned = thin;
+    }
+
+-- The first of what waits may be safe, if a kill tore what made it so.
+
+data Splits : List Row → List Row → List Row → Type 0 where
+  here : {rest : List Row} → Splits rest [] rest
+  next : {waits part rest : List Row} (row : Row) → Splits waits part rest → Splits (row ∷ waits) (row ∷ part) rest
+
+splits : (waits part rest : List Row) → waits ≡ part ++ rest → Splits waits part rest
+splits waits [] rest is = subst (λ (l : List Row). Splits l [] rest) (sym is) here
+splits [] (x ∷ part) rest is = cc is
+splits (y ∷ waits) (x ∷ part) rest is =
+    subst (λ (r : Row). Splits (y ∷ waits) (r ∷ part) rest) (cc is) (next y (splits waits part rest (cc is)))
+
+at_first : (plan : Plan) (e : Ends) (rows : List Note) → Unkept plan e rows → Unkept plan e (rows ++ [])
+at_first plan e rows u = subst (Unkept plan e) (sym (append-nil rows)) u
+
+-- an end of which nothing is safe is lost
+lost : (all rows : List Note) (row : Row) → is_end row.note ≡ true
+    → IsThinned (all ++ heard_since (row ∷ [])) (rows ++ row.note ∷ []) → IsThinned all rows
+lost all rows row is thin =
+    thinned_before all rows row.note is
+    (subst (λ (l : List Note). IsThinned (all ++ l) (rows ++ row.note ∷ []))
+    (ap (λ (b : Bool). if b then row.note ∷ [] else []) is) thin)
+
+lost_behind : (all rows waits : List Note) (row : Row) → is_end row.note ≡ true
+    → IsThinned (all ++ heard_since (row ∷ [])) (rows ++ (waits ++ row.note ∷ [])) → IsThinned all (rows ++ waits)
+lost_behind all rows waits row is thin =
+    lost all (rows ++ waits) row is
+    (subst (IsThinned (all ++ heard_since (row ∷ []))) (sym (append_assoc rows waits (row.note ∷ []))) thin)
+
+-- nothing was heard since
+unlost : (all rows : List Note) (row : Row) → is_end row.note ≡ false → IsThinned (all ++ heard_since (row ∷ [])) rows
+    → IsThinned all rows
+unlost all rows row is thin =
+    less all rows (subst (λ (l : List Note). IsThinned (all ++ l) rows)
+    (ap (λ (b : Bool). if b then row.note ∷ [] else []) is) thin)
+
+plays_no_end : (n : Note) → n ≡ note.Sent command.Play → is_end n ≡ false
+plays_no_end n is = ap is_end is
+
+-- What a PLAY waits with.
+record Plays (plan : Plan) (e : Ends) (rows : List Note) (asks hears plays : Note) : Type 0 where
+  waited : Waited plan rows asks hears
+  thinned : IsThinned e.notes (rows ++ asks ∷ hears ∷ note.Sent command.Play ∷ [])
+  told : AllTold plan start (rows ++ asks ∷ hears ∷ note.Sent command.Play ∷ [])
+  plays_so : plays ≡ note.Sent command.Play
+
+plays_in : Below → (time : Moment) → (plan : Plan) (port : ClockedPort) (asked : List Command) (e : Ends) → CanJoin plan port asked
     → AreJoined plan port asked e → (rows front : List Note) (seen : Seen) (asks hears plays : Note)
     → rows ≡ front ++ notes_seen (Some seen) → IsTrue (announces (Some seen)) → plays ≡ note.Sent command.Play
     → asks_state asks ≡ true → is_end hears ≡ true → IsThinned e.notes (rows ++ asks ∷ hears ∷ plays ∷ [])
-    → Unkept plan e rows
-plays_unkept below time plan port asked e can j rows front seen asks hears plays stands announced plays_is is ends thin =
-    subst (Unkept plan e) (sym stands) (plays_so below time plan port asked e can j front seen asks hears announced is ends
-    (subst (λ (l : List Note). IsThinned e.notes (l ++ asks ∷ hears ∷ note.Sent command.Play ∷ [])) stands
-    (subst (λ (n : Note). IsThinned e.notes (rows ++ asks ∷ hears ∷ n ∷ [])) plays_is thin)))
+    → Plays plan e rows asks hears plays
+plays_in below time plan port asked e can j rows front seen asks hears plays stands announced plays_is is ends thin =
+    let more : List Note = asks ∷ hears ∷ note.Sent command.Play ∷ [] in
+    let thin_so : IsThinned e.notes (rows ++ more) =
+    subst (λ (n : Note). IsThinned e.notes (rows ++ asks ∷ hears ∷ n ∷ [])) plays_is thin in
+    let told : AllTold plan start (rows ++ more) = (made below time plan port asked e can j rows more thin_so).told in record {
+      waited = subst (λ (l : List Note). Waited plan l asks hears) (sym stands)
+          (waited_so plan front seen asks hears announced is ends
+          (subst (λ (l : List Note). AllTold plan start (l ++ more)) stands told));
+      thinned = thin_so;
+      told = told;
+      plays_so = plays_is;
+    }
 
-unkept_by : Below → (plan : Plan) (port : ClockedPort) (asked : List Command) (e : Ends) → CanJoin plan port asked
-    → AreJoined plan port asked e → (rows : List Note) (left : Pending) → Waits (e.notes ++ heard_since left) rows left
-    → Unkept plan e rows
-unkept_by below plan port asked e can j rows pending.Nothing w =
-    nothing_unkept plan e rows (less e.notes rows (subst (IsThinned (e.notes ++ [])) (append-nil rows) w.thinned))
-unkept_by below plan port asked e can j rows (pending.Failed f) w =
-    nothing_unkept plan e rows (less e.notes rows (subst (IsThinned (e.notes ++ [])) (append-nil rows) w.thinned))
-unkept_by below plan port asked e can j rows (pending.End row) w =
-    nothing_unkept plan e rows (thinned_before e.notes rows row.note w.holds w.thinned)
-unkept_by below plan port asked e can j rows (pending.Asked before asks) w =
-    asks_unkept below asks.time plan port asked e can j rows asks.note w.holds (less e.notes (rows ++ asks.note ∷ []) w.thinned)
-unkept_by below plan port asked e can j rows (pending.Answered before asks hears) w =
-    asks_unkept below asks.time plan port asked e can j rows asks.note w.holds.0
-    (thinned_before e.notes (rows ++ asks.note ∷ []) hears.note w.holds.1
-    (subst (IsThinned (e.notes ++ hears.note ∷ [])) (sym (append_assoc rows (asks.note ∷ []) (hears.note ∷ []))) w.thinned))
-unkept_by below plan port asked e can j rows (pending.Played before asks hears plays) w =
-    plays_unkept below asks.time plan port asked e can j rows w.front before asks.note hears.note plays.note w.stands
-    w.holds.0 w.holds.1 w.holds.2 w.holds.3 (less e.notes (rows ++ asks.note ∷ hears.note ∷ plays.note ∷ []) w.thinned)
-unkept_by below plan port asked e can j rows (pending.Over before asks hears plays row) w =
-    let waits : List Note = asks.note ∷ hears.note ∷ plays.note ∷ [] in
-    plays_unkept below asks.time plan port asked e can j rows w.front before asks.note hears.note plays.note w.stands
-    w.holds.0 w.holds.1 w.holds.2 w.holds.3
-    (thinned_before e.notes (rows ++ waits) row.note w.holds.4
-    (subst (IsThinned (e.notes ++ row.note ∷ [])) (sym (append_assoc rows waits (row.note ∷ []))) w.thinned))
+last_play : (plan : Plan) (e : Ends) (rows : List Note) (asks hears plays : Note) → Plays plan e rows asks hears plays
+    → Unkept plan e (rows ++ asks ∷ hears ∷ [])
+last_play plan e rows asks hears plays p =
+    let both : List Note = asks ∷ hears ∷ [] in
+    let last : List Note = note.Sent command.Play ∷ [] in
+    play_unkept plan e (rows ++ both) (subst (AllTold plan start) (sym (append_assoc rows both last)) p.told)
+    (subst (IsThinned e.notes) (sym (append_assoc rows both last)) p.thinned)
+
+played_by : (plan : Plan) (e : Ends) (rows : List Note) (asks hears plays : Row) (part rest : List Row)
+    → Splits (asks ∷ hears ∷ plays ∷ []) part rest → is_end plays.note ≡ false
+    → IsThinned (e.notes ++ heard_since rest) (rows ++ asks.note ∷ hears.note ∷ plays.note ∷ [])
+    → (IsThinned e.notes (rows ++ asks.note ∷ hears.note ∷ plays.note ∷ []) → Plays plan e rows asks.note hears.note plays.note)
+    → Unkept plan e (rows ++ notes_in part)
+played_by plan e rows asks hears plays _ _ here no_end thin so =
+    let p = so (unlost e.notes _ plays no_end thin) in
+    at_first plan e rows (all_unkept plan e rows asks.note hears.note p.waited p.thinned)
+played_by plan e rows asks hears plays _ _ (next _ here) no_end thin so =
+    let p = so (unlost e.notes _ plays no_end thin) in
+    hears_unkept plan e rows asks.note hears.note p.waited p.thinned
+played_by plan e rows asks hears plays _ _ (next _ (next _ here)) no_end thin so =
+    last_play plan e rows asks.note hears.note plays.note (so (unlost e.notes _ plays no_end thin))
+played_by plan e rows asks hears plays _ _ (next _ (next _ (next _ here))) no_end thin so =
+    nothing_unkept plan e _ (less e.notes _ thin)
+
+over_by : (plan : Plan) (e : Ends) (rows : List Note) (asks hears plays row : Row) (part rest : List Row)
+    → Splits (asks ∷ hears ∷ plays ∷ row ∷ []) part rest → is_end row.note ≡ true
+    → IsThinned (e.notes ++ heard_since rest) (rows ++ asks.note ∷ hears.note ∷ plays.note ∷ row.note ∷ [])
+    → (IsThinned e.notes (rows ++ asks.note ∷ hears.note ∷ plays.note ∷ []) → Plays plan e rows asks.note hears.note plays.note)
+    → Unkept plan e (rows ++ notes_in part)
+over_by plan e rows asks hears plays row _ _ here ends thin so =
+    let p = so (lost_behind e.notes rows (asks.note ∷ hears.note ∷ plays.note ∷ []) row ends thin) in
+    at_first plan e rows (all_unkept plan e rows asks.note hears.note p.waited p.thinned)
+over_by plan e rows asks hears plays row _ _ (next _ here) ends thin so =
+    let p = so (lost_behind e.notes rows (asks.note ∷ hears.note ∷ plays.note ∷ []) row ends thin) in
+    hears_unkept plan e rows asks.note hears.note p.waited p.thinned
+over_by plan e rows asks hears plays row _ _ (next _ (next _ here)) ends thin so =
+    last_play plan e rows asks.note hears.note plays.note
+    (so (lost_behind e.notes rows (asks.note ∷ hears.note ∷ plays.note ∷ []) row ends thin))
+over_by plan e rows asks hears plays row _ _ (next _ (next _ (next _ here))) ends thin so =
+    nothing_unkept plan e _ (lost_behind e.notes rows (asks.note ∷ hears.note ∷ plays.note ∷ []) row ends thin)
+over_by plan e rows asks hears plays row _ _ (next _ (next _ (next _ (next _ here)))) ends thin so =
+    nothing_unkept plan e _ (less e.notes _ thin)
+
+unkept_played : Below → (plan : Plan) (port : ClockedPort) (asked : List Command) (e : Ends) → CanJoin plan port asked
+    → AreJoined plan port asked e → (rows : List Note) (before : Seen) (asks hears plays : Row) (part rest : List Row)
+    → Splits (asks ∷ hears ∷ plays ∷ []) part rest
+    → Waits (e.notes ++ heard_since rest) rows (pending.Played before asks hears plays)
+    → Unkept plan e (rows ++ notes_in part)
+unkept_played below plan port asked e can j rows before asks hears plays part rest so w =
+    played_by plan e rows asks hears plays part rest so (plays_no_end plays.note w.holds.1) w.thinned
+    (plays_in below asks.time plan port asked e can j rows w.front before asks.note hears.note plays.note w.stands w.holds.0
+    w.holds.1 w.holds.2 w.holds.3)
+
+unkept_over : Below → (plan : Plan) (port : ClockedPort) (asked : List Command) (e : Ends) → CanJoin plan port asked
+    → AreJoined plan port asked e → (rows : List Note) (before : Seen) (asks hears plays row : Row) (part rest : List Row)
+    → Splits (asks ∷ hears ∷ plays ∷ row ∷ []) part rest
+    → Waits (e.notes ++ heard_since rest) rows (pending.Over before asks hears plays row)
+    → Unkept plan e (rows ++ notes_in part)
+unkept_over below plan port asked e can j rows before asks hears plays row part rest so w =
+    over_by plan e rows asks hears plays row part rest so w.holds.4 w.thinned
+    (plays_in below asks.time plan port asked e can j rows w.front before asks.note hears.note plays.note w.stands w.holds.0
+    w.holds.1 w.holds.2 w.holds.3)
+
+unkept_at : Below → (plan : Plan) (port : ClockedPort) (asked : List Command) (e : Ends) → CanJoin plan port asked
+    → AreJoined plan port asked e → (rows : List Note) (left : Pending) (part rest : List Row)
+    → Splits (rows_left left) part rest → Waits (e.notes ++ heard_since rest) rows left
+    → Unkept plan e (rows ++ notes_in part)
+unkept_at below plan port asked e can j rows pending.Nothing _ _ here w =
+    nothing_unkept plan e (rows ++ []) (less e.notes (rows ++ []) w.thinned)
+unkept_at below plan port asked e can j rows (pending.Failed f) _ _ here w =
+    nothing_unkept plan e (rows ++ []) (less e.notes (rows ++ []) w.thinned)
+unkept_at below plan port asked e can j rows (pending.End row) _ _ here w =
+    at_first plan e rows (nothing_unkept plan e rows (lost e.notes rows row w.holds w.thinned))
+unkept_at below plan port asked e can j rows (pending.End row) _ _ (next _ here) w =
+    nothing_unkept plan e (rows ++ row.note ∷ []) (less e.notes (rows ++ row.note ∷ []) w.thinned)
+unkept_at below plan port asked e can j rows (pending.Asked before asks) _ _ here w =
+    at_first plan e rows (asks_unkept below asks.time plan port asked e can j rows asks.note w.holds
+    (unlost e.notes (rows ++ asks.note ∷ []) asks (asks_no_end asks.note w.holds) w.thinned))
+unkept_at below plan port asked e can j rows (pending.Asked before asks) _ _ (next _ here) w =
+    nothing_unkept plan e (rows ++ asks.note ∷ []) (less e.notes (rows ++ asks.note ∷ []) w.thinned)
+unkept_at below plan port asked e can j rows (pending.Answered before asks hears) _ _ here w =
+    at_first plan e rows (asks_unkept below asks.time plan port asked e can j rows asks.note w.holds.0
+    (lost_behind e.notes rows (asks.note ∷ []) hears w.holds.1 w.thinned))
+unkept_at below plan port asked e can j rows (pending.Answered before asks hears) _ _ (next _ here) w =
+    nothing_unkept plan e (rows ++ asks.note ∷ [])
+    (lost_behind e.notes rows (asks.note ∷ []) hears w.holds.1 w.thinned)
+unkept_at below plan port asked e can j rows (pending.Answered before asks hears) _ _ (next _ (next _ here)) w =
+    let all : List Note = rows ++ asks.note ∷ hears.note ∷ [] in
+    nothing_unkept plan e all (less e.notes all w.thinned)
+unkept_at below plan port asked e can j rows (pending.Played before asks hears plays) part rest so w =
+    unkept_played below plan port asked e can j rows before asks hears plays part rest so w
+unkept_at below plan port asked e can j rows (pending.Over before asks hears plays row) part rest so w =
+    unkept_over below plan port asked e can j rows before asks hears plays row part rest so w
 
 -- All of it.
 
@@ -341,15 +530,18 @@ waits_behind before left earlier rows all notes thin none w =
     }
 
 pub is_safe : Below → (plan : Plan) (port : ClockedPort) (asked : List Command) (e : Ends) (before left : Pending)
-    (earlier rows : List Row) (all : List Note) (notes : List Kept) → CanJoin plan port asked → AreJoined plan port asked e
+    (earlier rows part rest : List Row) (all : List Note) (notes : List Kept) → CanJoin plan port asked → AreJoined plan port asked e
     → IsThinned all (notes_in (earlier ++ rows_left before)) → seen_before before ≡ None → WaitsSince before notes rows left
-    → e.notes ++ heard_since left ≡ all ++ map note_for notes → AreSafe plan e (earlier ++ rows)
-is_safe below plan port asked e before left earlier rows all notes can j thin none w is =
-    let u = unkept_by below plan port asked e can j (notes_in (earlier ++ rows)) left
+    → rows_left left ≡ part ++ rest → e.notes ++ heard_since rest ≡ all ++ map note_for notes
+    → AreSafe plan e ((earlier ++ rows) ++ part)
+is_safe below plan port asked e before left earlier rows part rest all notes can j thin none w split is =
+    let kept : List Note = notes_in ((earlier ++ rows) ++ part) in
+    let u : Unkept plan e kept = subst (Unkept plan e) (sym (noted_behind (earlier ++ rows) part))
+    (unkept_at below plan port asked e can j (notes_in (earlier ++ rows)) left part rest (splits (rows_left left) part rest split)
     (subst (λ (l : List Note). Waits l (notes_in (earlier ++ rows)) left) (sym is)
-    (waits_behind before left earlier rows all notes thin none w)) in record {
+    (waits_behind before left earlier rows all notes thin none w))) in record {
       unkept = u.unkept;
-      may_lack = subst (λ (s : State). MayLack plan s (heard_last (notes_in (earlier ++ rows))) u.unkept)
-          (sym (of_rows plan start (earlier ++ rows))) u.may_lack;
+      may_lack = subst (λ (s : State). MayLack plan s (heard_last kept) u.unkept)
+          (sym (of_rows plan start ((earlier ++ rows) ++ part))) u.may_lack;
       thinned = u.thinned;
     }

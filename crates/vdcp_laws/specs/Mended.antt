@@ -1,5 +1,5 @@
 -- What a killed automation goes on as, whose rows are what is safe in its journal, and what going on writes behind them.
-use Rattle.std.specs.Prelude.{ℕ, ◌≡◌, List, [], ◌∷◌, ◌++◌, Option, None, Some}
+use Rattle.std.specs.Prelude.{ℕ, ◌≡◌, List, [], ◌∷◌, ◌++◌, if◌then◌else◌, Option, None, Some}
 use Rattle.vdcp_words.specs.declared.command.Command.{Command}
 use Rattle.vdcp_words.specs.declared.command.Command.TheVariants as command
 use Rattle.vdcp_auto.specs.Plan.{Plan}
@@ -13,8 +13,7 @@ use Rattle.vdcp_journal.specs.Thinned.{IsThinned, heard_last, notes_in}
 use Rattle.vdcp_journal.specs.declared.row.Note.{Note}
 use Rattle.vdcp_journal.specs.declared.row.Note.TheVariants as note
 use Rattle.vdcp_journal.specs.declared.row.Row.{Row}
-use Rattle.vdcp_journal_file.specs.declared.pending.Pending.{Pending}
-use Rattle.vdcp_journal_file.specs.declared.pending.Pending.TheVariants as pending
+use Rattle.vdcp_journal_file.specs.Recorded.{is_end}
 use Rattle.vdcp_laws.specs.TwoEnds.{Ends, GoesOn, notes_ended, with_command}
 
 -- What may have gone out behind rows, by the command that is open, the one that is given next, and the state that announces a
@@ -41,12 +40,11 @@ pub record AreSafe (plan : Plan) (e : Ends) (rows : List Row) : Type 0 where
   pub may_lack : MayLack plan (after_rows plan start rows) (heard_last (notes_in rows)) unkept
   pub thinned : IsThinned e.notes (notes_in rows ++ unkept)
 
--- what was heard behind rows, and waits with this for a later one: a kill loses it
-abbrev pub heard_since : Pending → List Note
-heard_since (pending.End row) = row.note ∷ []
-heard_since (pending.Answered before asking row) = row.note ∷ []
-heard_since (pending.Over before asking came playing row) = row.note ∷ []
-heard_since _ = []
+-- the last of the rows that wait, if it says what was heard: a kill loses it
+abbrev pub heard_since : List Row → List Note
+heard_since [] = []
+heard_since (row ∷ []) = if is_end row.note then row.note ∷ [] else []
+heard_since (row ∷ later ∷ rows) = heard_since (later ∷ rows)
 
 -- it goes on as it was, or with its next command taken for given
 pub data GoesOnGiven (plan : Plan) (e : Ends) : Ends → Type 0 where

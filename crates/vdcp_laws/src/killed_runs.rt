@@ -99,15 +99,15 @@ pub fn what_going_on_adds_was_given()
     crate::two_ends::a_journal_makes_the_automation();
 }
 
-/// What a recorder still has to write is what its safe rows may lack, and what was heard since. So at each moment of a run
-/// that is recorded, also behind earlier rows, a kill leaves rows of which `what_going_on_adds_was_given` tells, with the
-/// ends as they were before they heard that.
+/// What a recorder still has to write is what its safe rows may lack, and what was heard since: at each moment of a run that
+/// is recorded, also behind earlier rows, and also if a kill left the first of it. So what going on adds to such rows was given
+/// by the ends as they were before they heard that (`what_going_on_adds_was_given`).
 pub fn what_waits_may_be_lacking()
     ensures { (plan : Plan) (port : ClockedPort) (asked : List Command) (e : Ends) (before left : Pending)
-        (earlier rows : List Row) (all : List Note) (notes : List Kept) → CanJoin plan port asked →
+        (earlier rows part rest : List Row) (all : List Note) (notes : List Kept) → CanJoin plan port asked →
         AreJoined plan port asked e → IsThinned all (notes_in (earlier ++ rows_left before)) → seen_before before ≡ None →
-        WaitsSince before notes rows left → e.notes ++ heard_since left ≡ all ++ map note_for notes →
-        AreSafe plan e (earlier ++ rows) }
+        WaitsSince before notes rows left → rows_left left ≡ part ++ rest →
+        e.notes ++ heard_since rest ≡ all ++ map note_for notes → AreSafe plan e ((earlier ++ rows) ++ part) }
 {
     vdcp_journal::laws::an_announced_play_comes_next();
     crate::two_ends::a_journal_makes_the_automation();
