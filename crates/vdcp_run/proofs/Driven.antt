@@ -143,10 +143,10 @@ unkept_by (Err fault.Unkept) h = refl
 -- ---- A new driver has run, and its journal was ended
 
 pub record HasEnded {S E W F : Type 0} (items : S → List Item) (does : Act → W → W → Type 0)
-    (safe : F → Option (List ℕ)) (fold : Fold E) (failures : W → ℕ) (settings : RunSettings) (n : ℕ)
+    (safe : F → Option (List ℕ)) (fold : Fold E) (failures : W → ℕ) (settings : RunSettings) (n turns : ℕ)
     (old new : Driving (FromEvent S) E W) (keep keep' : Option (Recording F)) (answer : Result Ran BrokenOff) (end : RunEnd)
     : Type 0 where
-  pub listens : n ≡ settings.listens
+  pub listens : n ≡ turns
   pub leaves : RunLeaves (items_left items) (recorder_rules does safe) fold failures n old new keep keep' answer
   pub works : failures old.wire ≡ 0
   pub line : end.line ≡ line_end_of answer
@@ -157,13 +157,13 @@ pub record HasEnded {S E W F : Type 0} (items : S → List Item) (does : Act →
   pub told : end.line ≡ line_end.Unkept → IsSome keep' → IsSome end.unkept
 
 module _ {S E W F : Type 0} (items : S → List Item) (does : Act → W → W → Type 0) (safe : F → Option (List ℕ))
-    (fold : Fold E) (failures : W → ℕ) (settings : RunSettings) (n : ℕ) (old new : Driving (FromEvent S) E W)
+    (fold : Fold E) (failures : W → ℕ) (settings : RunSettings) (n turns : ℕ) (old new : Driving (FromEvent S) E W)
     (keep keep' : Option (Recording F)) (answer : Result Ran BrokenOff) (end : RunEnd)
-    (h : HasEnded items does safe fold failures settings n old new keep keep' answer end) where
+    (h : HasEnded items does safe fold failures settings n turns old new keep keep' answer end) where
   abbrev from_is : end.from ≡ old.controller.source.from
   from_is = h.by.from_is ∙ ap (λ (c : View (FromEvent S)). c.source.from) h.leaves.controller
 
-  plays_so : Plays does safe fold old.ear old.unit settings.listens (start_of items old.controller)
+  plays_so : Plays does safe fold old.ear old.unit turns (start_of items old.controller)
       (over old.wire keep) end
   plays_so = record {
     ran = answer;
@@ -189,6 +189,6 @@ module _ {S E W F : Type 0} (items : S → List Item) (does : Act → W → W �
         (over old.wire keep) (over new.wire keep') run.happened) h.unkept;
   }
 
-  pub played_so : Plays does safe fold old.ear old.unit settings.listens (start_of items old.controller)
+  pub played_so : Plays does safe fold old.ear old.unit turns (start_of items old.controller)
       (over old.wire keep) end × EndsRun settings (journal_of keep) items old.controller end
   played_so = (plays_so, ends_so)

@@ -5,12 +5,12 @@ use Rattle.std.specs.Io.KnownBytes.{Appends, Keeps}
 use Rattle.std.specs.Prelude.{◌↔◌, Bool, true, false, if◌then◌else◌, nat_eq, IfOk, IsSome, None, OnOk, Option, Result, Ok, Err, Some}
 use Rattle.std.specs.Result.{result_unwrap_or}
 use Rattle.vdcp_auto.specs.Course.{Reached}
-use Rattle.vdcp_auto.specs.Plan.{Plan, View, plan_of}
+use Rattle.vdcp_auto.specs.Plan.{View, plan_of}
 use Rattle.vdcp_auto.specs.State.{Ready, Awaiting, Ended, Stage}
 use Rattle.vdcp_auto.specs.Turn.{outcome_of}
 use Rattle.vdcp_auto.specs.declared.exchange.Exchange.{Exchange}
 use Rattle.vdcp_auto.specs.declared.outcome.Outcome.{Outcome}
-use Rattle.vdcp_auto.specs.declared.outcome.Outcome.TheVariants.{Denied, Strange}
+use Rattle.vdcp_auto.specs.declared.outcome.Outcome.TheVariants.{Done, Stopped, Lost, Denied, Missing, Refused, Foreign, Strange}
 use Rattle.vdcp_drive.specs.Ears.{Fold}
 use Rattle.vdcp_drive.specs.Auto.{IsReachedFrom}
 use Rattle.vdcp_drive.specs.declared.hooks.BrokenOff.{BrokenOff}
@@ -200,6 +200,31 @@ told_with n low settings list end (Ok status) out out' err err' played lines fau
       (outcome_status (told_outcome end.line end.outcome)) (sym is ∙ one)) faults,
 )
 told_with n low settings list end (Err e) out out' err err' played lines faults is one = absurd (omega (arith, low, one))
+
+-- no end has status 2
+outcome_not_2 : (outcome : Option Outcome) → outcome_status outcome ≢ 2
+outcome_not_2 None e = omega (arith, e)
+outcome_not_2 (Some Done) e = omega (arith, e)
+outcome_not_2 (Some Stopped) e = omega (arith, e)
+outcome_not_2 (Some Lost) e = omega (arith, e)
+outcome_not_2 (Some Denied) e = omega (arith, e)
+outcome_not_2 (Some (Missing k)) e = omega (arith, e)
+outcome_not_2 (Some (Refused k)) e = omega (arith, e)
+outcome_not_2 (Some (Foreign k)) e = omega (arith, e)
+outcome_not_2 (Some (Strange k)) e = omega (arith, e)
+
+status_not_2 : (unwritten : Option Failure) (unkept : Option Lack) (line : Option Failure) (rest : ℕ) → rest ≢ 2
+    → status_unless unwritten (status_unless unkept (status_unless line rest)) ≢ 2
+status_not_2 None None None rest other = other
+status_not_2 None None (Some failure) rest other = λ e. omega (arith, e)
+status_not_2 None (Some lack) line rest other = λ e. omega (arith, e)
+status_not_2 (Some failure) unkept line rest other = λ e. omega (arith, e)
+
+pub told_not_2 : {E : Type 0} (end : RunEnd) (told : Result ℕ E) → IfOk told (λ status. status ≡ run_status end)
+    → result_unwrap_or told 3 ≢ 2
+told_not_2 end (Ok status) is two = status_not_2 (asrun_failure end.asrun) end.unkept (line_failure end.line)
+    (outcome_status (told_outcome end.line end.outcome)) (outcome_not_2 (told_outcome end.line end.outcome)) (sym is ∙ two)
+told_not_2 end (Err e) is two = omega (arith, two)
 
 -- ---- What is asked doesn't end a line that isn't needed, and keeps nothing back
 

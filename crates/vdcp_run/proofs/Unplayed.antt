@@ -148,9 +148,9 @@ told_with_2 settings text list failure status err err' (no_event some items list
 told_with_2 settings text list failure status err err' (no_place some whole refused) is told two =
     let three : status_of failure ≡ 3 = list_place_status settings.asrun failure refused in
     absurd (omega (arith, three, own_status failure status is two))
-told_with_2 settings text list failure status err err' (no_journal some items lists unkept refused e) is told two =
+told_with_2 settings text list failure status err err' (no_journal some items lists last tries unkept refused e) is told two =
     let known = subst one_or_three (sym e)
-    (told_status (name_of_file list) unkept (unkept_status settings items settings.journal unkept refused)) in
+    (told_status (name_of_file list) unkept (unkept_status last items last.journal unkept refused)) in
     absurd (not_2 failure known (own_status failure status is two))
 told_with_2 settings text list failure status err err' (not_connected some whole e) is told two =
     let three : status_of failure ≡ 3 = ap status_of e in
@@ -188,11 +188,13 @@ told_with_1 settings text list failure status out err err' (no_event some items 
 told_with_1 settings text list failure status out err err' (no_place some whole refused) is told one =
     let three : status_of failure ≡ 3 = list_place_status settings.asrun failure refused in
     absurd (omega (arith, three, own_status_1 failure status is one))
-told_with_1 settings text list failure status out err err' (no_journal some items lists unkept refused e) is told one =
+told_with_1 settings text list failure status out err err' (no_journal some items lists last tries unkept refused e) is told one =
     inr (inl (record {
       failure = failure;
       items = items;
       lists = lists;
+      last = last;
+      tries = tries;
       unkept = unkept;
       refused = refused;
       failure_is = e;

@@ -2,7 +2,7 @@
 use Rattle.std.specs.Borrow.{Bor}
 use Rattle.std.specs.Io.KnownBytes.{Appends, Keeps}
 use Rattle.std.specs.declared.fs.File.{File as StdFile}
-use Rattle.std.specs.Prelude.{ℕ, ◌≡◌, ◌⊎◌, ◌+◌, ◌-◌, ◌<◌, ◌≤◌, Bool, true, false, List, [], ◌++◌, codes, decimal, drop, length, take, Option, None, Some, option_map, unwrap_or, Result, Ok, Err, IfSome, IsSome, if◌then◌else◌}
+use Rattle.std.specs.Prelude.{ℕ, ◌≡◌, ◌⊎◌, ◌+◌, ◌-◌, ◌<◌, ◌≤◌, Bool, true, false, not, ◌&&◌, is_some, min, nat_lt, List, [], ◌++◌, codes, decimal, drop, length, take, Option, None, Some, option_map, unwrap_or, Result, Ok, Err, IfSome, IsSome, if◌then◌else◌}
 use Rattle.vdcp_value.specs.declared.part.Item.{Item}
 use Rattle.vdcp_value.specs.declared.rate.Rate.{Rate}
 use Rattle.vdcp_auto.specs.Course.{Reached}
@@ -76,6 +76,59 @@ line_failure line_end.Occupied = Some failures.NotEmpty
 line_failure line_end.Unanswered = None
 line_failure line_end.Stopped = None
 
+-- how the run ended, as it is told: a port that didn't answer its questions is lost, and a run that the operator stopped without
+-- a command is stopped
+abbrev pub told_outcome : LineEnd → Option Outcome → Option Outcome
+told_outcome line_end.Unanswered outcome = Some Lost
+told_outcome line_end.Stopped outcome = Some Stopped
+told_outcome line_end.Unneeded outcome = outcome
+told_outcome line_end.Closed outcome = outcome
+told_outcome line_end.Spent outcome = outcome
+told_outcome line_end.Failed outcome = outcome
+told_outcome line_end.Unkept outcome = outcome
+told_outcome line_end.Occupied outcome = outcome
+
+-- ---- a run that stays
+
+-- the name of a journal's file
+abbrev pub name_of : RunJournal → Bor (List ℕ)
+name_of (journals.New name) = name
+name_of (journals.Older name) = name
+name_of (journals.Again name) = name
+
+-- it ended by its line: the controller was lost, or else the line closed or failed before that had ended
+abbrev pub is_by_line : LineEnd → Option Outcome → Bool
+is_by_line line (Some Lost) = true
+is_by_line line_end.Closed None = true
+is_by_line line_end.Failed None = true
+is_by_line line outcome = false
+
+-- how many turns are left to a run that tries again: a connection takes one at least
+abbrev pub turns_left : RunSettings → RunEnd → ℕ
+turns_left settings end = min end.left (settings.listens - 1)
+
+-- a run with these settings tries again after this end: it stays, that was by the line, its journal is whole, and a turn is left
+abbrev pub tries_again : RunSettings → RunEnd → Bool
+tries_again settings end = settings.stay && (is_by_line end.line (told_outcome end.line end.outcome)
+    && (not (is_some end.unkept) && nat_lt 0 (turns_left settings end)))
+
+-- the settings of a run that goes on from the journal that it has, with so many turns
+abbrev pub going_on : RunSettings → RunJournal → ℕ → RunSettings
+going_on settings journal left = record settings { journal = Some (journals.Older (name_of journal)); listens = left }
+
+abbrev pub later_by : RunSettings → Option RunJournal → RunEnd → Option RunSettings
+later_by settings None end = None
+later_by settings (Some journal) end =
+    if tries_again settings end then Some (going_on settings journal (turns_left settings end)) else None
+
+-- the settings with which it tries again, if it does: it goes on from its journal
+abbrev pub later_of : RunSettings → RunEnd → Option RunSettings
+later_of settings end = later_by settings settings.journal end
+
+abbrev pub later_after : RunSettings → Result RunEnd Failure → Option RunSettings
+later_after settings (Ok end) = later_of settings end
+later_after settings (Err failure) = None
+
 -- ---- the as-run file
 
 -- why a file of this name hasn't got the as-run list, if it hasn't: it can't be made or written, or memory was refused
@@ -141,10 +194,15 @@ wanted_after line_end.Occupied name = None
 wanted_after line_end.Unanswered name = name
 wanted_after line_end.Stopped name = name
 
+-- none before a run tries again
+abbrev pub wanted_unless : Option RunSettings → Option (Bor (List ℕ)) → Option (Bor (List ℕ))
+wanted_unless None name = name
+wanted_unless (Some later) name = None
+
 -- so it is after a run of these items
 abbrev pub HasAsrun : RunSettings → List Item → RunEnd → Type 0
 HasAsrun settings items end = IsAsrunMade settings.rate settings.journal items end.from end.reported
-    (wanted_after end.line settings.asrun) end.asrun
+    (wanted_unless (later_of settings end) (wanted_after end.line settings.asrun)) end.asrun
 
 abbrev pub asrun_failure : Option (Result SavedText Failure) → Option Failure
 asrun_failure None = None
@@ -155,12 +213,6 @@ asrun_failure (Some (Err failure)) = Some failure
 
 abbrev pub name_of_file : File → Bor (List ℕ)
 name_of_file (file name bytes) = name
-
--- the name of its file
-abbrev pub name_of : RunJournal → Bor (List ℕ)
-name_of (journals.New name) = name
-name_of (journals.Older name) = name
-name_of (journals.Again name) = name
 
 -- that of the journal that a recorder writes, if there is one
 abbrev pub journal_of : {F : Type 0} → Option (Recording F) → Option (Bor (List ℕ))
@@ -222,17 +274,6 @@ journal_left None journal = journal
 journal_left (Some lack) journal = journal_after lack.fault journal
 
 -- ---- what is printed and reported
-
--- a port that didn't answer its questions is lost, and one at which the operator stopped them stopped
-abbrev pub told_outcome : LineEnd → Option Outcome → Option Outcome
-told_outcome line_end.Unanswered outcome = Some Lost
-told_outcome line_end.Stopped outcome = Some Stopped
-told_outcome line_end.Unneeded outcome = outcome
-told_outcome line_end.Closed outcome = outcome
-told_outcome line_end.Spent outcome = outcome
-told_outcome line_end.Failed outcome = outcome
-told_outcome line_end.Unkept outcome = outcome
-told_outcome line_end.Occupied outcome = outcome
 
 -- the lines of how many events are reported, and how the controller ended
 abbrev pub end_text : RunEnd → List ℕ
@@ -370,13 +411,30 @@ pub record IsRunOf (settings : RunSettings) (items : List Item) (journal : Optio
   pub ends : IsEndOf start.plan end
   pub from_is : end.from ≡ start.from
 
+-- so a try of these items ended, which was made with these settings
+pub record IsTried (settings : RunSettings) (items : List Item) (end : RunEnd) : Type 0 where
+  pub runs : IsRunOf settings items settings.journal end
+  pub asrun : HasAsrun settings items end
+  pub unkept : MayBeUnkept (option_map name_of settings.journal) end.unkept
+
+-- with which settings a run tries: with its own first; and after a try by whose end it tries again it goes on from its journal
+pub data IsTry (settings : RunSettings) (items : List Item) : RunSettings → Type 0 where
+  first : IsTry settings items settings
+  later : {before next : RunSettings} → IsTry settings items before → (end : RunEnd) → IsTried before items end
+      → later_of before end ≡ Some next → IsTry settings items next
+
+-- this is the end of its last try, after which it doesn't try again
+pub record IsLastTry (settings : RunSettings) (items : List Item) (end : RunEnd) : Type 0 where
+  pub last : RunSettings
+  pub tries : IsTry settings items last
+  pub tried : IsTried last items end
+  pub over : later_of last end ≡ None
+
 -- the file is a playlist, and this is the end of a controller that plays it, from an event on
 pub record IsPlayed (settings : RunSettings) (list : File) (end : RunEnd) : Type 0 where
   pub items : List Item
   pub lists : IsListOf settings.rate (bytes_of list) items
-  pub runs : IsRunOf settings items settings.journal end
-  pub asrun : HasAsrun settings items end
-  pub unkept : MayBeUnkept (option_map name_of settings.journal) end.unkept
+  pub plays : IsLastTry settings items end
 
 -- the list was played to this end: a writer gained the lines of that, and this is the status
 pub record IsRun (settings : RunSettings) (list : File) (out out' : Option (List ℕ)) (status : ℕ) : Type 0 where
@@ -399,6 +457,19 @@ is_of_other_list _ = false
 abbrev pub told_of_list : Bor (List ℕ) → Failure → Failure
 told_of_list list failure = if is_of_other_list failure then failures.NotTheList list else failure
 
+-- why a try of these items with these settings came to nothing: the journal can't be kept, or else nobody takes the
+-- connection, or else the port isn't empty
+pub data IsUntried (settings : RunSettings) (items : List Item) (failure : Failure) : Type 0 where
+  not_kept : IsUnkept settings items settings.journal failure → IsUntried settings items failure
+  unconnected : failure ≡ failures.Connect → IsUntried settings items failure
+  occupied : failure ≡ failures.NotEmpty → IsUntried settings items failure
+
+-- why one of the tries of a run did
+pub record IsUntriedIn (settings : RunSettings) (items : List Item) (failure : Failure) : Type 0 where
+  pub last : RunSettings
+  pub tries : IsTry settings items last
+  pub untried : IsUntried last items failure
+
 -- why a list isn't played: the text is no address, or else the list isn't read, or else it has no event to begin with, or
 -- else the as-run file is the list, or else the journal can't be kept, or else nobody takes the connection, or else
 -- the port isn't empty
@@ -410,7 +481,7 @@ pub data IsUnplayed (settings : RunSettings) (text : List ℕ) (list : File) (fa
   no_place : IsAddress text → IsWholeList settings.rate list → IsOverList settings.asrun failure →
       IsUnplayed settings text list failure
   no_journal : IsAddress text → (items : List Item) → IsListOf settings.rate (bytes_of list) items →
-      (unkept : Failure) → IsUnkept settings items settings.journal unkept →
+      (last : RunSettings) → IsTry settings items last → (unkept : Failure) → IsUnkept last items last.journal unkept →
       failure ≡ told_of_list (name_of_file list) unkept → IsUnplayed settings text list failure
   not_connected : IsAddress text → IsWholeList settings.rate list → failure ≡ failures.Connect →
       IsUnplayed settings text list failure
@@ -438,8 +509,10 @@ pub record IsRunRefused (settings : RunSettings) (list : File) (out out' err err
   pub failure : Failure
   pub items : List Item
   pub lists : IsListOf settings.rate (bytes_of list) items
+  pub last : RunSettings
+  pub tries : IsTry settings items last
   pub unkept : Failure
-  pub refused : IsUnkept settings items settings.journal unkept
+  pub refused : IsUnkept last items last.journal unkept
   pub failure_is : failure ≡ told_of_list (name_of_file list) unkept
   pub of_row : status_of failure ≡ 1
   pub told : Appends err err' (failure_line failure)

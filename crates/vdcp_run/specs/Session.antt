@@ -1,6 +1,6 @@
 -- What a session did: it asked the port, if it was to, and ran a driver, with the journal that it has, if it has one.
 use Rattle.std.specs.Option.{option_map}
-use Rattle.std.specs.Prelude.{ℕ, ◌≡◌, ◌+◌, ◌*◌, List, [], Option, None, Some, IsSome, Result}
+use Rattle.std.specs.Prelude.{ℕ, ◌≡◌, ◌+◌, ◌*◌, true, List, [], Option, None, Some, IsSome, Result}
 use Rattle.vdcp_auto.specs.Turn.{outcome_of}
 use Rattle.vdcp_auto.specs.declared.outcome.Outcome.{Outcome}
 use Rattle.vdcp_drive.specs.Auto.{Auto}
@@ -90,12 +90,14 @@ longest_answer settings = settings.silence * silences_of settings.hearing * 1000
 abbrev pub Limits : Streamed → ℕ → Type 0
 Limits wire time = option_map (λ l. l.most) wire.answer ≡ Some time
 
--- a session of a connection: nothing went out if its controller had ended before, or the connection was no wire
+-- a session of a connection: nothing went out if its controller had ended before, the connection was no wire, or the operator
+-- of a run that stays stopped before there was one
 pub data HasSession {F : Type 0} (safe : F → Option (List ℕ)) (settings : RunSettings) (start : Start)
     (recorder : Option (Recording F)) (end : RunEnd) : Type 0 where
   had_ended : IsSome (outcome_of start.state.stage) → end.line ≡ line_end.Unneeded
       → HasSession safe settings start recorder end
   no_wire : end.line ≡ line_end.Failed → HasSession safe settings start recorder end
+  unconnected : settings.stay ≡ true → end.line ≡ line_end.Stopped → HasSession safe settings start recorder end
   tried : (wire : Streamed) → wire.connection ≡ connection.Open → Limits wire (longest_answer settings)
       → TriesOver StreamDoes safe settings start wire recorder end
       → HasSession safe settings start recorder end

@@ -1,70 +1,137 @@
-//! How a run connects: at once, also if it waits for its start, and then again if that connection is gone.
-use crate::settings::Showing;
+//! How a run connects: at once, also if it waits for its start, and then again if that connection is gone; a run that stays
+//! until somebody takes the connection.
+use crate::console::Console;
+use crate::staying::Pace;
 use std::io::{self, ErrorKind};
 use std::net::{Net, OpenStream, SocketAddr, SocketAddrV4};
-use std::rt::Clock;
+use std::rt::{Clock, Files};
 use std::time::Duration;
 use vdcp_auto::{Controller, Source};
+use vdcp_drive::Call;
 use vdcp_list::Rest;
-use vdcp_log::Telling;
-use vdcp_operator::Hand;
 
 /// How long a connection may take to come about, in seconds.
 const CONNECTING: u64 = 5;
 
-/// A connection, once it is time for one; None if nobody takes it then. If a start is waited for the server is asked at
-/// once whether it is there, which a terminal is told if it isn't. That connection is kept, since the server may take no
-/// other one, and nothing is sent over it before.
-pub fn connect_in_time<R: Net + Clock, S: Source, V: io::Write, I: io::Read + Drop, O: io::Write>(
-    rt: &R,
-    address: SocketAddrV4,
-    controller: &Controller<Rest<S>>,
-    showing: &mut Showing<V>,
-    hand: &mut Hand<'_, R, I, O>,
-) -> Option<R::Stream> {
-    let early = if hand.awaits_start() {
-        connect_early(rt, address, showing)
-    } else {
-        None
-    };
-    hand.await_lead(controller);
-    match early {
-        Some(stream) if is_open(&stream) => Some(stream),
-        _ => connect(rt, address).ok(),
+/// How long that of a run that stays may, so that its operator is asked meanwhile.
+const CONNECTING_AGAIN: u64 = 1;
+
+impl<
+    'r,
+    'l,
+    R: Net + Files + Clock + AllocGlobal,
+    I: io::Read + Drop,
+    O: io::Write + Drop,
+    V: io::Write + Drop,
+> Console<'r, 'l, R, I, O, V> {
+    /// A connection, once it is time for one; None if nobody takes it then.
+    pub fn connect_in_time<S: Source>(
+        &mut self,
+        address: SocketAddrV4,
+        controller: &Controller<Rest<S>>,
+    ) -> Option<R::Stream> {
+        match self.await_time(address, controller) {
+            Some(stream) => Some(stream),
+            None => connect(self.rt, address, CONNECTING).ok(),
+        }
     }
-}
 
-fn connect<R: Net>(rt: &R, address: SocketAddrV4) -> io::Result<R::Stream> {
-    rt.connect_timeout(SocketAddr::V4(address), Duration::from_secs(CONNECTING))
-}
-
-// Connects before it is time; a terminal is told why not.
-fn connect_early<R: Net, V: io::Write>(
-    rt: &R,
-    address: SocketAddrV4,
-    showing: &mut Showing<V>,
-) -> Option<R::Stream> {
-    match connect(rt, address) {
-        Ok(stream) => Some(stream),
-        Err(error) => {
-            let is_terminal = showing.terminal.is_some();
-            match &mut showing.telling {
-                Telling::Faults(told) if is_terminal => tell_absent(address, error, told),
-                Telling::All(told) => tell_absent(address, error, told),
-                Telling::Nothing | Telling::Faults(_) => {}
+    /// A connection of a run that stays, once it is time for one: it tries again and again, in the pace, which is told once;
+    /// None if the operator stops while nobody takes it.
+    pub fn connect_staying<S: Source>(
+        &mut self,
+        address: SocketAddrV4,
+        controller: &Controller<Rest<S>>,
+        pace: &mut Pace<'r, R>,
+    ) -> Option<R::Stream> {
+        if self.stops_meanwhile(controller, pace) {
+            return None;
+        }
+        pace.begin();
+        if let Some(stream) = self.await_time(address, controller) {
+            return Some(stream);
+        }
+        let mut is_told = false;
+        'tries: for _ in 0..u64::MAX {
+            match connect(self.rt, address, CONNECTING_AGAIN) {
+                Ok(stream) => return Some(stream),
+                Err(error) if !is_told => {
+                    self.tell(&format_args!("cannot connect ({error}): trying again each second"));
+                    is_told = true;
+                }
+                Err(_) => {}
             }
+            if self.has_stopped(controller) || self.stops_meanwhile(controller, pace) {
+                return None;
+            }
+            pace.begin();
+        }
+        None
+    }
+
+    // Waits until the next try may begin, or the operator stops, and answers whether that was so.
+    fn stops_meanwhile<S: Source>(
+        &mut self,
+        controller: &Controller<Rest<S>>,
+        pace: &mut Pace<'r, R>,
+    ) -> bool {
+        'pieces: for _ in 0..u64::MAX {
+            if pace.wait_piece() {
+                return false;
+            }
+            if self.has_stopped(controller) {
+                return true;
+            }
+        }
+        false
+    }
+
+    // Whether the operator has called stop. Another call is held, and requests for the page are answered.
+    fn has_stopped<S: Source>(&mut self, controller: &Controller<Rest<S>>) -> bool {
+        self.hand.heed(controller) == Some(Call::Stop)
+    }
+
+    // Waits until it is time to connect. If a start is waited for the server is asked at once whether it is there, which a
+    // terminal is told if it isn't. That connection is kept, since the server may take no other one, and nothing is sent over
+    // it before.
+    fn await_time<S: Source>(
+        &mut self,
+        address: SocketAddrV4,
+        controller: &Controller<Rest<S>>,
+    ) -> Option<R::Stream> {
+        let early = if self.hand.awaits_start() {
+            self.connect_early(address)
+        } else {
             None
+        };
+        self.hand.await_lead(controller);
+        match early {
+            Some(stream) if is_open(&stream) => Some(stream),
+            _ => None,
+        }
+    }
+
+    // Connects before it is time; a terminal is told why not.
+    fn connect_early(&self, address: SocketAddrV4) -> Option<R::Stream> {
+        match connect(self.rt, address, CONNECTING) {
+            Ok(stream) => Some(stream),
+            Err(error) => {
+                let text = format_args!(
+                    "  the server isn't there yet: {address}: {error}; it is asked again at the start"
+                );
+                if self.is_terminal() {
+                    self.log.tell_fault(&text);
+                } else {
+                    self.log.tell(&text);
+                }
+                None
+            }
         }
     }
 }
 
-fn tell_absent<V: io::Write>(address: SocketAddrV4, error: io::Error, told: &mut V) {
-    // (that it can't be told keeps no run from its start)
-    let _ = writeln!(
-        told,
-        "  the server isn't there yet: {address}: {error}; it is asked again at the start"
-    );
-    let _ = told.flush();
+fn connect<R: Net>(rt: &R, address: SocketAddrV4, seconds: u64) -> io::Result<R::Stream> {
+    rt.connect_timeout(SocketAddr::V4(address), Duration::from_secs(seconds))
 }
 
 // Whether the other end hasn't closed a connection over which nothing was sent.

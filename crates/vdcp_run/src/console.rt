@@ -2,15 +2,18 @@
 ghost use Rattle.std.specs.Prelude.{◌≡◌};
 ghost use Rattle.vdcp_run.specs.Run.{HasAsrun, IsEndBy};
 
+use crate::lack::Lack;
 use crate::run_end::{LineEnd, RunEnd, ended};
 use crate::settings::RunSettings;
 use crate::stalling::Stalling;
-use std::io;
+use crate::staying::later_of;
 use std::rt::{Clock, Files};
+use std::{fmt, io};
 use vdcp_auto::{Controller, Heard, Phase, Source};
 use vdcp_list::Rest;
 use vdcp_log::Log;
 use vdcp_operator::{Hand, Progress};
+use vdcp_text::Failure;
 
 /// Erases a line of a terminal.
 const ERASE: &'static str = "\r\x1b[K";
@@ -85,9 +88,8 @@ impl<
     {
         if self.stalling.look(controller) {
             let event = controller.source().from();
-            let erases = if self.progress.is_some() { ERASE } else { "" };
-            self.log.tell_fault(&format_args!(
-                "{erases}vdcp: event {event} is still being cued: if frames pass at the server's silences, serve with --real-time, or run with a longer --poll"
+            self.tell(&format_args!(
+                "event {event} is still being cued: if frames pass at the server's silences, serve with --real-time, or run with a longer --poll"
             ));
         }
         if let Some(progress) = &mut self.progress {
@@ -95,23 +97,56 @@ impl<
         }
     }
 
-    /// How the run has ended, by its controller and its line. Its as-run file is made, and the end is shown.
+    /// Tells that a run that came to this end tries again.
+    pub fn tell_again(&self, end: &Result<RunEnd<'_>, Failure<'_>>) {
+        let failure = match end {
+            Ok(end) => end.line.failure(),
+            Err(_) => None,
+        };
+        match failure {
+            Some(failure) => self.tell(&format_args!("{failure}: connecting again")),
+            None => self.tell(&"lost: connecting again"),
+        }
+    }
+
+    /// Tells a line, in place of the progress line.
+    pub fn tell<T: fmt::Display>(&self, line: &T) {
+        let erases = self.erases();
+        self.log.tell_fault(&format_args!("{erases}vdcp: {line}"));
+    }
+
+    // What erases the progress line, if there is one.
+    fn erases(&self) -> &'static str {
+        if self.is_terminal() { ERASE } else { "" }
+    }
+
+    /// A terminal shows the run.
+    pub fn is_terminal(&self) -> bool {
+        self.progress.is_some()
+    }
+
+    /// How the run has ended, by its controller, its line, why its journal isn't whole, and how many turns are left. Unless
+    /// it tries again, its as-run file is made, and the end is shown.
     pub fn end<'a, S: Source>(
-        mut self,
+        &mut self,
         controller: &Controller<Rest<S>>,
         line: LineEnd,
+        unkept: Option<Lack<'a>>,
+        left: u32,
         settings: RunSettings<'a>,
     ) -> RunEnd<'a>
         ensures of_controller { IsEndBy controller.now result }
         ensures line { result.line ≡ line }
         ensures asrun { HasAsrun settings.entry (S.items controller.now.source.source) result }
-        ensures kept { result.unkept ≡ None }
+        ensures kept { result.unkept ≡ unkept.entry }
     {
-        if let Some(progress) = &mut self.progress {
-            progress.clear();
+        let end = ended(self.rt, controller, line, unkept, left, settings);
+        if later_of(&end, settings).is_none() {
+            if let Some(progress) = &mut self.progress {
+                progress.clear();
+            }
+            self.hand.show_end(controller, end.told_outcome());
         }
-        let end = ended(self.rt, controller, line, settings);
-        self.hand.show_end(controller, end.told_outcome());
         end
     }
 }

@@ -1,5 +1,5 @@
-//! The law of what is asked before a list's own commands. The function does nothing.
-ghost use Rattle.std.specs.Prelude.{◌≡◌, ℕ, Bool, Result, Some};
+//! The laws of what is asked before a list's own commands, and of the tries of a run. The functions do nothing.
+ghost use Rattle.std.specs.Prelude.{◌≡◌, ℕ, Bool, List, Result, Some, false};
 ghost use Rattle.vdcp_drive.specs.Auto.{Auto};
 ghost use Rattle.vdcp_drive.specs.Leaves.{HasRun, steps_in};
 ghost use Rattle.vdcp_drive.specs.Steps.{World};
@@ -7,6 +7,9 @@ ghost use Rattle.vdcp_drive.specs.Traces.{commands_kept, kept_in};
 ghost use Rattle.vdcp_drive.specs.declared.hooks.BrokenOff.{BrokenOff};
 ghost use Rattle.vdcp_drive.specs.declared.line.Ran.{Ran};
 ghost use Rattle.vdcp_run.specs.Asking.{AreAsked, Asker, Inquiring, Start, asker_of, asking};
+ghost use Rattle.vdcp_run.specs.Run.{IsTry};
+ghost use Rattle.vdcp_run.specs.declared.settings.RunSettings.{RunSettings};
+ghost use Rattle.vdcp_value.specs.declared.part.Item.{Item};
 
 use vdcp_drive::{Ear, Wire};
 
@@ -18,4 +21,10 @@ pub fn only_questions_are_asked<E: Ear, W: Wire>()
         (answer : Result Ran BrokenOff) → asker_of ask start ≡ Some asker → a.state ≡ asker.state →
         (h : HasRun (asking W.does asker.plan) E.fold asker.plan unit count a a' old new answer) →
         AreAsked start (commands_kept (kept_in (steps_in h.run))) }
+{}
+
+/// A run that doesn't stay makes one try: with the settings that it has.
+pub fn a_run_makes_one_try()
+    ensures { (settings last : RunSettings) (items : List Item) → settings.stay ≡ false → IsTry settings items last
+        → last ≡ settings }
 {}

@@ -7,7 +7,7 @@ use std::fs::{self, File, OpenFile, OpenOptions};
 use std::io::{self, ErrorKind};
 use std::rt::Files;
 use vdcp_files::is_same_file;
-use vdcp_log::Telling;
+use vdcp_log::Log;
 use vdcp_text::{Failure, NameText};
 
 const MOST_NAMES: u32 = 100;
@@ -94,32 +94,18 @@ pub fn test_place<'a, R: Files + AllocGlobal>(
 
 /// Warns, before anything is sent, that the as-run file of a run without a journal can't be made now. The run goes on,
 /// since it may be otherwise at its end.
-pub fn tell_place<R: Files + AllocGlobal, V: io::Write>(
+pub fn tell_place<R: Files + AllocGlobal, V: io::Write + Drop>(
     rt: &R,
     settings: RunSettings<'_>,
-    telling: &mut Telling<V>,
+    log: &Log<V>,
 ) {
     let (Some(name), None) = (settings.asrun, settings.journal) else {
         return;
     };
-    let Err(error) = try_place(rt, name) else {
-        return;
-    };
-    match telling {
-        Telling::Nothing => {}
-        Telling::Faults(told) => tell_unmade(name, error, told),
-        Telling::All(told) => tell_unmade(name, error, told),
+    if let Err(error) = try_place(rt, name) {
+        let name = NameText(name);
+        log.tell_fault(&format_args!("  no as-run file can be made of this run: {name}: {error}"));
     }
-}
-
-fn tell_unmade<V: io::Write>(name: &str, error: io::Error, told: &mut V) {
-    // (that it can't be told keeps no run from its list)
-    let _ = writeln!(
-        told,
-        "  no as-run file can be made of this run: {}: {error}",
-        NameText(name)
-    );
-    let _ = told.flush();
 }
 
 pub fn not_made<'a>(error: &io::Error, name: &'a str) -> Failure<'a>

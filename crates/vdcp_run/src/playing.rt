@@ -13,6 +13,8 @@ use vdcp_words::Command;
 pub struct Playing<'a, 'r, 'l, R: Clock, F: Disk, I: io::Read, O: io::Write, V: io::Write> {
     pub recorder: Option<Recorder<'a, 'r, R, F>>,
     pub console: Console<'r, 'l, R, I, O, V>,
+    /// How many turns may still be made.
+    pub left: u32,
 }
 
 impl<
@@ -39,6 +41,7 @@ impl<
     ghost loses = { MayLose (Loses F.safe) };
 
     fn due(&mut self, controller: &Controller<Rest<S>>) -> Next {
+        self.left = self.left.saturating_sub(1);
         match self.console.hand.call(controller) {
             Some(call) => Next::Call(call),
             None => Next::GoOn,

@@ -1,26 +1,29 @@
 //! The subcommand `run`: its files, one session, and the report.
 ghost use Rattle.std.specs.Io.KnownBytes.{Appends, Keeps};
-ghost use Rattle.std.specs.Prelude.{◌≡◌, ◌⊎◌, ◌≤◌, IfErr, IfOk, IfSome, List, OnOk, length, ℕ};
+ghost use Rattle.std.specs.Prelude.{◌≡◌, ◌⊎◌, ◌<◌, ◌≤◌, IfErr, IfOk, IfSome, List, OnOk, length, ℕ};
 ghost use Rattle.vdcp_files.specs.Files.{IsWholeList, file};
 ghost use Rattle.vdcp_list.specs.List.{items_of};
 ghost use Rattle.vdcp_list.specs.Playlists.{IsListOf};
 ghost use Rattle.vdcp_run.specs.Advice.{IsMissing};
-ghost use Rattle.vdcp_run.specs.Run.{IsApart, IsEventRefused, IsListRefused, IsNoEvent, IsNotBegun, IsOverList, IsPlayed, IsRun, IsRunRefused, IsUnplayed, first_event, told_of_list, unbegun_journal};
+ghost use Rattle.vdcp_run.specs.Run.{IsApart, IsEventRefused, IsLastTry, IsListRefused, IsNoEvent, IsNotBegun, IsOverList, IsPlayed, IsRun, IsRunRefused, IsTried, IsUnplayed, IsUntried, IsUntriedIn, first_event, later_after, told_of_list, unbegun_journal};
 ghost use Rattle.vdcp_text.specs.Failure.{failure_line};
 ghost use Rattle.vdcp_wire.specs.Address.{IsAddress};
 
 use crate::advice::{Advice, Seen};
 use crate::begin::begin;
+use crate::console::Console;
 use crate::place::{Apart, tell_place};
 use crate::run_end::RunEnd;
 use crate::session::Session;
 use crate::settings::{RunJournal, RunSettings, Showing};
+use crate::staying::{Pace, later_of};
 use std::fs::{self, File};
 use std::io;
-use std::net::Net;
+use std::net::{Net, SocketAddrV4};
 use std::rt::{Clock, Files};
 use vdcp_auto::{Outcome, Source};
 use vdcp_files::NamedFile;
+use vdcp_log::{Log, Side};
 use vdcp_operator::Hand;
 use vdcp_text::{Failure, JournalFault};
 use vdcp_value::ClipId;
@@ -110,13 +113,7 @@ pub fn do_run<
     ensures statuses { result ≤ 3 }
 {
     let mut seen = Seen::new();
-    let session = Session {
-        rt,
-        settings,
-        showing,
-        hand,
-    };
-    match session.run_list(address, list, &mut seen) {
+    match run_shown(rt, address, list, settings, showing, hand, &mut seen) {
         Ok(end) => {
             *advice = Advice::of_end(&end, settings.journal, seen);
             end.tell(out, err).unwrap_or(3)
@@ -128,50 +125,156 @@ pub fn do_run<
     }
 }
 
-impl<
+// Runs a session in which this is shown, and the hand has a part. `seen` gets what was seen of the run.
+fn run_shown<
     'a,
     'r,
+    R: Net + Files<File = File> + Clock + AllocGlobal,
+    L: io::Read + Drop,
+    V: io::Write + Drop,
+    I: io::Read + Drop,
+    O: io::Write + Drop,
+>(
+    rt: &'r R,
+    address: &str,
+    list: NamedFile<'a, L>,
+    settings: RunSettings<'a>,
+    showing: Showing<V>,
+    hand: Hand<'r, R, I, O>,
+    seen: &mut Seen,
+) -> Result<RunEnd<'a>, Failure<'a>>
+    requires unit { settings.unit ≤ 15 }
+    requires some { 1 ≤ settings.limit }
+    requires few { settings.limit ≤ 1000 }
+    ensures address { OnOk result (IsAddress address.now) }
+    ensures whole { OnOk result (IsWholeList settings.entry.rate (file list.entry.name (L.remaining list.entry.reader))) }
+    ensures played { IfOk result (IsPlayed settings.entry (file list.entry.name (L.remaining list.entry.reader))) }
+    ensures unplayed { IfErr result (IsUnplayed settings.entry address.now
+        (file list.entry.name (L.remaining list.entry.reader))) }
+{
+    let Showing {
+        terminal,
+        telling,
+        capture,
+    } = showing;
+    let log = Log::new(telling, capture, Side::Automation);
+    let session = Session {
+        console: Console::new(rt, hand, terminal, &log, settings),
+        pace: Pace::new(rt),
+    };
+    session.run_list(address, list, settings, seen)
+}
+
+impl<
+    'r,
+    'l,
     R: Net + Files<File = File> + Clock + AllocGlobal,
     I: io::Read + Drop,
     O: io::Write + Drop,
     V: io::Write + Drop,
-> Session<'a, 'r, R, I, O, V> {
-    // Reads the list, connects, plays the list, and writes what is reported of it. `seen` gets what was seen of the run.
-    fn run_list<L: io::Read + Drop>(
-        mut self,
+> Session<'r, 'l, R, I, O, V> {
+    // Reads the list, connects, plays the list, and writes what is reported of it.
+    fn run_list<'a, L: io::Read + Drop>(
+        self,
         address: &str,
         list: NamedFile<'a, L>,
+        settings: RunSettings<'a>,
         seen: &mut Seen,
     ) -> Result<RunEnd<'a>, Failure<'a>>
-        requires unit { self.settings.unit ≤ 15 }
-        requires some { 1 ≤ self.settings.limit }
-        requires few { self.settings.limit ≤ 1000 }
+        requires unit { settings.unit ≤ 15 }
+        requires some { 1 ≤ settings.limit }
+        requires few { settings.limit ≤ 1000 }
         ensures address { OnOk result (IsAddress address.now) }
-        ensures whole { OnOk result (IsWholeList self.entry.settings.rate
+        ensures whole { OnOk result (IsWholeList settings.entry.rate
             (file list.entry.name (L.remaining list.entry.reader))) }
-        ensures played { IfOk result (IsPlayed self.entry.settings
+        ensures played { IfOk result (IsPlayed settings.entry
             (file list.entry.name (L.remaining list.entry.reader))) }
-        ensures unplayed { IfErr result (IsUnplayed self.entry.settings address.now
+        ensures unplayed { IfErr result (IsUnplayed settings.entry address.now
             (file list.entry.name (L.remaining list.entry.reader))) }
     {
         let Ok(address) = address_of(address) else {
             return Err(Failure::Address);
         };
-        let (rt, name, settings) = (self.rt, list.name, self.settings);
+        let (rt, name) = (self.console.rt, list.name);
         let (events, _) = read_events(rt, list, settings)?;
-        let begun = match begin(rt, &events, settings) {
-            Ok((begun, _)) => begun,
-            Err(failure) => return Err(told_of_list(name, failure)),
-        };
-        tell_place(rt, settings, &mut self.showing.telling);
-        let end = self.play_at(address, begun, seen);
-        if let Ok(end) = &end {
-            seen.missing = missing_clip(&events, end.told_outcome());
+        tell_place(rt, settings, self.console.log);
+        match self.play_events(address, &events, settings, seen) {
+            Ok(end) => {
+                seen.missing = missing_clip(&events, end.told_outcome());
+                Ok(end)
+            }
+            Err(failure) => Err(told_of_list(name, failure)),
         }
+    }
+
+    // Plays these events, and tries again while a run that stays ends by its line.
+    fn play_events<'a>(
+        self,
+        address: SocketAddrV4,
+        events: &vdcp_list::List,
+        settings: RunSettings<'a>,
+        seen: &mut Seen,
+    ) -> Result<RunEnd<'a>, Failure<'a>>
+        requires unit { settings.unit ≤ 15 }
+        requires some { 1 ≤ settings.limit }
+        requires few { settings.limit ≤ 1000 }
+        requires listed { first_event settings.from ≤ length (items_of events.now) }
+        ensures played { IfOk result (IsLastTry settings.entry (items_of events.now)) }
+        ensures untried { IfErr result (IsUntriedIn settings.entry (items_of events.now)) }
+    {
+        let mut settings = settings;
+        let (mut end, mut session) = self.try_events(address, events, settings, seen);
+        'tries: while let Some(later) = later_after(&end, settings) {
+            session.console.tell_again(&end);
+            settings = later;
+            let (next, rest) = session.try_events(address, events, settings, seen);
+            end = next;
+            session = rest;
+        }
+        end
+    }
+
+    // Plays these events once, by what the journal says, if it is an older one, and hands the session back.
+    fn try_events<'a>(
+        self,
+        address: SocketAddrV4,
+        events: &vdcp_list::List,
+        settings: RunSettings<'a>,
+        seen: &mut Seen,
+    ) -> (Result<RunEnd<'a>, Failure<'a>>, Self)
+        requires unit { settings.unit ≤ 15 }
+        requires some { 1 ≤ settings.limit }
+        requires few { settings.limit ≤ 1000 }
+        requires listed { first_event settings.from ≤ length (items_of events.now) }
+        ensures played { IfOk result.0 (IsTried settings.entry (items_of events.now)) }
+        ensures untried { IfErr result.0 (IsUntried settings.entry (items_of events.now)) }
+    {
+        let rt = self.console.rt;
+        let begun = match begin(rt, events, settings) {
+            Ok((begun, _)) => begun,
+            Err(failure) => return (Err(failure), self),
+        };
+        let (end, session) = self.play_at(address, begun, settings, seen);
         if let Some(name) = unbegun_journal(&end, settings.journal) {
             let _ = fs::remove_file(rt, name);
         }
-        end
+        (end, session)
+    }
+}
+
+// The settings with which a run tries again that had these, and came to this, if it does.
+fn later_after<'a>(
+    end: &Result<RunEnd<'_>, Failure<'_>>,
+    settings: RunSettings<'a>,
+) -> Option<RunSettings<'a>>
+    ensures later { result ≡ later_after settings.entry end.now }
+    ensures same { IfSome result (λ later. (later.unit ≡ settings.entry.unit) × (later.limit ≡ settings.entry.limit)
+        × (later.from ≡ settings.entry.from)) }
+    ensures fewer { IfSome result (λ later. later.listens < settings.entry.listens) }
+{
+    match end {
+        Ok(end) => later_of(end, settings),
+        Err(_) => None,
     }
 }
 

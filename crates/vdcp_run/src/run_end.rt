@@ -1,14 +1,15 @@
 //! How a run ended, what is printed of that, and its exit status.
 ghost use Rattle.std.specs.Io.KnownBytes.{Appends};
-ghost use Rattle.std.specs.Prelude.{◌≡◌, IfOk, None, OnOk};
+ghost use Rattle.std.specs.Prelude.{◌≡◌, IfOk, OnOk};
 ghost use Rattle.vdcp_run.specs.Ends.{line_end_of};
-ghost use Rattle.vdcp_run.specs.Run.{HasAsrun, IsEndBy, asrun_failure, end_text, fault_text, faults_text, lack_text, line_failure, run_status, told_outcome};
+ghost use Rattle.vdcp_run.specs.Run.{HasAsrun, IsEndBy, asrun_failure, end_text, fault_text, faults_text, is_by_line, lack_text, line_failure, run_status, told_outcome};
 
 use crate::asrun::save_asrun;
 use crate::in_list::{outcome_in_list, reported_in_list};
 use crate::lack::Lack;
 use crate::saved::SavedText;
 use crate::settings::RunSettings;
+use crate::staying::later_of;
 use std::io;
 use std::rt::Files;
 use vdcp_auto::{Controller, Outcome, Source};
@@ -49,7 +50,8 @@ impl LineEnd {
         }
     }
 
-    fn failure(self) -> Option<Failure<'static>>
+    /// The failure to report of the line itself.
+    pub fn failure(self) -> Option<Failure<'static>>
         ensures { result ≡ line_failure self }
     {
         match self {
@@ -76,6 +78,8 @@ pub struct RunEnd<'a> {
     /// None if no as-run file is wanted.
     pub asrun: Option<Result<SavedText<'a>, Failure<'a>>>,
     pub unkept: Option<Lack<'a>>,
+    /// How many turns were left then; none if the controller had ended before.
+    pub left: u32,
 }
 
 impl<'a> RunEnd<'a> {
@@ -115,6 +119,17 @@ impl<'a> RunEnd<'a> {
             | LineEnd::Failed
             | LineEnd::Unkept
             | LineEnd::Occupied => self.outcome,
+        }
+    }
+
+    /// Whether it ended by its line: this closed or failed, or the controller was lost.
+    pub fn is_by_line(&self) -> bool
+        ensures { result ≡ is_by_line self.now.line (told_outcome self.now.line self.now.outcome) }
+    {
+        match (self.line, self.told_outcome()) {
+            (_, Some(Outcome::Lost)) => true,
+            (LineEnd::Closed | LineEnd::Failed, None) => true,
+            _ => false,
         }
     }
 
@@ -174,25 +189,35 @@ fn write_lack<E: io::Write>(unkept: Option<Lack<'_>>, err: &mut E) -> io::Result
     }
 }
 
-/// Makes the as-run file, and gives the end of the run.
+/// Makes the as-run file, unless the run tries again, and gives its end.
 pub fn ended<'a, R: Files + AllocGlobal, S: Source>(
     rt: &R,
     controller: &Controller<Rest<S>>,
     line: LineEnd,
+    unkept: Option<Lack<'a>>,
+    left: u32,
     settings: RunSettings<'a>,
 ) -> RunEnd<'a>
     ensures of_controller { IsEndBy controller.now result }
     ensures line { result.line ≡ line }
     ensures asrun { HasAsrun settings.entry (S.items controller.now.source.source) result }
-    ensures kept { result.unkept ≡ None }
+    ensures kept { result.unkept ≡ unkept.entry }
 {
     let from = controller.source().from();
-    RunEnd {
+    let end = RunEnd {
         from,
         outcome: outcome_in_list(from, controller.outcome()),
         reported: reported_in_list(controller),
         line,
-        asrun: save_asrun(rt, controller, line, settings),
-        unkept: None,
+        asrun: None,
+        unkept,
+        left,
+    };
+    match later_of(&end, settings) {
+        Some(_) => end,
+        None => RunEnd {
+            asrun: save_asrun(rt, controller, line, settings),
+            ..end
+        },
     }
 }

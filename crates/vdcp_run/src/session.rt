@@ -8,12 +8,12 @@ ghost use Rattle.vdcp_run.specs.Session.{HasSession, HasTried, IsClosed, Plays, 
 use crate::advice::Seen;
 use crate::asking::Asked;
 use crate::before::events_before;
-use crate::connecting::connect_in_time;
 use crate::console::Console;
 use crate::lack::Lack;
 use crate::playing::Playing;
-use crate::run_end::{LineEnd, RunEnd, ended};
-use crate::settings::{RunSettings, Showing};
+use crate::run_end::{LineEnd, RunEnd};
+use crate::settings::RunSettings;
+use crate::staying::Pace;
 use std::fs::File;
 use std::io;
 use std::net::{Net, SocketAddrV4};
@@ -23,73 +23,90 @@ use vdcp_auto::{Controller, Outcome, Source};
 use vdcp_drive::{AtOnce, AtSilences, Driver, Ear, Hearing};
 use vdcp_journal_file::{Disk, RecordFault, Recorder, Resumption};
 use vdcp_list::Rest;
-use vdcp_log::{Log, Logged, Side};
-use vdcp_operator::Hand;
+use vdcp_log::Logged;
 use vdcp_text::Failure;
 use vdcp_wire::{StreamWire, Wire};
 
-/// What a session is made of before it begins.
+/// What a list is played with, over one connection or several.
 #[derive(Drop)]
-pub struct Session<'a, 'r, R: Clock, I: io::Read, O: io::Write, V> {
-    pub rt: &'r R,
-    pub settings: RunSettings<'a>,
-    pub showing: Showing<V>,
-    pub hand: Hand<'r, R, I, O>,
+pub struct Session<'r, 'l, R: Clock, I: io::Read, O: io::Write, V: io::Write> {
+    pub console: Console<'r, 'l, R, I, O, V>,
+    /// When a run that stays connects.
+    pub pace: Pace<'r, R>,
 }
 
 impl<
-    'a,
     'r,
+    'l,
     R: Net + Files<File = File> + Clock + AllocGlobal,
     I: io::Read + Drop,
     O: io::Write + Drop,
     V: io::Write + Drop,
-> Session<'a, 'r, R, I, O, V> {
+> Session<'r, 'l, R, I, O, V> {
     /// Connects, and plays a list with what its run begins with. If the controller has ended already nothing is sent. `seen`
-    /// gets what was seen of that.
-    /// The failure is `Connect` if nobody takes the connection in time, and `NotEmpty` if the port is asked and isn't
-    /// empty.
-    pub fn play_at<S: Source + Copy>(
+    /// gets what was seen of that, and the session is handed back.
+    /// The failure is `Connect` if nobody takes the connection in time, and the run doesn't stay, and `NotEmpty` if the port
+    /// is asked and isn't empty.
+    pub fn play_at<'a, S: Source + Copy>(
         self,
         address: SocketAddrV4,
         begun: Resumption<'a, 'r, R, S>,
+        settings: RunSettings<'a>,
         seen: &mut Seen,
-    ) -> Result<RunEnd<'a>, Failure<'a>>
-        requires unit { self.settings.unit ≤ 15 }
-        requires some { 1 ≤ self.settings.limit }
-        ensures session { IfOk result (HasSession (λ _. None) self.entry.settings
+    ) -> (Result<RunEnd<'a>, Failure<'a>>, Self)
+        requires unit { settings.unit ≤ 15 }
+        requires some { 1 ≤ settings.limit }
+        ensures session { IfOk result.0 (HasSession (λ _. None) settings.entry
             (start_of S.items begun.entry.controller) begun.entry.recorder) }
-        ensures end { IfOk result (EndsRun self.entry.settings (journal_of begun.entry.recorder) S.items
+        ensures end { IfOk result.0 (EndsRun settings.entry (journal_of begun.entry.recorder) S.items
             begun.entry.controller) }
-        ensures refused { IfErr result (λ failure. (failure ≡ Failure.Connect) ⊎ (failure ≡ Failure.NotEmpty)) }
+        ensures refused { IfErr result.0 (λ failure. (failure ≡ Failure.Connect) ⊎ (failure ≡ Failure.NotEmpty)) }
     {
         let Session {
-            rt,
-            settings,
-            mut showing,
-            mut hand,
+            mut console,
+            mut pace,
         } = self;
         let Resumption {
             controller,
             recorder,
             runs,
         } = begun;
+        let rt = console.rt;
         if controller.outcome().is_some() {
-            return Ok(ended(rt, &controller, LineEnd::Unneeded, settings));
+            // (no turn is left to a controller that goes on from there once more)
+            let end = console.end(&controller, LineEnd::Unneeded, None, 0, settings);
+            return (Ok(end), Session { console, pace });
         }
-        hand.set_before(events_before(rt.alloc(), runs.as_slice(), &controller));
-        let Some(stream) = connect_in_time(rt, address, &controller, &mut showing, &mut hand) else {
-            return Err(Failure::Connect);
+        console
+            .hand
+            .set_before(events_before(rt.alloc(), runs.as_slice(), &controller));
+        let stream = if settings.stay {
+            match console.connect_staying(address, &controller, &mut pace) {
+                Some(stream) => stream,
+                None => {
+                    let left = settings.listens;
+                    let end = console.end(&controller, LineEnd::Stopped, None, left, settings);
+                    return (Ok(end), Session { console, pace });
+                }
+            }
+        } else {
+            match console.connect_in_time(address, &controller) {
+                Some(stream) => stream,
+                None => return (Err(Failure::Connect), Session { console, pace }),
+            }
         };
         let wire = StreamWire::with_limit(stream, silence_of(settings), limit_of(settings), rt);
-        let log = Log::new(showing.telling, showing.capture, Side::Automation);
-        let console = Console::new(rt, hand, showing.terminal, &log, settings);
-        let playing = Playing { recorder, console };
-        let end = playing.play_over(controller, wire, settings, seen);
+        let playing = Playing {
+            recorder,
+            console,
+            left: settings.listens,
+        };
+        let (end, console) = playing.play_over(controller, wire, settings, seen);
+        let session = Session { console, pace };
         if end.line == LineEnd::Occupied {
-            return Err(Failure::NotEmpty);
+            return (Err(Failure::NotEmpty), session);
         }
-        Ok(end)
+        (Ok(end), session)
     }
 }
 
@@ -129,23 +146,29 @@ impl<
         wire: io::Result<W>,
         settings: RunSettings<'a>,
         seen: &mut Seen,
-    ) -> RunEnd<'a>
+    ) -> (RunEnd<'a>, Console<'r, 'l, R, I, O, V>)
         requires unit { settings.unit ≤ 15 }
         requires some { 1 ≤ settings.limit }
         requires works { IfOk wire (λ w. W.failures w ≡ 0) }
-        ensures failed { OnErr wire (result.line ≡ LineEnd.Failed) }
+        ensures failed { OnErr wire (result.0.line ≡ LineEnd.Failed) }
         ensures session { IfOk wire (λ w. TriesOver W.does F.safe settings.entry
-            (start_of S.items controller) w self.entry.recorder result) }
-        ensures end { EndsRun settings.entry (journal_of self.entry.recorder) S.items controller result }
+            (start_of S.items controller) w self.entry.recorder result.0) }
+        ensures end { EndsRun settings.entry (journal_of self.entry.recorder) S.items controller result.0 }
     {
         let Ok(wire) = wire else {
-            return self.console.end(&controller, LineEnd::Failed, settings);
+            let Playing {
+                mut console,
+                left,
+                ..
+            } = self;
+            let end = console.end(&controller, LineEnd::Failed, None, left, settings);
+            return (end, console);
         };
         let log = self.console.log;
         let wire = Logged::new(wire, log, settings.hearing);
-        let end = self.play_by(controller, wire, settings, seen);
+        let played = self.play_by(controller, wire, settings, seen);
         seen.came = log.has_heard();
-        end
+        played
     }
 
     // Plays a list over a wire, by a new ear.
@@ -155,12 +178,12 @@ impl<
         wire: W,
         settings: RunSettings<'a>,
         seen: &mut Seen,
-    ) -> RunEnd<'a>
+    ) -> (RunEnd<'a>, Console<'r, 'l, R, I, O, V>)
         requires unit { settings.unit ≤ 15 }
         requires works { W.failures wire ≡ 0 }
         ensures session { TriesOver W.does F.safe settings.entry (start_of S.items controller) wire self.entry.recorder
-            result }
-        ensures end { EndsRun settings.entry (journal_of self.entry.recorder) S.items controller result }
+            result.0 }
+        ensures end { EndsRun settings.entry (journal_of self.entry.recorder) S.items controller result.0 }
     {
         match settings.hearing {
             Hearing::AtSilences => {
@@ -178,57 +201,62 @@ impl<
         wire: W,
         settings: RunSettings<'a>,
         seen: &mut Seen,
-    ) -> RunEnd<'a>
+    ) -> (RunEnd<'a>, Console<'r, 'l, R, I, O, V>)
         requires unit { settings.unit ≤ 15 }
         requires works { W.failures wire ≡ 0 }
         ensures session { HasTried W.does F.safe E.fold settings.entry (start_of S.items controller) ear
-            (over wire self.entry.recorder) result }
-        ensures end { EndsRun settings.entry (journal_of self.entry.recorder) S.items controller result }
+            (over wire self.entry.recorder) result.0 }
+        ensures end { EndsRun settings.entry (journal_of self.entry.recorder) S.items controller result.0 }
     {
-        let Playing { recorder, console } = self;
+        let Playing {
+            recorder,
+            console,
+            ..
+        } = self;
         let Asked {
             line,
             ear,
             wire,
-            console,
+            mut console,
             left,
         } = console.ask_first(&controller, ear, wire, settings);
         if let Some(line) = line {
-            return console.end(&controller, line, settings);
+            let end = console.end(&controller, line, None, left, settings);
+            return (end, console);
         }
-        let playing = Playing { recorder, console };
-        let rest = RunSettings {
-            listens: left,
-            ..settings
+        let playing = Playing {
+            recorder,
+            console,
+            left,
         };
         let driver = Driver::with_ear(controller, settings.unit, ear, wire);
-        playing.play(driver, rest, seen)
+        playing.play(driver, left, settings, seen)
     }
 
-    // Runs an automation, and ends its journal.
+    // Runs an automation for this many turns at most, and ends its journal.
     fn play<S: Source + Copy, E: Ear + Drop, W: Wire + Drop>(
         mut self,
         mut driver: Driver<Rest<S>, E, W>,
+        turns: u32,
         settings: RunSettings<'a>,
         seen: &mut Seen,
-    ) -> RunEnd<'a>
+    ) -> (RunEnd<'a>, Console<'r, 'l, R, I, O, V>)
         requires works { W.failures driver.wire ≡ 0 }
-        ensures plays { Plays W.does F.safe E.fold driver.ear driver.unit settings.entry.listens
-            (start_of S.items driver.controller) (over driver.wire self.entry.recorder) result }
-        ensures end { EndsRun settings.entry (journal_of self.entry.recorder) S.items driver.controller result }
+        ensures plays { Plays W.does F.safe E.fold driver.ear driver.unit turns
+            (start_of S.items driver.controller) (over driver.wire self.entry.recorder) result.0 }
+        ensures end { EndsRun settings.entry (journal_of self.entry.recorder) S.items driver.controller result.0 }
     {
-        let ran = driver.run_with(u64::from(settings.listens), &mut self);
+        let ran = driver.run_with(u64::from(turns), &mut self);
         let line = LineEnd::of_run(ran);
         let Playing {
             mut recorder,
-            console,
+            mut console,
+            left,
         } = self;
         let unkept = close(&mut recorder, driver.controller().outcome(), line);
         seen.last = console.last();
-        RunEnd {
-            unkept,
-            ..console.end(driver.controller(), line, settings)
-        }
+        let end = console.end(driver.controller(), line, unkept, left, settings);
+        (end, console)
     }
 }
 

@@ -27,7 +27,7 @@ pub struct RunSettings<'a> {
     pub silence: u32,
     /// When answers are heard.
     pub hearing: Hearing,
-    /// The most turns that are made: listens, and calls.
+    /// The most turns that are made: listens, and calls, over all connections.
     pub listens: u32,
     /// The event of the list that a new controller begins with, if one is named; else it is the first one, 0.
     pub from: Option<usize>,
@@ -35,6 +35,8 @@ pub struct RunSettings<'a> {
     pub asrun: Option<&'a str>,
     /// The journal, if one is kept.
     pub journal: Option<RunJournal<'a>>,
+    /// A run with a journal doesn't end because its line does: it connects again, and goes on from there.
+    pub stay: bool,
 }
 
 /// The journal of a run, by the name of its file.

@@ -27,3 +27,7 @@ pub returns-in-Ok-clause-others : goal.returns-in-Ok-clause-others
 returns-in-Ok-clause-others g c = λ one. inl (
     ends.told_with 1 (omega arith) c.args.settings _ c.in-Ok.end c.tell.result _ _ _ _ c.in-Ok.ensures.played
     c.tell.ensures.lines c.tell.ensures.faults c.tell.ensures.status (sym c.unwrap_or.ensures ∙ one))
+
+pub returns-in-Ok-clause-no_address : goal.returns-in-Ok-clause-no_address
+returns-in-Ok-clause-no_address g c = λ two.
+    absurd (ends.told_not_2 c.in-Ok.end c.tell.result c.tell.ensures.status (sym c.unwrap_or.ensures ∙ two))

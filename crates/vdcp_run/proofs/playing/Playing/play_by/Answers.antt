@@ -8,16 +8,16 @@ pub returns-in-AtSilences-clause-session : goal.returns-in-AtSilences-clause-ses
 returns-in-AtSilences-clause-session g c =
     let start = start_of g.S.Source.items c.args.controller in
     let world = over c.args.wire c.args.self.recorder in
-    subst (λ hearing. TriesBy hearing g.W.Wire.does g.F.Disk.safe c.args.settings start world c.play_in_turn.result)
+    subst (λ hearing. TriesBy hearing g.W.Wire.does g.F.Disk.safe c.args.settings start world c.play_in_turn.result.0)
     (sym c.in-AtSilences.is)
-    (subst (λ ear. HasTried g.W.Wire.does g.F.Disk.safe ears.at_silences c.args.settings start ear world c.play_in_turn.result)
+    (subst (λ ear. HasTried g.W.Wire.does g.F.Disk.safe ears.at_silences c.args.settings start ear world c.play_in_turn.result.0)
     c.new.ensures c.play_in_turn.ensures.session)
 
 pub returns-in-AtOnce-clause-session : goal.returns-in-AtOnce-clause-session
 returns-in-AtOnce-clause-session g c =
     let start = start_of g.S.Source.items c.args.controller in
     let world = over c.args.wire c.args.self.recorder in
-    subst (λ hearing. TriesBy hearing g.W.Wire.does g.F.Disk.safe c.args.settings start world c.play_in_turn-in-AtOnce.result)
+    subst (λ hearing. TriesBy hearing g.W.Wire.does g.F.Disk.safe c.args.settings start world c.play_in_turn-in-AtOnce.result.0)
     (sym c.in-AtOnce.is)
     (subst (λ ear. HasTried g.W.Wire.does g.F.Disk.safe ears.at_once c.args.settings start ear world
-    c.play_in_turn-in-AtOnce.result) c.new-in-AtOnce.ensures c.play_in_turn-in-AtOnce.ensures.session)
+    c.play_in_turn-in-AtOnce.result.0) c.new-in-AtOnce.ensures c.play_in_turn-in-AtOnce.ensures.session)

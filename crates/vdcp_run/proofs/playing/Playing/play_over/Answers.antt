@@ -7,8 +7,8 @@ use Rattle.vdcp_run.specs.Session.{TriesOver}
 pub returns-clause-session : goal.returns-clause-session
 returns-clause-session g c =
     let start = start_of g.S.Source.items c.args.controller in
-    let end = c.play_by-end.result in
+    let end = c.play_by-played.result.0 in
     rw c.in-Ok.is
     (subst (λ w. TriesOver g.W.Wire.does g.F.Disk.safe c.args.settings start w c.args.self.recorder end) c.new-wire.ensures
     (tries_by_seen _ g.W.Wire.does (λ w. w.wire) (λ a old new h. h) g.F.Disk.safe c.args.settings.hearing c.args.settings start
-    (over c.new-wire.result c.args.self.recorder) end c.play_by-end.ensures.session))
+    (over c.new-wire.result c.args.self.recorder) end c.play_by-played.ensures.session))
