@@ -47,7 +47,7 @@ _vdcp() {
     ask:-) offers="--unit --rate --silence -h --help" ;;
     sim:-) offers="--unit --port --limit --rate --trace --cue-frames --confirm -h --help" ;;
     serve:-) offers="--unit --port --rate --cue-frames --silence --turns --real-time --stay --idle --panel --log --capture -h --help" ;;
-    run:-) offers="--unit --port --limit --rate --confirm --ask --silence --listens --prompt --poll --asrun --journal --resume --open-again --from --operator --at --panel --catalogue --name --log --capture -h --help" ;;
+    run:-) offers="--unit --port --limit --rate --confirm --ask --silence --listens --prompt --poll --asrun --journal --resume --open-again --from --stay --operator --at --panel --catalogue --name --log --capture -h --help" ;;
     asrun:-) offers="--rate --times -h --help" ;;
     judge:-) offers="--unit --rate --confirm -h --help" ;;
     probe:-) offers="--yes-it-may-stop --only --unit --port --rate --silence -h --help" ;;

@@ -196,6 +196,7 @@ fn run_settings_of<'a>(matches: &'a ArgMatches<'_>) -> RunSettings<'a>
         from: from_of(matches),
         asrun: matches.get_str("asrun"),
         journal: journal_of(matches),
+        stay: matches.get_flag("stay"),
     }
 }
 

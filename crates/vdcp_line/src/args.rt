@@ -63,8 +63,10 @@ enum Argument {
     Rate,
     Poll,
     Only,
+    Journal,
     Resume,
     OpenAgain,
+    Stay,
 }
 
 const LIST: Argument = Argument::Required("LIST", "The playlist's file");
@@ -205,14 +207,11 @@ static RUN: Subcommand = Subcommand {
             "FILE",
             "Makes this file at the end, with the as-run list; an older one of other bytes stays as FILE.~N~",
         ),
-        Argument::Value(
-            "journal",
-            "FILE",
-            "Makes this file, and keeps each command there before it is sent",
-        ),
+        Argument::Journal,
         Argument::Resume,
         Argument::OpenAgain,
         Argument::Number(&FROM),
+        Argument::Stay,
         Argument::Flag(
             "operator",
             "Reads calls from standard input, a line each: take, stop",
@@ -406,8 +405,10 @@ fn argument_of<'a>(alloc: Global, argument: &Argument) -> Result<Arg<'a>, AllocE
         Argument::Rate => Ok(rate_option(alloc)),
         Argument::Poll => poll_option(alloc),
         Argument::Only => Ok(only(alloc)),
+        Argument::Journal => journal(alloc),
         Argument::Resume => resume(alloc),
         Argument::OpenAgain => open_again(alloc),
+        Argument::Stay => stay(alloc),
     }
 }
 
@@ -433,6 +434,19 @@ fn only<'a>(alloc: Global) -> Arg<'a> {
         .help("Puts only the rows that can falsify no as-run list, or only the others")
 }
 
+// The group of the options that name a journal.
+const KEPT: &str = "kept";
+
+fn journal<'a>(alloc: Global) -> Result<Arg<'a>, AllocError> {
+    option(
+        alloc,
+        "journal",
+        "FILE",
+        "Makes this file, and keeps each command there before it is sent",
+    )
+    .group(KEPT)
+}
+
 fn resume<'a>(alloc: Global) -> Result<Arg<'a>, AllocError> {
     option(
         alloc,
@@ -440,7 +454,17 @@ fn resume<'a>(alloc: Global) -> Result<Arg<'a>, AllocError> {
         "FILE",
         "Goes on with a run that was killed or lost, from its journal",
     )
+    .group(KEPT)?
     .conflicts_with("journal")
+}
+
+fn stay<'a>(alloc: Global) -> Result<Arg<'a>, AllocError> {
+    flag(
+        alloc,
+        "stay",
+        "With a journal, doesn't end because the line does: connects again, and goes on from there",
+    )
+    .requires_arg(KEPT)
 }
 
 fn open_again<'a>(alloc: Global) -> Result<Arg<'a>, AllocError> {
