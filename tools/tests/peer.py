@@ -10,8 +10,8 @@ import sys
 import time
 
 
-def listening(most=8):
-    door = socket.create_server(("127.0.0.1", 0), backlog=most)
+def listening(most=8, port=0):
+    door = socket.create_server(("127.0.0.1", port), backlog=most)
     print("listening %s:%d" % door.getsockname(), flush=True)
     return door
 
@@ -67,7 +67,8 @@ def client(address, *words):
 
 
 class Between:
-    """Carries commands to the server, and its answers to a run, after which the next one may come. plain: as they are; cued: but first it cues
+    """Carries commands to the server, and its answers to a run, after which the next one may come. plain: as they are, at the TCP port N, or one that the system
+    chooses; severs: the Nth PLAY goes on, and both lines are closed, and those after it are plain; cued: but first it cues
     CLIP0001; split: each byte comes alone, and late by N milliseconds at one place after the other; twice: each answer comes twice; late: each
     comes once the Nth command after it does; ahead: an ACK comes before each; trickle: a byte of junk comes every N milliseconds too; mute:
     such bytes come, and no answer; junk: bytes without end, and no answer; acks: an ACK comes every N milliseconds, and no answer; babble: from the
@@ -80,13 +81,13 @@ class Between:
         self.wait = {"junk": 0.001, "trickle": self.much / 1000, "mute": self.much / 1000, "acks": self.much / 1000}.get(how)
         self.dice = random.Random(self.much)
         line = self.cued() if how == "cued" else None
-        door = listening()
+        door = listening(port=self.much if how == "plain" else 0)
         while True:
             run, _ = door.accept()
             run.setsockopt(socket.IPPROTO_TCP, socket.TCP_NODELAY, 1)
             with run, line or connected(address) as line, contextlib.suppress(OSError):
                 self.carry(run, line)
-            if how != "plain":
+            if how not in ("plain", "severs"):
                 return
             line = None
 
@@ -125,6 +126,10 @@ class Between:
                         print("babbles", flush=True)
                         self.wait, later = 0.06, [(0, b"\xff")]
                 line.sendall(piece)
+                self.count += self.how == "severs" and piece == bytes.fromhex("02021001ef")
+                if self.how == "severs" and self.count == self.much:
+                    self.how = "plain"
+                    return
 
     def answer(self, run, answer, later):
         if self.how == "late":
@@ -143,6 +148,14 @@ class Between:
             run.sendall({"twice": answer + answer, "ahead": b"\x04" + answer}.get(self.how, answer))
 
 
+def shuts():
+    """Takes one connection after another, which it says, and closes each at once."""
+    door = listening()
+    while True:
+        door.accept()[0].close()
+        print("closed", flush=True)
+
+
 def full():
     """Listens, and its queue is full, so that the system waits for long with a connection to it."""
     held, door = [], listening(0)
@@ -155,4 +168,4 @@ def full():
 
 if __name__ == "__main__":
     with contextlib.suppress(OSError):
-        {"server": server, "client": client, "between": Between, "full": full}[sys.argv[1]](*sys.argv[2:])
+        {"server": server, "client": client, "between": Between, "shuts": shuts, "full": full}[sys.argv[1]](*sys.argv[2:])
