@@ -185,19 +185,21 @@ nothing_unkept plan e rows thin = record {
 less : (all rows : List Note) → IsThinned (all ++ []) rows → IsThinned all rows
 less all rows thin = subst (λ (l : List Note). IsThinned l rows) (append-nil all) thin
 
+-- rows that are a journal of what the ends noted tell what their controller does
+abbrev pub AllTell : Plan → Ends → Type 0
+AllTell plan e = Moment → (rows : List Note) → IsThinned e.notes rows → AllTold plan start rows
+
 asks_is : (n : Note) → asks_state n ≡ true → (g : ℕ) × (n ≡ note.Sent (command.Status g))
 asks_is (note.Sent (command.Status g)) is = (g, refl)
 asks_is (note.Sent c) is = cc is
 asks_is n is = cc is
 
-asks_unkept : Below → (time : Moment) → (plan : Plan) (port : ClockedPort) (asked : List Command) (e : Ends) → CanJoin plan port asked
-    → AreJoined plan port asked e → (rows : List Note) (asks : Note) → asks_state asks ≡ true
+asks_unkept : (plan : Plan) (e : Ends) → AllTell plan e → Moment → (rows : List Note) (asks : Note) → asks_state asks ≡ true
     → IsThinned e.notes (rows ++ asks ∷ []) → Unkept plan e rows
-asks_unkept below time plan port asked e can j rows asks is thin =
+asks_unkept plan e tell time rows asks is thin =
     let q = asks_is asks is in
     let s : State = after_notes plan start rows in
-    let told = told_behind plan start rows (asks ∷ [])
-    (made below time plan port asked e can j rows (asks ∷ []) thin).told in record {
+    let told = told_behind plan start rows (asks ∷ []) (tell time (rows ++ asks ∷ []) thin) in record {
       unkept = note.Sent (command.Status q.0) ∷ [];
       may_lack = lacks_next plan s (announced_state (heard_last rows) s.stage) q.0 (subst (Tells plan s) q.1 told.0);
       thinned = subst (λ (n : Note). IsThinned e.notes (rows ++ n ∷ [])) q.1 thin;
@@ -355,33 +357,30 @@ plays_no_end : (n : Note) → n ≡ note.Sent command.Play → is_end n ≡ fals
 plays_no_end n is = ap is_end is
 
 -- What a PLAY waits with.
-record Plays (plan : Plan) (e : Ends) (rows : List Note) (asks hears plays : Note) : Type 0 where
+record Plays (plan : Plan) (e : Ends) (rows : List Note) (asks hears : Note) : Type 0 where
   waited : Waited plan rows asks hears
   thinned : IsThinned e.notes (rows ++ asks ∷ hears ∷ note.Sent command.Play ∷ [])
   told : AllTold plan start (rows ++ asks ∷ hears ∷ note.Sent command.Play ∷ [])
-  plays_so : plays ≡ note.Sent command.Play
 
-plays_in : Below → (time : Moment) → (plan : Plan) (port : ClockedPort) (asked : List Command) (e : Ends) → CanJoin plan port asked
-    → AreJoined plan port asked e → (rows front : List Note) (seen : Seen) (asks hears plays : Note)
+plays_in : (plan : Plan) (e : Ends) → AllTell plan e → Moment → (rows front : List Note) (seen : Seen) (asks hears plays : Note)
     → rows ≡ front ++ notes_seen (Some seen) → IsTrue (announces (Some seen)) → plays ≡ note.Sent command.Play
     → asks_state asks ≡ true → is_end hears ≡ true → IsThinned e.notes (rows ++ asks ∷ hears ∷ plays ∷ [])
-    → Plays plan e rows asks hears plays
-plays_in below time plan port asked e can j rows front seen asks hears plays stands announced plays_is is ends thin =
+    → Plays plan e rows asks hears
+plays_in plan e tell time rows front seen asks hears plays stands announced plays_is is ends thin =
     let more : List Note = asks ∷ hears ∷ note.Sent command.Play ∷ [] in
     let thin_so : IsThinned e.notes (rows ++ more) =
     subst (λ (n : Note). IsThinned e.notes (rows ++ asks ∷ hears ∷ n ∷ [])) plays_is thin in
-    let told : AllTold plan start (rows ++ more) = (made below time plan port asked e can j rows more thin_so).told in record {
+    let told : AllTold plan start (rows ++ more) = tell time (rows ++ more) thin_so in record {
       waited = subst (λ (l : List Note). Waited plan l asks hears) (sym stands)
           (waited_so plan front seen asks hears announced is ends
           (subst (λ (l : List Note). AllTold plan start (l ++ more)) stands told));
       thinned = thin_so;
       told = told;
-      plays_so = plays_is;
     }
 
-last_play : (plan : Plan) (e : Ends) (rows : List Note) (asks hears plays : Note) → Plays plan e rows asks hears plays
+last_play : (plan : Plan) (e : Ends) (rows : List Note) (asks hears : Note) → Plays plan e rows asks hears
     → Unkept plan e (rows ++ asks ∷ hears ∷ [])
-last_play plan e rows asks hears plays p =
+last_play plan e rows asks hears p =
     let both : List Note = asks ∷ hears ∷ [] in
     let last : List Note = note.Sent command.Play ∷ [] in
     play_unkept plan e (rows ++ both) (subst (AllTold plan start) (sym (append_assoc rows both last)) p.told)
@@ -390,7 +389,7 @@ last_play plan e rows asks hears plays p =
 played_by : (plan : Plan) (e : Ends) (rows : List Note) (asks hears plays : Row) (part rest : List Row)
     → Splits (asks ∷ hears ∷ plays ∷ []) part rest → is_end plays.note ≡ false
     → IsThinned (e.notes ++ heard_since rest) (rows ++ asks.note ∷ hears.note ∷ plays.note ∷ [])
-    → (IsThinned e.notes (rows ++ asks.note ∷ hears.note ∷ plays.note ∷ []) → Plays plan e rows asks.note hears.note plays.note)
+    → (IsThinned e.notes (rows ++ asks.note ∷ hears.note ∷ plays.note ∷ []) → Plays plan e rows asks.note hears.note)
     → Unkept plan e (rows ++ notes_in part)
 played_by plan e rows asks hears plays _ _ here no_end thin so =
     let p = so (unlost e.notes _ plays no_end thin) in
@@ -399,14 +398,14 @@ played_by plan e rows asks hears plays _ _ (next _ here) no_end thin so =
     let p = so (unlost e.notes _ plays no_end thin) in
     hears_unkept plan e rows asks.note hears.note p.waited p.thinned
 played_by plan e rows asks hears plays _ _ (next _ (next _ here)) no_end thin so =
-    last_play plan e rows asks.note hears.note plays.note (so (unlost e.notes _ plays no_end thin))
+    last_play plan e rows asks.note hears.note (so (unlost e.notes _ plays no_end thin))
 played_by plan e rows asks hears plays _ _ (next _ (next _ (next _ here))) no_end thin so =
     nothing_unkept plan e _ (less e.notes _ thin)
 
 over_by : (plan : Plan) (e : Ends) (rows : List Note) (asks hears plays row : Row) (part rest : List Row)
     → Splits (asks ∷ hears ∷ plays ∷ row ∷ []) part rest → is_end row.note ≡ true
     → IsThinned (e.notes ++ heard_since rest) (rows ++ asks.note ∷ hears.note ∷ plays.note ∷ row.note ∷ [])
-    → (IsThinned e.notes (rows ++ asks.note ∷ hears.note ∷ plays.note ∷ []) → Plays plan e rows asks.note hears.note plays.note)
+    → (IsThinned e.notes (rows ++ asks.note ∷ hears.note ∷ plays.note ∷ []) → Plays plan e rows asks.note hears.note)
     → Unkept plan e (rows ++ notes_in part)
 over_by plan e rows asks hears plays row _ _ here ends thin so =
     let p = so (lost_behind e.notes rows (asks.note ∷ hears.note ∷ plays.note ∷ []) row ends thin) in
@@ -415,63 +414,46 @@ over_by plan e rows asks hears plays row _ _ (next _ here) ends thin so =
     let p = so (lost_behind e.notes rows (asks.note ∷ hears.note ∷ plays.note ∷ []) row ends thin) in
     hears_unkept plan e rows asks.note hears.note p.waited p.thinned
 over_by plan e rows asks hears plays row _ _ (next _ (next _ here)) ends thin so =
-    last_play plan e rows asks.note hears.note plays.note
+    last_play plan e rows asks.note hears.note
     (so (lost_behind e.notes rows (asks.note ∷ hears.note ∷ plays.note ∷ []) row ends thin))
 over_by plan e rows asks hears plays row _ _ (next _ (next _ (next _ here))) ends thin so =
     nothing_unkept plan e _ (lost_behind e.notes rows (asks.note ∷ hears.note ∷ plays.note ∷ []) row ends thin)
 over_by plan e rows asks hears plays row _ _ (next _ (next _ (next _ (next _ here)))) ends thin so =
     nothing_unkept plan e _ (less e.notes _ thin)
 
-unkept_played : Below → (plan : Plan) (port : ClockedPort) (asked : List Command) (e : Ends) → CanJoin plan port asked
-    → AreJoined plan port asked e → (rows : List Note) (before : Seen) (asks hears plays : Row) (part rest : List Row)
-    → Splits (asks ∷ hears ∷ plays ∷ []) part rest
-    → Waits (e.notes ++ heard_since rest) rows (pending.Played before asks hears plays)
-    → Unkept plan e (rows ++ notes_in part)
-unkept_played below plan port asked e can j rows before asks hears plays part rest so w =
-    played_by plan e rows asks hears plays part rest so (plays_no_end plays.note w.holds.1) w.thinned
-    (plays_in below asks.time plan port asked e can j rows w.front before asks.note hears.note plays.note w.stands w.holds.0
-    w.holds.1 w.holds.2 w.holds.3)
-
-unkept_over : Below → (plan : Plan) (port : ClockedPort) (asked : List Command) (e : Ends) → CanJoin plan port asked
-    → AreJoined plan port asked e → (rows : List Note) (before : Seen) (asks hears plays row : Row) (part rest : List Row)
-    → Splits (asks ∷ hears ∷ plays ∷ row ∷ []) part rest
-    → Waits (e.notes ++ heard_since rest) rows (pending.Over before asks hears plays row)
-    → Unkept plan e (rows ++ notes_in part)
-unkept_over below plan port asked e can j rows before asks hears plays row part rest so w =
-    over_by plan e rows asks hears plays row part rest so w.holds.4 w.thinned
-    (plays_in below asks.time plan port asked e can j rows w.front before asks.note hears.note plays.note w.stands w.holds.0
-    w.holds.1 w.holds.2 w.holds.3)
-
-unkept_at : Below → (plan : Plan) (port : ClockedPort) (asked : List Command) (e : Ends) → CanJoin plan port asked
-    → AreJoined plan port asked e → (rows : List Note) (left : Pending) (part rest : List Row)
+unkept_at : (plan : Plan) (e : Ends) → AllTell plan e → (rows : List Note) (left : Pending) (part rest : List Row)
     → Splits (rows_left left) part rest → Waits (e.notes ++ heard_since rest) rows left
     → Unkept plan e (rows ++ notes_in part)
-unkept_at below plan port asked e can j rows pending.Nothing _ _ here w =
+unkept_at plan e tell rows pending.Nothing _ _ here w =
     nothing_unkept plan e (rows ++ []) (less e.notes (rows ++ []) w.thinned)
-unkept_at below plan port asked e can j rows (pending.Failed f) _ _ here w =
+unkept_at plan e tell rows (pending.Failed f) _ _ here w =
     nothing_unkept plan e (rows ++ []) (less e.notes (rows ++ []) w.thinned)
-unkept_at below plan port asked e can j rows (pending.End row) _ _ here w =
+unkept_at plan e tell rows (pending.End row) _ _ here w =
     at_first plan e rows (nothing_unkept plan e rows (lost e.notes rows row w.holds w.thinned))
-unkept_at below plan port asked e can j rows (pending.End row) _ _ (next _ here) w =
+unkept_at plan e tell rows (pending.End row) _ _ (next _ here) w =
     nothing_unkept plan e (rows ++ row.note ∷ []) (less e.notes (rows ++ row.note ∷ []) w.thinned)
-unkept_at below plan port asked e can j rows (pending.Asked before asks) _ _ here w =
-    at_first plan e rows (asks_unkept below asks.time plan port asked e can j rows asks.note w.holds
+unkept_at plan e tell rows (pending.Asked before asks) _ _ here w =
+    at_first plan e rows (asks_unkept plan e tell asks.time rows asks.note w.holds
     (unlost e.notes (rows ++ asks.note ∷ []) asks (asks_no_end asks.note w.holds) w.thinned))
-unkept_at below plan port asked e can j rows (pending.Asked before asks) _ _ (next _ here) w =
+unkept_at plan e tell rows (pending.Asked before asks) _ _ (next _ here) w =
     nothing_unkept plan e (rows ++ asks.note ∷ []) (less e.notes (rows ++ asks.note ∷ []) w.thinned)
-unkept_at below plan port asked e can j rows (pending.Answered before asks hears) _ _ here w =
-    at_first plan e rows (asks_unkept below asks.time plan port asked e can j rows asks.note w.holds.0
+unkept_at plan e tell rows (pending.Answered before asks hears) _ _ here w =
+    at_first plan e rows (asks_unkept plan e tell asks.time rows asks.note w.holds.0
     (lost_behind e.notes rows (asks.note ∷ []) hears w.holds.1 w.thinned))
-unkept_at below plan port asked e can j rows (pending.Answered before asks hears) _ _ (next _ here) w =
+unkept_at plan e tell rows (pending.Answered before asks hears) _ _ (next _ here) w =
     nothing_unkept plan e (rows ++ asks.note ∷ [])
     (lost_behind e.notes rows (asks.note ∷ []) hears w.holds.1 w.thinned)
-unkept_at below plan port asked e can j rows (pending.Answered before asks hears) _ _ (next _ (next _ here)) w =
+unkept_at plan e tell rows (pending.Answered before asks hears) _ _ (next _ (next _ here)) w =
     let all : List Note = rows ++ asks.note ∷ hears.note ∷ [] in
     nothing_unkept plan e all (less e.notes all w.thinned)
-unkept_at below plan port asked e can j rows (pending.Played before asks hears plays) part rest so w =
-    unkept_played below plan port asked e can j rows before asks hears plays part rest so w
-unkept_at below plan port asked e can j rows (pending.Over before asks hears plays row) part rest so w =
-    unkept_over below plan port asked e can j rows before asks hears plays row part rest so w
+unkept_at plan e tell rows (pending.Played before asks hears plays) part rest so w =
+    played_by plan e rows asks hears plays part rest so (plays_no_end plays.note w.holds.1) w.thinned
+    (plays_in plan e tell asks.time rows w.front before asks.note hears.note plays.note w.stands w.holds.0 w.holds.1 w.holds.2
+    w.holds.3)
+unkept_at plan e tell rows (pending.Over before asks hears plays row) part rest so w =
+    over_by plan e rows asks hears plays row part rest so w.holds.4 w.thinned
+    (plays_in plan e tell asks.time rows w.front before asks.note hears.note plays.note w.stands w.holds.0 w.holds.1 w.holds.2
+    w.holds.3)
 
 -- All of it.
 
@@ -537,7 +519,8 @@ pub is_safe : Below → (plan : Plan) (port : ClockedPort) (asked : List Command
 is_safe below plan port asked e before left earlier rows part rest all notes can j thin none w split is =
     let kept : List Note = notes_in ((earlier ++ rows) ++ part) in
     let u : Unkept plan e kept = subst (Unkept plan e) (sym (noted_behind (earlier ++ rows) part))
-    (unkept_at below plan port asked e can j (notes_in (earlier ++ rows)) left part rest (splits (rows_left left) part rest split)
+    (unkept_at plan e (λ time noted thinned. (made below time plan port asked e can j [] noted thinned).told)
+    (notes_in (earlier ++ rows)) left part rest (splits (rows_left left) part rest split)
     (subst (λ (l : List Note). Waits l (notes_in (earlier ++ rows)) left) (sym is)
     (waits_behind before left earlier rows all notes thin none w))) in record {
       unkept = u.unkept;
