@@ -41,13 +41,7 @@ with_last h (Some c) xs ys = refl
 
 ended_more : (asked : Option Command) (n : Note) (xs ys : List Exchange)
     → ended_at asked n (xs ++ ys) ≡ ended_at asked n xs ++ ys
-ended_more asked (note.Sent c) xs ys = refl
-ended_more asked (note.Heard h) xs ys = with_last (Some h) asked xs ys
-ended_more asked note.Silence xs ys = with_last None asked xs ys
-ended_more asked note.Take xs ys = refl
-ended_more asked note.Stop xs ys = refl
-ended_more asked (note.End outcome) xs ys = refl
-ended_more asked (note.From k) xs ys = refl
+ended_more asked n xs ys = grind (arith, with_last)
 
 pub closed_more : (asked : Option Command) (notes more : List Note)
     → closed_from asked (notes ++ more) ≡ closed_from asked notes ++ closed_from (open_through asked notes) more

@@ -1,5 +1,5 @@
 -- The bytes of what happened to a server, with one event more; and the catalogue stays.
-use Rattle.std.proofs.Common.{ℕ, ◌≡◌, Bool, true, false, List, [], ◌∷◌, ◌++◌, refl, sym, ap, ◌∙◌, append_assoc, append-nil, if◌then◌else◌}
+use Rattle.std.proofs.Common.{arith, ℕ, ◌≡◌, Bool, List, [], ◌∷◌, ◌++◌, refl, sym, ap, ◌∙◌, append_assoc, append-nil, if◌then◌else◌}
 use Rattle.vdcp_frame.specs.Message.{Content}
 use Rattle.vdcp_port.specs.Answers.{after_messages}
 use Rattle.vdcp_port.specs.Clock.{ClockedPort, after_frame, after_message, after_ready, after_ended, completes_cue, counted_down, ends_clip}
@@ -33,10 +33,7 @@ clips_stay p (m ∷ ms) = clips_stay (after_message p m) ms
 
 frame_by : (cue clip : Bool) (p : ClockedPort)
     → (let cued : ClockedPort = if cue then after_ready p else p in if clip then after_ended cued else cued).clips ≡ p.clips
-frame_by true true p = refl
-frame_by true false p = refl
-frame_by false true p = refl
-frame_by false false p = refl
+frame_by cue clip p = grind arith
 
 pub clips_frame : (p : ClockedPort) → (after_frame p).clips ≡ p.clips
 clips_frame p = frame_by (completes_cue p) (ends_clip p) (counted_down p)

@@ -163,12 +163,6 @@ Same mode rows asks =
 
 asks_once : (grows : Grows) (mode : Mode) (rows : List Row) (row : Row) (n : Note) → row.note ≡ n → IsTrue (asks_state n)
     → Same mode rows (row ∷ [])
-asks_once grows mode rows row (note.Heard h) is asks = absurd (true≢false (sym asks))
-asks_once grows mode rows row note.Silence is asks = absurd (true≢false (sym asks))
-asks_once grows mode rows row note.Take is asks = absurd (true≢false (sym asks))
-asks_once grows mode rows row note.Stop is asks = absurd (true≢false (sym asks))
-asks_once grows mode rows row (note.End outcome) is asks = absurd (true≢false (sym asks))
-asks_once grows mode rows row (note.From k) is asks = absurd (true≢false (sym asks))
 asks_once grows mode rows row (note.Sent c) is asks =
     let notes : List Note = map (λ r. r.note) rows in
     let closed : List Exchange = closed_from None notes in
@@ -187,6 +181,7 @@ asks_once grows mode rows row (note.Sent c) is asks =
       ap (settled mode) more ∙ settled_same grows mode closed c
           ∙ sym (settled_open grows mode closed (open_through None notes)) ∙ ap (settled mode) (sym was),
     )
+asks_once grows mode rows row n is asks = absurd (true≢false (sym asks))
 
 pub asks_same : (grows : Grows) (mode : Mode) (rows asks : List Row) → AsksAtMost asks → Same mode rows asks
 asks_same grows mode rows _ none = (

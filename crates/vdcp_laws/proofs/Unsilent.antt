@@ -26,18 +26,11 @@ use Rattle.vdcp_laws.proofs.Leading.{IsQuiet, next_in, side_led}
 use Rattle.vdcp_laws.proofs.Servers.{ServedSo}
 
 calm_in_time : {plan : Plan} {unit : ℕ} {e e' : Ends} (step : Step plan unit e e') → IsCalm step → IsInTime step
-calm_in_time two.gave calm = tt
-calm_in_time (two.asks question c is none) calm = calm
-calm_in_time (two.came_up piece rest is) calm = tt
-calm_in_time (two.came_down piece rest is) calm = tt
 calm_in_time two.waited calm = absurd calm
-calm_in_time two.passed calm = tt
-calm_in_time two.paused calm = tt
-calm_in_time two.shut calm = tt
-calm_in_time (two.took is) calm = tt
-calm_in_time (two.halted is) calm = tt
+calm_in_time (two.asks question c is none) calm = calm
 calm_in_time (two.resumed goes) calm = calm
 calm_in_time (two.restarted goes) calm = calm
+calm_in_time other calm = tt
 
 leads : (plan : Plan) (unit : ℕ) → Leads plan unit (AreInTime plan unit)
 leads plan unit =

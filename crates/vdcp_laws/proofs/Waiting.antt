@@ -19,9 +19,7 @@ use Rattle.vdcp_journal.specs.declared.moment.Moment.{Moment}
 use Rattle.vdcp_journal.specs.declared.row.Note.{Note}
 use Rattle.vdcp_journal.specs.declared.row.Note.TheVariants as note
 use Rattle.vdcp_journal.specs.declared.row.Row.{Row}
-use Rattle.vdcp_drive.specs.declared.hooks.Call.TheVariants as call
 use Rattle.vdcp_drive.specs.declared.hooks.Kept.{Kept}
-use Rattle.vdcp_drive.specs.declared.hooks.Kept.TheVariants as kept
 use Rattle.vdcp_journal_file.specs.Recorded as recorded
 use Rattle.vdcp_journal_file.specs.Recorded.{MayHold, WaitsSince, Waits, is_end}
 use Rattle.vdcp_journal_file.specs.Recording.{announces, notes_seen, rows_left, seen_before}
@@ -458,11 +456,7 @@ unkept_at plan e tell rows (pending.Over before asks hears plays row) part rest 
 -- All of it.
 
 note_is : (one : Kept) → recorded.note_for one ≡ note_for one
-note_is (kept.Sent c) = refl
-note_is (kept.Heard h) = refl
-note_is kept.Silence = refl
-note_is (kept.Called call.Take) = refl
-note_is (kept.Called call.Stop) = refl
+note_is one = grind arith
 
 notes_are : (notes : List Kept) → map recorded.note_for notes ≡ map note_for notes
 notes_are [] = refl
