@@ -1,5 +1,5 @@
 -- An automation of its own asks beside one that awaits nothing: this one passes over what comes up, with the ear of the other.
-use Rattle.std.proofs.Common.{ℕ, ◌≡◌, ◌⊎◌, inl, inr, All, List, [], ◌∷◌, ◌++◌, map, refl, sym, ap, ap₂, subst, ◌∙◌, append_assoc, append-nil}
+use Rattle.std.proofs.Common.{arith, ℕ, ◌≡◌, ◌⊎◌, inl, inr, All, List, [], ◌∷◌, ◌++◌, map, refl, sym, ap, ap₂, subst, ◌∙◌, append_assoc, append-nil}
 use Rattle.std.proofs.lemmas.Grind.{flat_map-append}
 use Rattle.std.specs.Option.{option_map_or, option_to_list}
 use Rattle.std.specs.Prelude.{Option, None, Some, Result}
@@ -101,9 +101,7 @@ ear_over unit [] held = held
 ear_over unit (a ∷ came) held = ear_over unit came (ear_after at_once unit a held)
 
 bytes_first : (a : Arrival) (came : List Arrival) → bytes_at a ++ bytes_in came ≡ bytes_in (a ∷ came)
-bytes_first (bytes piece) came = refl
-bytes_first silence came = refl
-bytes_first close came = refl
+bytes_first a came = grind arith
 
 overhears_all : (plan : Plan) (unit : ℕ) (came : List Arrival) (e : Ends) → awaited plan e.automation.state ≡ None
     → heard_up plan unit came e ≡ overheard (ear_over unit came e.automation.held) (bytes_in came) e

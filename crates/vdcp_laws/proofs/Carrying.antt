@@ -147,9 +147,7 @@ last_so plan unit count events a a' answer more (in_listen is m left) =
 -- What comes up to ends.
 
 heard_port : (plan : Plan) (unit : ℕ) (a : Arrival) (e : Ends) → (hears_in plan unit a e).port ≡ e.port
-heard_port plan unit (bytes piece) e = refl
-heard_port plan unit silence e = refl
-heard_port plan unit close e = refl
+heard_port plan unit a e = grind arith
 
 heard_ups : (plan : Plan) (unit : ℕ) (a : Arrival) (e : Ends) (came : List Arrival)
     → (hears_in plan unit a e).ups ++ bytes_in came ≡ e.ups ++ bytes_in (a ∷ came)
@@ -159,9 +157,7 @@ heard_ups plan unit close e came = refl
 
 heard_by : (plan : Plan) (unit : ℕ) (a : Arrival) (e : Ends)
     → (hears_in plan unit a e).automation ≡ listens plan unit a e.automation
-heard_by plan unit (bytes piece) e = refl
-heard_by plan unit silence e = refl
-heard_by plan unit close e = refl
+heard_by plan unit a e = grind arith
 
 heard_down : (plan : Plan) (unit : ℕ) (a : Arrival) (e : Ends)
     → sent_down plan unit (hears_in plan unit a e) ≡ sent_down plan unit e

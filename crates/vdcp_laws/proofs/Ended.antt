@@ -1,12 +1,12 @@
 -- After an end that reports all nothing more airs.
-use Rattle.std.proofs.Common.{ℕ, ◌≡◌, List, [], ◌∷◌, take, refl, sym, ap, subst, ◌∙◌}
+use Rattle.std.proofs.Common.{arith, ℕ, ◌≡◌, List, [], ◌∷◌, take, refl, sym, ap, subst, ◌∙◌}
 use Rattle.std.specs.Prelude.{IfSome, IsTrue, None, Some}
 use Rattle.vdcp_frame.specs.Message.{Content}
 use Rattle.vdcp_words.specs.declared.command.Command.{Command}
 use Rattle.vdcp_port.specs.Clock.{ClockedPort}
 use Rattle.vdcp_auto.specs.Heard.{heard_as}
 use Rattle.vdcp_auto.specs.Plan.{Plan}
-use Rattle.vdcp_auto.specs.State.{State, Stage, Ready, Awaiting, Ended}
+use Rattle.vdcp_auto.specs.State.{State, Stage, Ended}
 use Rattle.vdcp_auto.specs.Turn.{came_to, outcome_of, taken, tick_in, ticked}
 use Rattle.vdcp_auto.specs.declared.outcome.Outcome.{Outcome}
 use Rattle.vdcp_laws.specs.Automation.{Prompt, hears, hears_all}
@@ -20,9 +20,7 @@ use Rattle.vdcp_laws.proofs.Headline.{Laws, of_ends}
 -- An end stays.
 
 is_ended : (stage : Stage) (o : Outcome) → outcome_of stage ≡ Some o → stage ≡ Ended o
-is_ended (Ready p) o is = cc
-is_ended (Awaiting p) o is = cc
-is_ended (Ended other) o is = cc
+is_ended stage o is = grind arith
 
 still_heard : (plan : Plan) (unit : ℕ) (ms : List Content) (p : Prompt) (o : Outcome) → p.state.stage ≡ Ended o
     → (hears_all plan unit ms p).state ≡ p.state

@@ -1,5 +1,5 @@
 -- The headline of a late channel, said of the two ends.
-use Rattle.std.proofs.Common.{ℕ, ◌≡◌, ◌≤◌, List, ◌++◌, length, take, refl, ap, subst}
+use Rattle.std.proofs.Common.{arith, ℕ, ◌≡◌, ◌≤◌, List, ◌++◌, length, take, refl, subst}
 use Rattle.std.specs.Prelude.{IfSome, IsTrue, Option}
 use Rattle.vdcp_value.specs.declared.clip_id.ClipId.{ClipId}
 use Rattle.vdcp_value.specs.declared.part.Item.{Item}
@@ -7,7 +7,7 @@ use Rattle.vdcp_value.specs.declared.timecode.Timecode.{Timecode}
 use Rattle.vdcp_words.specs.declared.command.Command.{Command}
 use Rattle.vdcp_port.specs.Clock.{ClockedPort}
 use Rattle.vdcp_auto.specs.Plan.{Plan}
-use Rattle.vdcp_auto.specs.State.{State, Stage, Ready, Awaiting, Ended}
+use Rattle.vdcp_auto.specs.State.{State, Stage}
 use Rattle.vdcp_auto.specs.Turn.{outcome_of, tick_in, ticked}
 use Rattle.vdcp_auto.specs.declared.exchange.Exchange.{Exchange}
 use Rattle.vdcp_auto.specs.declared.outcome.Outcome.{Outcome}
@@ -43,14 +43,10 @@ of_ends law plan port asked e can j =
 -- A tick settles nothing, and ends nothing.
 
 same_settled : (stage : Stage) (s : State) → (tick_in stage s).settled ≡ s.settled
-same_settled (Ready p) s = refl
-same_settled (Awaiting p) s = refl
-same_settled (Ended outcome) s = refl
+same_settled stage s = grind arith
 
 same_outcome : (stage : Stage) (s : State) → s.stage ≡ stage → outcome_of (tick_in stage s).stage ≡ outcome_of stage
-same_outcome (Ready p) s is = refl
-same_outcome (Awaiting p) s is = ap outcome_of is
-same_outcome (Ended outcome) s is = ap outcome_of is
+same_outcome stage s is = grind arith
 
 pub before_tick : (plan : Plan) (clips : List (ClipId × Timecode)) (s : State) (log : List Exchange) (aired : List Item)
     → EndsHeadline plan clips (ticked s) log aired → EndsHeadline plan clips s log aired

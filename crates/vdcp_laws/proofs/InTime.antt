@@ -217,9 +217,7 @@ no_burst (byte ∷ way) e = cc
 wait_same : (c : Channel) (down up : List ℕ) → down ≡ [] → up ≡ []
     → after_late_event (late_of (record c { down = down; up = up })) late.Timeout
     ≡ late_of (after_event (record c { down = down; up = up }) event.Timeout)
-wait_same c [] [] d u = refl
-wait_same c (byte ∷ down) up d u = cc
-wait_same c [] (byte ∷ up) d u = cc
+wait_same c down up d u = grind arith
 
 -- ---- all steps
 

@@ -1,5 +1,5 @@
 -- The calls that lead to an automation's controller.
-use Rattle.std.proofs.Common.{ℕ, ◌≡◌, Bool, true, false, List, [], ◌∷◌, ◌++◌, refl, sym, ap, subst, append-nil}
+use Rattle.std.proofs.Common.{arith, ℕ, ◌≡◌, Bool, true, false, List, [], ◌∷◌, ◌++◌, sym, ap, subst, append-nil}
 use Rattle.std.specs.Option.{option_map_or}
 use Rattle.std.specs.Prelude.{Option, None, Some, if◌then◌else◌}
 use Rattle.vdcp_frame.specs.Message.{Content}
@@ -9,7 +9,7 @@ use Rattle.vdcp_auto.specs.Course.{Reached, Tick, Receive, Take, Stop, after_cal
 use Rattle.vdcp_auto.specs.Course as course
 use Rattle.vdcp_auto.specs.Heard.{heard_as}
 use Rattle.vdcp_auto.specs.Plan.{Plan}
-use Rattle.vdcp_auto.specs.State.{State, Stage, Ready, Awaiting, Ended}
+use Rattle.vdcp_auto.specs.State.{State, Stage}
 use Rattle.vdcp_auto.specs.Turn.{came_to, ended_by, exchange_of, is_end, is_ready, taken, tick_in, ticked}
 use Rattle.vdcp_auto.specs.declared.exchange.Exchange.{Exchange}
 use Rattle.vdcp_auto.specs.declared.exchange.Heard.{Heard}
@@ -22,9 +22,7 @@ use Rattle.vdcp_laws.proofs.Commands.{hears_comes}
 use Rattle.vdcp_laws.proofs.Queues.{logged_behind}
 
 pub not_ready : (stage : Stage) (s : State) → is_ready stage ≡ false → tick_in stage s ≡ s
-not_ready (Ready p) s is = cc
-not_ready (Awaiting p) s is = refl
-not_ready (Ended outcome) s is = refl
+not_ready stage s is = grind arith
 
 heard_is_by : (b : Bool) (c : Command) (h : Option Heard) (e : Exchange)
     → (if b then Some (record { command = c; heard = h }) else None) ≡ Some e → h ≡ e.heard

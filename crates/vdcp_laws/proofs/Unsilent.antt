@@ -1,11 +1,11 @@
 -- A run in which each listen brings bytes is in time.
-use Rattle.std.proofs.Common.{ℕ, All, List, [], ◌∷◌, ◌++◌, sym, subst, ◌∙◌}
+use Rattle.std.proofs.Common.{arith, ℕ, All, List, [], ◌∷◌, ◌++◌, sym, subst, ◌∙◌}
 use Rattle.std.proofs.lemmas.List.Elements.{All-head, All-tail}
 use Rattle.std.specs.Prelude.{Result}
 use Rattle.vdcp_value.specs.declared.part.Item.{Item}
 use Rattle.vdcp_auto.specs.Plan.{Plan}
 use Rattle.vdcp_wire.specs.Acts.{Act}
-use Rattle.vdcp_wire.specs.Wires.{Arrival, bytes, silence, close}
+use Rattle.vdcp_wire.specs.Wires.{Arrival}
 use Rattle.vdcp_drive.specs.Auto.{Auto, arrivals}
 use Rattle.vdcp_drive.specs.Hearing.{at_once}
 use Rattle.vdcp_drive.specs.Leaves.{IsRun, steps_in}
@@ -37,9 +37,7 @@ leads plan unit =
     record { begun = λ e. in_time.begun; on = λ step calm j. in_time.went_on j step (calm_in_time step calm) }
 
 never_quiet : (a : Arrival) → IsPiece a → IsQuiet a → ⊥
-never_quiet (bytes piece) is quiet = quiet
-never_quiet silence is quiet = is
-never_quiet close is quiet = is
+never_quiet a is quiet = grind arith
 
 among : (came rest : List Arrival) (a : Arrival) → All IsPiece (came ++ a ∷ rest) → IsPiece a
 among [] rest a all = All-head IsPiece a rest all
