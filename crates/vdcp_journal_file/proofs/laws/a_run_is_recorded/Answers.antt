@@ -1,16 +1,21 @@
-use Rattle.std.proofs.Common.{ap, subst, ◌∙◌}
+use Rattle.std.proofs.Common.{◌≡◌, List, [], ◌∷◌, ◌++◌, ap, refl, subst, ◌∙◌}
 use Rattle.std.specs.Prelude.{Option}
-use Rattle.vdcp_drive.proofs.Tracing.{rows_both}
 use Rattle.vdcp_drive.specs.Hooked.{MayKeep}
 use Rattle.vdcp_drive.specs.Keeping.{KeepsRun}
 use Rattle.vdcp_drive.specs.Leaves.{steps_in}
-use Rattle.vdcp_drive.specs.Steps.{Chain}
+use Rattle.vdcp_drive.specs.Steps.{Chain, Step, keeps}
 use Rattle.vdcp_drive.specs.Traces.{kept_in}
+use Rattle.vdcp_drive.specs.declared.hooks.Kept.{Kept}
 use Rattle.vdcp_journal_file.proofs.Chains.{rows_at, run_is_recorded, waits_at}
 use Rattle.vdcp_journal_file.proofs.Hooked.{all_kept, keeps_by_one, keeps_none, notes_happen}
 use Rattle.vdcp_journal_file.proofs.laws.a_run_is_recorded.Goals as goal
 use Rattle.vdcp_journal_file.specs.Recorded.{Loses, Notes, recorder_rules}
 use Rattle.vdcp_journal_file.specs.Recording.{Recording}
+
+kept_both : (xs ys : List Step) → kept_in (xs ++ ys) ≡ kept_in xs ++ kept_in ys
+kept_both [] ys = refl
+kept_both (keeps r ∷ xs) ys = ap (λ (l : List Kept). r ∷ l) (kept_both xs ys)
+kept_both (x ∷ xs) ys = kept_both xs ys
 
 pub returns-clause-recorded : goal.returns-clause-recorded
 returns-clause-recorded g c plan unit count a b old new answer h before is few =
@@ -54,5 +59,5 @@ returns-clause-waits g c plan unit count a b old new moment answer some more h i
     let w = waits_at safe told fold plan unit a b old.wire new.wire answer before run.0 all.0 h.run.events (kept_in some)
     (kept_in more) may idle
     (subst (KeepsRun (Notes safe) (Loses safe) told fold plan unit a b old.wire new.wire answer before run.0 h.run.events)
-    (ap kept_in is_steps ∙ rows_both some more) run.2) all.2 in
+    (ap kept_in is_steps ∙ kept_both some more) run.2) all.2 in
     (all.0, w.0, all.1, w.1, w.2)
