@@ -1,4 +1,4 @@
-//! What takes part in a run beside its wire.
+//! What takes part in a run beside its wire: the journal's recorder and the console.
 use crate::console::Console;
 use std::io;
 use std::rt::{Clock, Files};
@@ -8,12 +8,11 @@ use vdcp_journal_file::{Disk, Recorder};
 use vdcp_list::Rest;
 use vdcp_words::Command;
 
-/// What takes part in a run beside its wire: the recorder of its journal, if it has one, and the console.
 #[derive(Drop)]
 pub struct Playing<'a, 'r, 'l, R: Clock, F: Disk, I: io::Read, O: io::Write, V: io::Write> {
     pub recorder: Option<Recorder<'a, 'r, R, F>>,
     pub console: Console<'r, 'l, R, I, O, V>,
-    /// How many turns may still be made.
+    /// The turns that may still be made.
     pub left: u32,
 }
 

@@ -29,39 +29,27 @@ use vdcp_text::{Failure, JournalFault};
 use vdcp_value::ClipId;
 use vdcp_wire::address_of;
 
-/// Plays a list through the port of a server at `address`: an IPv4 address, a colon and a TCP port. It
-/// reads the list, connects, and runs a new controller until that ends, the other end closes, all listens
-/// are made or the line fails. Then, whatever the end is, it makes the as-run file, if one is named, with a
-/// row for each reported event, and, if it went on from a journal, with all that this shows; an older file of other
-/// bytes is kept beside. And `out` gets how many events are reported, and how the controller ended, and is flushed.
-/// `err` gets the fault lines of the as-run file, the journal and the line, if there are any.
+/// Plays a list through the port of a server at `address`: an IPv4 address, a colon and a TCP port. However the run ends,
+/// the as-run file, if one is named, lists the events that it reports, and those of the journal that it went on from; an
+/// older file of other bytes is kept beside. `out` gets the report, which counts events in the whole list, `err` the
+/// fault lines of as-run file, journal and line, and `advice` what an unwanted end means and what to type next.
 ///
-/// A controller begins with the list's first event, or with the one that is named, or after what a journal shows; the
-/// numbers that are told are always those of the whole list.
+/// If the port is to be asked and OPEN comes next, it is asked first, by OPEN, SELECT and STATUS. As many unanswered
+/// questions in a row as the limit end the run as Lost, and a denied OPEN ends it as Denied.
 ///
-/// By `hand` an operator has a part in the run: its calls are given, and kept before, its page shows the run, and the
-/// first event goes to air at its time, each if it is there.
+/// The status is 3 if `out` or `err` failed, which then gets no more; else it is
+/// - 0 if the controller ended Done or Stopped, or the operator stopped while the port was asked;
+/// - 1 if it ended Denied, Missing, Refused, Foreign or Strange;
+/// - 3 if it ended Lost, the other end closed, the turns are used up, the line failed, or the as-run list or a row of
+///   the journal isn't written.
 ///
-/// What the headline says of a controller and its log holds of the reported events: they are those that the
-/// exchanges over the line show to be settled.
-///
-/// The status is 0 if the controller ended Done or Stopped, or the operator stopped while the port was asked, and 1 if it ended Denied, Missing, Refused,
-/// Foreign or Strange. It is 3 if it ended Lost, if the other end closed, the listens are used up or
-/// the line failed, or if the as-run list or a row of the journal isn't written.
-///
-/// If the port is to be asked and the next command is OPEN, it is asked first, by OPEN, SELECT and STATUS. If
-/// something is cued at it or plays, the run ends. Questions that aren't answered, as many as the limit in a row, end it
-/// as Lost, and an OPEN that is denied as Denied.
-///
-/// `advice` gets what this means and what an operator types next, if it wasn't wanted.
-///
-/// If it doesn't come to this, no file is made, `out` gets nothing, and `err` gets one fault line. The
-/// status is 2 if the address is none, which is tested before the list is read; 1 if a row of the list
-/// or of the journal is refused, if the event to begin with isn't there or may have aired, or if the port isn't
-/// empty; and 3 if the list can't be read, the as-run file is the list, the journal exists, is in use or can't be
-/// opened, read or written, the as-run file of a run with a journal is that or can't be made, memory was refused or nobody
-/// takes the connection within five seconds. It is 3 too if `out` or `err` failed. To a writer that failed nothing more
-/// is written.
+/// If a run doesn't come to this, no file is made, `out` gets nothing and `err` one fault line. The status is then
+/// - 1 if the port isn't empty, a row of list or journal is refused, or the event to begin with isn't there or may have
+///   aired;
+/// - 2 if the address is none, which is tested before the list is read;
+/// - 3 if the list can't be read, the as-run file is the list or the journal or, with a journal, can't be made, the
+///   journal exists, is in use or can't be opened, read or written, memory is refused, or nobody takes the connection
+///   within five seconds and the run doesn't stay.
 pub fn do_run<
     's,
     'r,
@@ -89,8 +77,6 @@ pub fn do_run<
     ensures run { result ≡ 0 → IsRun settings.entry (file list.entry.name (L.remaining list.entry.reader))
         (W.contents out.old) (W.contents out.new) 0 }
     ensures untold { result ≡ 0 → Keeps (E.contents err.old) (E.contents err.new) }
-    // The status is 1 for how the controller ended, for a row that is refused, for an event that isn't there or may have
-    // aired, and for a port that isn't empty.
     ensures others { result ≡ 1 →
         (IsRun settings.entry (file list.entry.name (L.remaining list.entry.reader)) (W.contents out.old)
         (W.contents out.new) 1
@@ -103,7 +89,6 @@ pub fn do_run<
         (W.contents out.old) (W.contents out.new) (E.contents err.old) (E.contents err.new)
         ⊎ IsEventRefused settings.entry (file list.entry.name (L.remaining list.entry.reader))
         (W.contents out.old) (W.contents out.new) (E.contents err.old) (E.contents err.new) }
-    // The status is 2 for an address that is none, unless this can't be told.
     ensures no_address { result ≡ 2 → ¬ IsAddress address.now
         × Appends (E.contents err.old) (E.contents err.new) (failure_line Failure.Address) }
     ensures address { ¬ IsAddress address.now → ((result ≡ 2) ⊎ (result ≡ 3))
@@ -125,7 +110,6 @@ pub fn do_run<
     }
 }
 
-// Runs a session in which this is shown, and the hand has a part. `seen` gets what was seen of the run.
 fn run_shown<
     'a,
     'r,
@@ -173,7 +157,6 @@ impl<
     O: io::Write + Drop,
     V: io::Write + Drop,
 > Session<'r, 'l, R, I, O, V> {
-    // Reads the list, connects, plays the list, and writes what is reported of it.
     fn run_list<'a, L: io::Read + Drop>(
         self,
         address: &str,
@@ -207,7 +190,6 @@ impl<
         }
     }
 
-    // Plays these events, and tries again while a run that stays ends by its line.
     fn play_events<'a>(
         self,
         address: SocketAddrV4,
@@ -234,7 +216,6 @@ impl<
         end
     }
 
-    // Plays these events once, by what the journal says, if it is an older one, and hands the session back.
     fn try_events<'a>(
         self,
         address: SocketAddrV4,
@@ -262,7 +243,6 @@ impl<
     }
 }
 
-// The settings with which a run tries again that had these, and came to this, if it does.
 fn later_after<'a>(
     end: &Result<RunEnd<'_>, Failure<'_>>,
     settings: RunSettings<'a>,
@@ -278,7 +258,6 @@ fn later_after<'a>(
     }
 }
 
-// The clip that the server doesn't have, if a run of the list ended by that.
 fn missing_clip<S: Source>(source: &S, outcome: Option<Outcome>) -> Option<ClipId>
     ensures { IfSome result (IsMissing (S.items source.now) outcome) }
 {
@@ -288,7 +267,7 @@ fn missing_clip<S: Source>(source: &S, outcome: Option<Outcome>) -> Option<ClipI
     }
 }
 
-// The journal that isn't kept of a session that came to this: a new one, if the list wasn't begun.
+// A new journal of a list that wasn't begun is removed, so that its name is free for the next run.
 fn unbegun_journal<'a>(
     end: &Result<RunEnd<'_>, Failure<'_>>,
     journal: Option<RunJournal<'a>>,
@@ -301,7 +280,6 @@ fn unbegun_journal<'a>(
     }
 }
 
-// Reads the list, and tests that it has the event to begin with, and isn't the as-run file.
 fn read_events<'a, R: Files + AllocGlobal, L: io::Read + Drop>(
     rt: &R,
     list: NamedFile<'a, L>,
@@ -320,7 +298,6 @@ fn read_events<'a, R: Files + AllocGlobal, L: io::Read + Drop>(
     Ok((events, apart))
 }
 
-// Tests that the as-run file, if one is wanted, isn't that of the list.
 fn test_list<'a, R: Files>(
     rt: &R,
     asrun: Option<&'a str>,
@@ -335,7 +312,7 @@ fn test_list<'a, R: Files>(
     }
 }
 
-// What is told if the list of this name isn't the journal's, and of any other failure.
+// A journal of another list is the list's fault: its name is told, and not the journal's row.
 fn told_of_list<'a>(list: &'a str, failure: Failure<'a>) -> Failure<'a>
     ensures { result ≡ told_of_list list.entry failure.entry }
 {
@@ -345,7 +322,6 @@ fn told_of_list<'a>(list: &'a str, failure: Failure<'a>) -> Failure<'a>
     }
 }
 
-// Tests that the number of the event to begin with, if one is named, isn't above how many events the list has.
 fn test_event<'a, S: Source>(source: &S, from: Option<usize>) -> Result<(), Failure<'a>>
     ensures listed { OnOk result (first_event from ≤ length (S.items source.now)) }
     ensures missing { IfErr result (IsNoEvent from (S.items source.now)) }

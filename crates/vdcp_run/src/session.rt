@@ -1,4 +1,4 @@
-//! One session: a list is played over a connection, and what came of it.
+//! One session: plays a list over a connection, and says what came of it.
 ghost use Rattle.std.specs.Duration.{as_nanos};
 ghost use Rattle.std.specs.Prelude.{◌≡◌, ◌⊎◌, ◌≤◌, ◌*◌, ◌^◌, ◌-◌, IfErr, IfOk, IsSome, None, OnErr};
 ghost use Rattle.vdcp_run.specs.Run.{EndsRun, MayBeUnkept, journal_of};
@@ -27,11 +27,10 @@ use vdcp_log::Logged;
 use vdcp_text::Failure;
 use vdcp_wire::{StreamWire, Wire};
 
-/// What a list is played with, over one connection or several.
+/// What a run keeps from one connection to the next.
 #[derive(Drop)]
 pub struct Session<'r, 'l, R: Clock, I: io::Read, O: io::Write, V: io::Write> {
     pub console: Console<'r, 'l, R, I, O, V>,
-    /// When a run that stays connects.
     pub pace: Pace<'r, R>,
 }
 
@@ -43,9 +42,8 @@ impl<
     O: io::Write + Drop,
     V: io::Write + Drop,
 > Session<'r, 'l, R, I, O, V> {
-    /// Connects, and plays a list with what its run begins with. If the controller has ended already nothing is sent. `seen`
-    /// gets what was seen of that, and the session is handed back.
-    /// The failure is `Connect` if nobody takes the connection in time, and the run doesn't stay, and `NotEmpty` if the port
+    /// Connects and plays the list, and hands the session back. If the controller has ended already nothing is sent.
+    /// The failure is `Connect` if nobody takes the connection in time and the run doesn't stay, and `NotEmpty` if the port
     /// is asked and isn't empty.
     pub fn play_at<'a, S: Source + Copy>(
         self,
@@ -73,7 +71,7 @@ impl<
         } = begun;
         let rt = console.rt;
         if controller.outcome().is_some() {
-            // (no turn is left to a controller that goes on from there once more)
+            // (no turn is left: a run whose controller has ended makes no further try)
             let end = console.end(&controller, LineEnd::Unneeded, None, 0, settings);
             return (Ok(end), Session { console, pace });
         }
@@ -110,14 +108,12 @@ impl<
     }
 }
 
-// How long the line has to be silent for an answer to be missing.
 fn silence_of(settings: RunSettings<'_>) -> Duration
     ensures { as_nanos result ≡ settings.entry.silence * 1000000 }
 {
     Duration::from_millis(u64::from(settings.silence))
 }
 
-// How long an answer may go on.
 fn limit_of(settings: RunSettings<'_>) -> Duration
     ensures limit { as_nanos result ≡ longest_answer settings.entry }
     ensures short { as_nanos result ≤ 2 ^ 64 - 1 }
@@ -139,7 +135,6 @@ impl<
     O: io::Write + Drop,
     V: io::Write + Drop,
 > Playing<'a, 'r, 'l, R, F, I, O, V> {
-    // Plays a list over the wire of a connection, which is logged. One that refuses to be a wire is a line that failed.
     fn play_over<S: Source + Copy, W: Wire + Drop>(
         self,
         controller: Controller<Rest<S>>,
@@ -171,7 +166,6 @@ impl<
         played
     }
 
-    // Plays a list over a wire, by a new ear.
     fn play_by<S: Source + Copy, W: Wire + Drop>(
         self,
         controller: Controller<Rest<S>>,
@@ -193,7 +187,6 @@ impl<
         }
     }
 
-    // Plays a list with this ear over a wire, once what has to be asked before was asked, and unless that ends the line.
     fn play_in_turn<S: Source + Copy, E: Ear + Drop, W: Wire + Drop>(
         self,
         controller: Controller<Rest<S>>,
@@ -233,7 +226,6 @@ impl<
         playing.play(driver, left, settings, seen)
     }
 
-    // Runs an automation for this many turns at most, and ends its journal.
     fn play<S: Source + Copy, E: Ear + Drop, W: Wire + Drop>(
         mut self,
         mut driver: Driver<Rest<S>, E, W>,
@@ -260,8 +252,6 @@ impl<
     }
 }
 
-// Ends the journal of a run, if it has one, with how its controller has ended, if it has. It says why the journal isn't
-// whole, if it isn't.
 fn close<'a, R: Files + Clock + AllocGlobal, F: Disk + Drop>(
     recorder: &mut Option<Recorder<'a, '_, R, F>>,
     outcome: Option<Outcome>,
