@@ -14,8 +14,9 @@ use vdcp_journal_file::{Resumption, begin_again, begin_journal, resume_journal};
 use vdcp_list::Rest;
 use vdcp_text::Failure;
 
-/// The controller of a run, and the recorder of its journal, if it has one and its controller hasn't ended there. If the
-/// run begins with an event that is named, or after another one, the journal says so, and that is safe. The as-run list of a run with a journal has to have a place, and not the journal's file. If it is refused no new journal is left.
+/// Makes the controller, and the recorder of its journal unless the controller has ended there. If the run begins with a
+/// named event, or after an earlier run, the journal says so, and that is safe. A run with a journal needs an as-run file
+/// that can be made and isn't the journal. If the run is refused no new journal is left.
 pub fn begin<'a, 'r, 's, R: Files<File = File> + Clock + AllocGlobal, S: Source>(
     rt: &'r R,
     source: &'s S,
@@ -46,7 +47,6 @@ pub fn begin<'a, 'r, 's, R: Files<File = File> + Clock + AllocGlobal, S: Source>
     }
 }
 
-// With a journal.
 fn begin_kept<'a, 'r, 's, R: Files<File = File> + Clock + AllocGlobal, S: Source>(
     rt: &'r R,
     source: &'s S,
@@ -79,7 +79,7 @@ fn begin_kept<'a, 'r, 's, R: Files<File = File> + Clock + AllocGlobal, S: Source
     }
 }
 
-// With a new journal of this name, which is removed if the as-run list would take its place.
+// Only now that the journal exists can the as-run file be seen to be the same one, even by the same name.
 fn begin_new<'a, 'r, 's, R: Files<File = File> + Clock + AllocGlobal, S: Source>(
     rt: &'r R,
     name: &'a str,
@@ -118,7 +118,6 @@ fn begin_new<'a, 'r, 's, R: Files<File = File> + Clock + AllocGlobal, S: Source>
     }
 }
 
-// The new controller of a list.
 fn new_controller<S: Source>(source: S, settings: RunSettings<'_>) -> Controller<Rest<S>>
     requires some { 1 ≤ settings.limit }
     requires few { settings.limit ≤ 1000 }
@@ -132,7 +131,6 @@ fn new_controller<S: Source>(source: S, settings: RunSettings<'_>) -> Controller
     }
 }
 
-// What a journal of a run is of.
 fn heading_of<'a, R: AllocGlobal, S: Source>(
     rt: &R,
     source: &S,
@@ -141,7 +139,7 @@ fn heading_of<'a, R: AllocGlobal, S: Source>(
     ensures heading { IfOk result (λ heading. heading ≡ heading_for settings.entry (S.items source.now)) }
     ensures refused { IfErr result (λ failure. failure ≡ Failure.Memory) }
 {
-    // (each part of a list was read at the rate at which it is written)
+    // (each part was read at this rate, so that only memory can be refused)
     let Ok(digest) = digest_of(rt.alloc(), source, settings.rate) else {
         return Err(Failure::Memory);
     };

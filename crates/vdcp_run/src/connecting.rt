@@ -1,5 +1,4 @@
-//! How a run connects: at once, also if it waits for its start, and then again if that connection is gone; a run that stays
-//! until somebody takes the connection.
+//! How a run connects; one that stays tries until somebody takes the connection.
 use crate::console::Console;
 use crate::staying::Pace;
 use std::io::{self, ErrorKind};
@@ -10,10 +9,10 @@ use vdcp_auto::{Controller, Source};
 use vdcp_drive::Call;
 use vdcp_list::Rest;
 
-/// How long a connection may take to come about, in seconds.
+/// How many seconds a connection may take to come about.
 const CONNECTING: u64 = 5;
 
-/// How long that of a run that stays may, so that its operator is asked meanwhile.
+/// The same in a run that stays: short, since its operator is asked between tries.
 const CONNECTING_AGAIN: u64 = 1;
 
 impl<
@@ -24,7 +23,7 @@ impl<
     O: io::Write + Drop,
     V: io::Write + Drop,
 > Console<'r, 'l, R, I, O, V> {
-    /// A connection, once it is time for one; None if nobody takes it then.
+    /// Connects once it is time; None if nobody takes the connection then.
     pub fn connect_in_time<S: Source>(
         &mut self,
         address: SocketAddrV4,
@@ -36,8 +35,8 @@ impl<
         }
     }
 
-    /// A connection of a run that stays, once it is time for one: it tries again and again, in the pace, which is told once;
-    /// None if the operator stops while nobody takes it.
+    /// Connects once it is time, else tries again at this pace, and tells so once; None if the operator stops before
+    /// somebody takes the connection.
     pub fn connect_staying<S: Source>(
         &mut self,
         address: SocketAddrV4,
@@ -69,7 +68,7 @@ impl<
         None
     }
 
-    // Waits until the next try may begin, or the operator stops, and answers whether that was so.
+    // Waits until the next try may begin, unless the operator stops.
     fn stops_meanwhile<S: Source>(
         &mut self,
         controller: &Controller<Rest<S>>,
@@ -86,14 +85,13 @@ impl<
         false
     }
 
-    // Whether the operator has called stop. Another call is held, and requests for the page are answered.
+    // Another call than stop is held, and requests for the page are answered.
     fn has_stopped<S: Source>(&mut self, controller: &Controller<Rest<S>>) -> bool {
         self.hand.heed(controller) == Some(Call::Stop)
     }
 
-    // Waits until it is time to connect. If a start is waited for the server is asked at once whether it is there, which a
-    // terminal is told if it isn't. That connection is kept, since the server may take no other one, and nothing is sent over
-    // it before.
+    // A run that waits for its start connects at once, to tell early if the server isn't there. That connection is kept,
+    // since the server may take no other one, and nothing is sent over it before it is time.
     fn await_time<S: Source>(
         &mut self,
         address: SocketAddrV4,
@@ -111,7 +109,6 @@ impl<
         }
     }
 
-    // Connects before it is time; a terminal is told why not.
     fn connect_early(&self, address: SocketAddrV4) -> Option<R::Stream> {
         match connect(self.rt, address, CONNECTING) {
             Ok(stream) => Some(stream),
@@ -134,7 +131,6 @@ fn connect<R: Net>(rt: &R, address: SocketAddrV4, seconds: u64) -> io::Result<R:
     rt.connect_timeout(SocketAddr::V4(address), Duration::from_secs(seconds))
 }
 
-// Whether the other end hasn't closed a connection over which nothing was sent.
 fn is_open<S: OpenStream>(stream: &S) -> bool {
     if stream.set_nonblocking(true).is_err() {
         return false;

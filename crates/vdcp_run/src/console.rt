@@ -1,4 +1,4 @@
-//! What is in front of an operator during a run.
+//! The operator's side of a run: calls, page, progress line and what is told.
 ghost use Rattle.std.specs.Prelude.{◌≡◌};
 ghost use Rattle.vdcp_run.specs.Run.{HasAsrun, IsEndBy};
 
@@ -15,17 +15,12 @@ use vdcp_log::Log;
 use vdcp_operator::{Hand, Progress};
 use vdcp_text::Failure;
 
-/// Erases a line of a terminal.
 const ERASE: &'static str = "\r\x1b[K";
 
-/// The operator's hand, by which commands wait also in a run without an operator, and what is shown and told of a run.
 #[derive(Drop)]
 pub struct Console<'r, 'l, R: Clock, I: io::Read, O: io::Write, V: io::Write> {
-    /// The operator's hand.
     pub hand: Hand<'r, R, I, O>,
-    /// The log of the line.
     pub log: &'l Log<V>,
-    /// What runs it.
     pub rt: &'r R,
     progress: Option<Progress<'r, R, V>>,
     stalling: Stalling<'r, R>,
@@ -39,7 +34,7 @@ impl<
     O: io::Write + Drop,
     V: io::Write + Drop,
 > Console<'r, 'l, R, I, O, V> {
-    /// Of a run that begins, with this terminal for its progress line, if it has one.
+    /// `terminal` gets the progress line.
     pub fn new(
         rt: &'r R,
         hand: Hand<'r, R, I, O>,
@@ -64,7 +59,6 @@ impl<
         self.stalling.last()
     }
 
-    /// A command goes out.
     pub fn note_sent(&mut self)
         ensures { self.new.hand ≡ self.old.hand }
     {
@@ -73,7 +67,6 @@ impl<
         }
     }
 
-    /// An exchange has ended.
     pub fn note_end(&mut self, heard: Option<Heard>)
         ensures { self.new.hand ≡ self.old.hand }
     {
@@ -82,7 +75,7 @@ impl<
         }
     }
 
-    /// Shows how far the run is, and tells a stall.
+    /// Draws the progress line, and tells a stall.
     pub fn see<S: Source>(&mut self, controller: &Controller<Rest<S>>)
         ensures { self.new.hand ≡ self.old.hand }
     {
@@ -97,7 +90,7 @@ impl<
         }
     }
 
-    /// Tells that a run that came to this end tries again.
+    /// Tells that the run connects again after this end.
     pub fn tell_again(&self, end: &Result<RunEnd<'_>, Failure<'_>>) {
         let failure = match end {
             Ok(end) => end.line.failure(),
@@ -109,24 +102,21 @@ impl<
         }
     }
 
-    /// Tells a line, in place of the progress line.
+    /// Tells a line in place of the progress line.
     pub fn tell<T: fmt::Display>(&self, line: &T) {
         let erases = self.erases();
         self.log.tell_fault(&format_args!("{erases}vdcp: {line}"));
     }
 
-    // What erases the progress line, if there is one.
     fn erases(&self) -> &'static str {
         if self.is_terminal() { ERASE } else { "" }
     }
 
-    /// A terminal shows the run.
     pub fn is_terminal(&self) -> bool {
         self.progress.is_some()
     }
 
-    /// How the run has ended, by its controller, its line, why its journal isn't whole, and how many turns are left. Unless
-    /// it tries again, its as-run file is made, and the end is shown.
+    /// Ends the run, with `left` turns left. Unless it tries again, the as-run file is made, and the end is shown.
     pub fn end<'a, S: Source>(
         &mut self,
         controller: &Controller<Rest<S>>,

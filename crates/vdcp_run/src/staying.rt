@@ -10,12 +10,11 @@ use vdcp_wire::Stopwatch;
 /// From the beginning of one try to that of the next, in nanoseconds.
 const PACE: u64 = 1_000_000_000;
 
-/// How long is slept at once, in nanoseconds.
+/// The longest sleep, in nanoseconds: between two the operator is asked.
 const PIECE: u64 = 20_000_000;
 
-/// The settings with which a run tries again that had these, and came to this end; None if it doesn't. It does if it stays and
-/// ended by its line, its journal is whole, and a turn is left: it goes on from the journal. (A connection takes one turn at
-/// least.)
+/// The settings of the next try, which goes on from the journal. There is one if the run stays, its line ended it, its
+/// journal is whole and a turn is left. A connection takes at least one turn.
 pub fn later_of<'a>(end: &RunEnd<'_>, settings: RunSettings<'a>) -> Option<RunSettings<'a>>
     ensures later { result ≡ later_of settings.entry end.now }
     ensures same { IfSome result (λ later. (later.unit ≡ settings.entry.unit) × (later.limit ≡ settings.entry.limit)
@@ -39,12 +38,10 @@ pub fn later_of<'a>(end: &RunEnd<'_>, settings: RunSettings<'a>) -> Option<RunSe
 #[derive(Drop)]
 pub struct Pace<'r, R: Clock> {
     stopwatch: Stopwatch<&'r R>,
-    // When the next try may begin.
     due: u64,
 }
 
 impl<'r, R: Clock> Pace<'r, R> {
-    /// Of a run that hasn't connected yet.
     pub fn new(clock: &'r R) -> Self
         ensures { result.due ≡ 0 }
     {
@@ -54,14 +51,13 @@ impl<'r, R: Clock> Pace<'r, R> {
         }
     }
 
-    /// A try begins.
     pub fn begin(&mut self)
         ensures { self.new.due ≡ min (self.new.stopwatch.now + 1000000000) (2 ^ 64 - 1) }
     {
         self.due = self.stopwatch.read().saturating_add(PACE);
     }
 
-    /// Waits until the next one may begin, but for a piece of time at most. Answers whether it may.
+    /// Waits for the next try, but a piece of time at most; true if the try may begin.
     pub fn wait_piece(&mut self) -> bool
         ensures due { IsTrue result → self.new.due ≤ self.new.stopwatch.now }
         ensures stays { self.new.due ≡ self.old.due }
