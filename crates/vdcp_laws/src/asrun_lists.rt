@@ -1,6 +1,4 @@
 //! The laws of as-run lists: what is written for a run, beside what went to air.
-//!
-//! The functions do nothing: their contracts are the laws, and a caller whose proof needs one calls it.
 ghost use Rattle.std.specs.Prelude.{IfSome, IsTrue};
 ghost use Rattle.vdcp_auto.specs.Turn.{outcome_of};
 ghost use Rattle.vdcp_world.specs.LateLine.LateChannel.{LateChannel, IsLateReached};
@@ -10,9 +8,8 @@ ghost use Rattle.vdcp_value.specs.declared.rate.Rate.{Rate};
 ghost use Rattle.vdcp_world.specs.Channel.{Channel, IsReached};
 ghost use Rattle.vdcp_world.specs.Headline.{is_complete};
 
-/// Whatever happened on a line that holds one burst each way, from a new channel on: the as-run list that
-/// `vdcp_list::write_asrun` writes for what is reported has a row for each item that went to air, in order, but for the
-/// last of them at most. Once the controller has ended Done, Missing or Refused it has one for each.
+/// On a line that holds one burst each way the as-run list (`vdcp_list::write_asrun`) of what is reported has a row for
+/// each item that aired, in order, but for the last at most; after Done, Missing or Refused it has one for each.
 pub fn an_asrun_list_is_of_what_aired()
     ensures but_one { (rate : Rate) (c : Channel) → IsReached c →
         IsOfAired rate c.plan.list c.aired c.state.settled }
@@ -22,8 +19,8 @@ pub fn an_asrun_list_is_of_what_aired()
     vdcp_world::laws::reached_keeps_the_headline();
 }
 
-/// Likewise of a line that keeps order, however late, and of ends that are started anew. In plain mode a refusal may be
-/// a stale one, so that an event may have aired that isn't reported.
+/// The same of a line that keeps order, however late, and of ends that are started anew; but in plain mode, after a stale
+/// refusal, an event may have aired that isn't reported.
 pub fn an_asrun_list_of_a_late_line_is_of_what_aired()
     ensures but_one { (rate : Rate) (c : LateChannel) → IsLateReached c →
         IsOfAired rate c.plan.list c.aired c.state.settled }

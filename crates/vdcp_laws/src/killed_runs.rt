@@ -1,6 +1,4 @@
 //! The laws of runs that are killed, any number of times, and go on from their journals.
-//!
-//! The functions do nothing: their contracts are the laws, and a caller whose proof needs one calls it.
 ghost use Rattle.std.specs.Prelude.{◌≡◌, ◌∷◌, ◌++◌, [], All, Bool, IsTrue, List, None, Some, map};
 ghost use Rattle.vdcp_auto.specs.Plan.{Plan};
 ghost use Rattle.vdcp_auto.specs.declared.exchange.Heard.{Heard};
@@ -30,11 +28,9 @@ ghost use Rattle.vdcp_world.specs.LateLine.LateEvent.{Tick};
 ghost use Rattle.vdcp_words.specs.declared.command.Command.{Command};
 ghost use Rattle.vdcp_words.specs.declared.command.Command.TheVariants.{Play};
 
-/// Whatever happens on a line that keeps order, and however often the automation is killed and goes on from its
-/// journal, if no command goes out before its row is safe: the headline holds. A kill is no more than what a line could have
-/// done: since the notes that are safe no command was given out, all else may have happened, and what was awaited has timed
-/// out, which is noted (`goes_on`). Each row tells what a new controller does, and also if the journal leaves out what
-/// says nothing new, its rows give that the state of the one that runs.
+/// The headline holds however often the automation is killed and goes on from its journal, on any line that keeps order,
+/// if each command's row is safe before it goes out: what came since is lost and what was awaited times out, as a line
+/// could have had it (`goes_on`). The journal makes the same state, also if it leaves out what says nothing new.
 pub fn a_killed_run_keeps_the_headline()
     ensures goes_on { (c : LateChannel) (notes : List Note) (since : List LateEvent) → IsRun c notes →
         All IsNoTick since → IsRun (gone_on c (after_late_events c since)) (notes ++ silence_notes c) }
@@ -50,9 +46,8 @@ pub fn a_killed_run_keeps_the_headline()
     vdcp_journal::laws::a_thinned_journal_makes_the_same();
 }
 
-/// A command may have gone out before its row was safe, if it is the one that a controller of the safe rows gives next: one
-/// that asks for the state, or a PLAY. Whether it did or not, going on takes it for sent and timed out: a line could have
-/// had it so.
+/// The command that a controller of the safe rows gives next may have gone out before its row was safe: whether it did or
+/// not, going on takes it for sent and timed out, as a line could have had it.
 pub fn what_asks_may_go_out_unkept()
     ensures went { (c : LateChannel) (notes : List Note) (asks : Command) (since : List LateEvent) → IsRun c notes →
         given c.plan c.state ≡ Some asks → All IsNoTick since →
@@ -63,11 +58,9 @@ pub fn what_asks_may_go_out_unkept()
         IsRun (asked_in_vain (gone_on c (after_late_events c since))) (notes ++ (note.Sent asks ∷ note.Silence ∷ [])) }
 {}
 
-/// If what was heard last announces a PLAY, that may have gone out before its row was safe, whatever brought the state,
-/// and whether the state was asked since or not. If it did, the state was asked once more, its answer heard, and PLAY
-/// given. If it didn't, going on may take it for given and lost all the same (`goes`): a line could have had it so, on
-/// which the same state came once more, as a copy, after a take. Either way the rows may tell of any state that lets a
-/// PLAY go out (`shows`).
+/// A PLAY that the state heard last announces, whatever brought that, may have gone out before its row was safe, after the
+/// state was asked once more. If it didn't, going on may take it for given and lost all the same, as a line could have had
+/// it (`goes`). Either way the rows may tell of any state that lets a PLAY go out (`shows`).
 pub fn an_announced_play_may_go_out_unkept()
     ensures goes { (c : LateChannel) (notes : List Note) (h : Heard) (since : List LateEvent) → IsRun c notes →
         Announces c.plan c.state notes h → All IsNoTick since →
@@ -81,16 +74,13 @@ pub fn an_announced_play_may_go_out_unkept()
     vdcp_port::laws::the_unit_stays();
 }
 
-/// What going on writes behind a killed run's safe rows (`mended`) may have gone out of the two ends, whether it did or not:
-/// the next command, if it asks for the state or is a PLAY, and the PLAY that the rows announce. With it the rows are a
-/// journal again, of ends that go on from these with that taken for given, and make their controller. If they say that the
-/// run was lost, it was.
+/// What going on adds to a killed run's safe rows (`mended`) may have gone out of the two ends: taken for given, it makes
+/// the rows a journal of them again, and their controller. If the rows say that the run was lost, it was.
 pub fn what_going_on_adds_was_given()
     ensures mended { (plan : Plan) (port : ClockedPort) (asked : List Command) (e : Ends) (journal : List Row)
         (time : Moment) → CanJoin plan port asked → AreJoined plan port asked e →
         AreSafe plan e (last_run journal).rows →
         IsMendedOf plan e ((last_run journal).rows ++ rows_at time (mended plan journal (last_run journal).rows)) }
-    // and these go on over a new connection
     ensures joined { (plan : Plan) (port : ClockedPort) (asked : List Command) (e on : Ends) →
         AreJoined plan port asked e → GoesOnGiven plan e on →
         AreJoined plan port asked (connected_anew plan (port_now on) on) }
@@ -99,9 +89,8 @@ pub fn what_going_on_adds_was_given()
     crate::two_ends::a_journal_makes_the_automation();
 }
 
-/// What a recorder still has to write is what its safe rows may lack, and what was heard since: at each moment of a run that
-/// is recorded, also behind earlier rows, and also if a kill left the first of it. So what going on adds to such rows was given
-/// by the ends as they were before they heard that (`what_going_on_adds_was_given`).
+/// At each moment of a recorded run its safe rows lack at most what the recorder still has to write and what was heard
+/// since, also behind earlier rows, and if a kill left the first of it: `what_going_on_adds_was_given` holds of such rows.
 pub fn what_waits_may_be_lacking()
     ensures { (plan : Plan) (port : ClockedPort) (asked : List Command) (e : Ends) (before left : Pending)
         (earlier rows part rest : List Row) (all : List Note) (notes : List Kept) → CanJoin plan port asked →

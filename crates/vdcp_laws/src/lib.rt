@@ -1,10 +1,5 @@
-//! The laws over controller, port, journal and line together. They run nothing: each function's contract is its law.
-//!
-//! Begin with `two_ends_keep_the_headline`.
-//!
-//! Files: `two_ends` (both ends over two streams of bytes), `killed_runs` (runs that go on from their journals), `asrun_lists`
-//! (as-run lists beside what went to air), `lossy_lines` (what `vdcp lossy` does, as events of a line), `sessions`
-//! (what `vdcp run` does over a connection).
+//! The laws over controller, port, journal and line together: the contracts of functions that run nothing, which a caller
+//! whose proof needs one calls. Begin with `two_ends_keep_the_headline`; `README.md` says which file is about what.
 #![tactic(auto)]
 
 mod asrun_lists;
