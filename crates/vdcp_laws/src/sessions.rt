@@ -1,6 +1,4 @@
 //! The law of what `vdcp run` does over a connection, from its first question to its last byte.
-//!
-//! The function does nothing: its contract is the law, and a caller whose proof needs it calls it.
 ghost use Rattle.std.specs.Prelude.{ℕ, ◌≡◌, ◌++◌, [], List, Option};
 ghost use Rattle.vdcp_value.specs.declared.part.Item.{Item};
 ghost use Rattle.vdcp_words.specs.declared.command.Command.{Command};
@@ -28,11 +26,10 @@ use vdcp_journal_file::Disk;
 use vdcp_port::Catalogue;
 use vdcp_wire::Wire;
 
-/// What `vdcp run` does over a connection with an ear that hears at once (`HasTried`, which its `play_over` gives over any
-/// wire and any disk): an automation of its own asks first what has to be asked, and with the ear that this hands on the list
-/// is played, or it isn't begun. If its wire and a server's carry to each, in order, a beginning of the bytes that the other
-/// one sent by then, the headline holds: of the list's controller, which is new, or goes on from its journal over a new
-/// connection, and of the server, which hears at once, or at silences none of which tears a command.
+/// The headline holds of what `vdcp run` does over a connection with an ear that hears at once (`HasTried`, which
+/// `play_over` gives with a new ear), its first questions included, if the wires carry to each end, in order, a beginning
+/// of what the other sent by then. The controller is new, or goes on from its journal over a new connection; the server
+/// hears at once, or at silences none of which tears a command.
 pub fn a_session_keeps_the_headline<C: Catalogue, A: Wire, D: Disk, B: Wire, H: ServerHooks<C>>()
     ensures headline { (plan : Plan) (from : ℕ) (settings : RunSettings) (port : ClockedPort) (asked : List Command) (e : Ends)
         (wire : A) (recorder : Option (Recording D)) (end : RunEnd) (turns : List Turn) (below : List Act) (aired : List Item) →
@@ -42,7 +39,6 @@ pub fn a_session_keeps_the_headline<C: Catalogue, A: Wire, D: Disk, B: Wire, H: 
         IsServed B.does H.can_act H.does e turns below aired →
         AreCarried plan port.state.unit e (acts_tried tried) below →
         EndsHeadline plan port.clips (state_tried tried) (log_now e ++ log_tried tried) aired }
-    // such a session leads both ends on: to what a new connection may follow
     ensures joined { (plan : Plan) (from : ℕ) (settings : RunSettings) (port : ClockedPort) (asked : List Command) (e : Ends)
         (wire : A) (recorder : Option (Recording D)) (end : RunEnd) (turns : List Turn) (below : List Act) (aired : List Item) →
         AreJoined plan port asked e → commands_in plan e.automation ≡ [] →
@@ -51,11 +47,9 @@ pub fn a_session_keeps_the_headline<C: Catalogue, A: Wire, D: Disk, B: Wire, H: 
         IsServed B.does H.can_act H.does e turns below aired →
         AreCarried plan port.state.unit e (acts_tried tried) below →
         AreJoined plan port asked (ends_tried tried e (e.downs ++ turns)) }
-    // `play_over` gives one with a new ear, as new ends have it, and those over a new connection
     ensures given { (settings : RunSettings) (start : Start) (wire : A) (recorder : Option (Recording D)) (end : RunEnd) →
         TriesOver A.does D.safe (record settings { hearing = Hearing.AtOnce }) start wire recorder end →
         HasTried A.does D.safe at_once (record settings { hearing = Hearing.AtOnce }) start (holds []) (over wire recorder) end }
-    // over which nothing was given yet
     ensures anew { (plan : Plan) (port : ClockedPort) (e : Ends) →
         commands_in plan (connected_anew plan port e).automation ≡ [] }
 {

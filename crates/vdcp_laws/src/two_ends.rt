@@ -1,6 +1,4 @@
 //! The laws of both ends over two streams of bytes that keep order, one connection after another.
-//!
-//! The functions do nothing: their contracts are the laws, and a caller whose proof needs one calls it.
 ghost use Rattle.std.specs.Prelude.{ℕ, Bool, ◌≡◌, ◌≤◌, ◌<◌, ◌+◌, ◌++◌, [], false, All, AllPairs, IfSome, List, length, IsTrue, Option, None, Some, Result, map};
 ghost use Rattle.vdcp_value.specs.declared.part.Item.{Item};
 ghost use Rattle.vdcp_words.specs.declared.command.Command.{Command};
@@ -50,11 +48,9 @@ use vdcp_drive::{AtOnce, Hearing, ServerHooks};
 use vdcp_port::Catalogue;
 use vdcp_wire::Wire;
 
-/// An automation and a server that hear at once, joined by two streams of bytes that keep order, are a late channel: in
-/// whatever pieces and however late the bytes come, with time-outs, silences and frames at any moment, also within a
-/// command, after questions to the port whose bytes and answers may still be on their way, and over one connection
-/// after another, if the automation was killed and went on from its journal, also with the PLAY that this announces,
-/// or the server was started anew. It is a run that has the journal's notes.
+/// An automation and a server that hear at once, joined by two streams of bytes that keep order, are a late channel,
+/// whatever comes of them (`Step`): also with questions to the port, kills and restarts, over one connection after
+/// another. It is a run that has the journal's notes.
 pub fn two_ends_are_a_late_channel()
     ensures ends { (plan : Plan) (port : ClockedPort) (asked : List Command) (e : Ends) → CanJoin plan port asked →
         AreJoined plan port asked e → IsLateChannel plan port e }
@@ -62,9 +58,8 @@ pub fn two_ends_are_a_late_channel()
     what_is_below();
 }
 
-/// So the headline holds of the two ends: what went to air at the server is a beginning of the playlist, each event once
-/// and in order; the events that the automation takes for aired are a beginning of these, shorter by one at most; its end
-/// means what it says; and after a complete one they are the same.
+/// So the headline holds of the two ends: what aired is a beginning of the playlist, each event once and in order; the
+/// automation reports all of it but for the last event at most, and all after a complete end; its end means what it says.
 pub fn two_ends_keep_the_headline()
     ensures ends { (plan : Plan) (port : ClockedPort) (asked : List Command) (e : Ends) → CanJoin plan port asked →
         AreJoined plan port asked e → EndsHeadline plan port.clips e.automation.state (log_now e) (aired_now e) }
@@ -73,8 +68,8 @@ pub fn two_ends_keep_the_headline()
     vdcp_world::laws::a_late_line_keeps_the_headline();
 }
 
-/// A server that hears at silences, none of which tears a command, does what one does that hears at once and at which a frame
-/// passes after each silence: if each burst is read without a fault, and each silence comes after whole commands.
+/// A server that hears at silences does what one does that hears at once and at which a frame passes after each silence,
+/// if each burst is read without a fault and each silence comes after whole commands.
 pub fn untorn_turns_are_at_once()
     ensures acts { (port : ClockedPort) (turns : List Turn) → AreUntorn [] turns →
         acts_of (begins Hearing.AtOnce port) (at_once_for turns) ≡ acts_of (begins Hearing.AtSilences port) turns }
@@ -89,11 +84,9 @@ pub fn untorn_turns_are_at_once()
     vdcp_drive::laws::servers_go_on();
 }
 
-/// So the headline holds of a driver that hears at once and of a server that does, or that hears at silences none of which
-/// tears a command, however their runs end and whatever calls were made in them, with frames and silences at any moment,
-/// if their wires' acts are carried so that to each comes, in order, a beginning of the bytes that the other one sent by then:
-/// of new ones, of those that run or serve again (their runs are one), and of a driver that goes on from its journal over a
-/// new connection.
+/// So the headline holds of a driver that hears at once, and of a server that does or whose silences tear no command, if
+/// the wires carry to each, in order, a beginning of what the other sent by then. Each is new or runs again, the driver
+/// also from its journal over a new connection, and calls, frames and ends may be any.
 pub fn a_carried_run_keeps_the_headline<C: Catalogue, B: Wire, H: ServerHooks<C>>()
     ensures headline { (plan : Plan) (port : ClockedPort) (asked : List Command) (e : Ends) (count : ℕ) (a' : Auto Held)
         (answer : Result Ran BrokenOff) (turns : List Turn) (below : List Act) (aired : List Item) → CanJoin plan port asked →
@@ -101,7 +94,6 @@ pub fn a_carried_run_keeps_the_headline<C: Catalogue, B: Wire, H: ServerHooks<C>
         IsServed B.does H.can_act H.does e turns below aired →
         AreCarried plan port.state.unit e (acts_in (steps_in run)) below → EndsHeadline plan port.clips a'.state
         (log_now e ++ auto.log_of at_once plan port.state.unit (driver_of e.automation) run.events) aired }
-    // such runs lead both ends on, with the next command given: to what a new connection may follow
     ensures joined { (plan : Plan) (port : ClockedPort) (asked : List Command) (e : Ends) (count : ℕ) (a' : Auto Held)
         (answer : Result Ran BrokenOff) (turns : List Turn) (below : List Act) (aired : List Item) →
         AreJoined plan port asked e → (run : IsRun at_once plan port.state.unit count (driver_of e.automation) a' answer) →
@@ -116,7 +108,7 @@ pub fn a_carried_run_keeps_the_headline<C: Catalogue, B: Wire, H: ServerHooks<C>
     vdcp_drive::laws::what_goes_out_is_answered();
 }
 
-/// Once the automation has ended so that all that went to air is reported, nothing more airs, whatever is still on its way.
+/// After an end at which all that aired is reported nothing more airs, whatever is still on its way.
 pub fn nothing_airs_after_a_complete_end()
     ensures { (plan : Plan) (port : ClockedPort) (asked : List Command) (e later : Ends) (outcome : Outcome) →
         CanJoin plan port asked → AreJoined plan port asked e → outcome_of e.automation.state.stage ≡ Some outcome →
@@ -127,20 +119,18 @@ pub fn nothing_airs_after_a_complete_end()
     vdcp_world::laws::a_late_line_keeps_the_headline();
 }
 
-/// What aired in several runs of a list, each begun behind all that aired before it, are events of that list, each once at
-/// most and in order. If none was left out, they are a beginning of it.
+/// Several runs of a list, each begun behind all that aired before it, air each event once at most and in order; if none
+/// was left out, a beginning of the list. A run aired as many as its journal settles, also as a kill left that, if it
+/// shows that no event more may have aired (`next`), and in any case one more at most (`most`).
 pub fn several_runs_air_each_event_once()
     ensures once { (list : List Item) (aired : List AiredEvent) → HaveAired list aired →
         AllPairs (λ (a b : AiredEvent). a.number < b.number) aired }
     ensures events { (list : List Item) (aired : List AiredEvent) → HaveAired list aired → All (IsEvent list) aired }
     ensures list { (list items : List Item) → HaveAired list (aired_from 0 items) → (more : List Item) × (list ≡ items ++ more) }
-    // how many aired in a run is what its journal settles, if it shows that no event more may have aired, also as a kill
-    // left it
     ensures next { (plan : Plan) (port : ClockedPort) (asked : List Command) (kept now : Ends) (all rows asks : List Row) →
         CanJoin plan port asked → AreJoined plan port asked kept → IsSince plan port.state.unit kept now →
         notes_in all ≡ kept.notes → AreThinned all (rows ++ asks) → AsksAtMost asks →
         may_have_aired plan.mode (log_of rows) ≡ false → length (aired_now now) ≡ settled_in plan.mode rows }
-    // and in any case it is one more at most
     ensures most { (plan : Plan) (port : ClockedPort) (asked : List Command) (kept now : Ends) (all rows asks : List Row) →
         CanJoin plan port asked → AreJoined plan port asked kept → IsSince plan port.state.unit kept now →
         notes_in all ≡ kept.notes → AreThinned all (rows ++ asks) → AsksAtMost asks →
@@ -152,14 +142,10 @@ pub fn several_runs_air_each_event_once()
     vdcp_auto::laws::a_log_grows();
 }
 
-/// Two ends in time, of which the automation is new, are a channel on whose line nothing is lost: bytes come in whatever
-/// pieces and however late, if what is awaited doesn't time out before all that was sent has come. So what holds of each
-/// channel holds of them: an end means what it does there, whatever state the port was in. And if nothing was cued at first:
-///
-/// - if each item of the list is in the catalogue, each part fits its clip, and the operator doesn't stop, each exchange leads
-///   on but one whose state says that something is being cued or that a clip plays: but for these there are five exchanges for
-///   each event, and four, at most, in confirm mode six, and five. Once they are as many the whole list went to air.
-/// - No clip is cut short by another one, if the operator doesn't take.
+/// A new automation and a server in time, of which nothing awaited times out before all that was sent has come, are a
+/// channel that loses nothing, and so keep its headline, whatever state the port was in. If nothing was cued at first, a
+/// playable list that isn't stopped airs whole (`plays`: `docs/PROOFS.md` has the number of exchanges), and without a take
+/// no clip is cut short (`uncut`).
 pub fn ends_in_time_are_a_channel()
     ensures channel { (plan : Plan) (port : ClockedPort) (e : Ends) → CanRun plan port → AreNewInTime plan port e →
         AreChannel plan port e }
@@ -178,8 +164,7 @@ pub fn ends_in_time_are_a_channel()
     vdcp_world::laws::no_cut_without_a_take();
 }
 
-/// Such are a new driver and a server, if each listen of the driver brings bytes, so that nothing times out: in plain mode
-/// each command is answered in time then.
+/// A new driver and a server are in time if each listen of the driver brings bytes, so that nothing times out.
 pub fn what_is_never_silent_is_in_time<C: Catalogue, B: Wire, H: ServerHooks<C>>()
     ensures { (plan : Plan) (port : ClockedPort) (count : ℕ) (a' : Auto Held) (answer : Result Ran BrokenOff)
         (turns : List Turn) (below : List Act) (aired : List Item) →
@@ -194,10 +179,9 @@ pub fn what_is_never_silent_is_in_time<C: Catalogue, B: Wire, H: ServerHooks<C>>
     vdcp_drive::laws::steps_are_exchanges::<AtOnce>();
 }
 
-/// An automation that is killed goes on as it was when the last of what is safe in its journal was noted, if it gave no
-/// command since. What came to it since is lost, and the server is as it is now; so this is among what may come of the
-/// two ends, and a new connection may follow, also with the PLAY that its notes announce. Its next command may be taken for
-/// given, too, as one that may have gone out without its row.
+/// An automation that is killed goes on as of its last safe note, if it gave no command since: what came since is lost, the
+/// server is as it is now, and a new connection may follow, also with the PLAY that the notes announce. Its next command,
+/// which may have gone out without its row, may be taken for given, too.
 pub fn a_kill_loses_what_came_since()
     ensures joined { (plan : Plan) (port : ClockedPort) (asked : List Command) (kept now : Ends) →
         AreJoined plan port asked kept → IsSince plan port.state.unit kept now → AreJoined plan port asked (with_kept kept now) }
@@ -210,9 +194,8 @@ pub fn a_kill_loses_what_came_since()
         AreJoined plan port asked kept → IsSince plan port.state.unit kept now → aired_now (with_kept kept now) ≡ aired_now now }
 {}
 
-/// The rows of a journal of these notes, also if it leaves out what may be left, make the automation's controller of a
-/// new one, and each tells what the controller does there. The log that all of them show is the automation's, with the
-/// command that is awaited timed out.
+/// The rows of an automation's notes, also if they leave out what a journal may, make the controller that it has, and each
+/// tells what a controller does there. Their log is its log, with the awaited command timed out.
 pub fn a_journal_makes_the_automation()
     ensures makes { (plan : Plan) (port : ClockedPort) (asked : List Command) (e : Ends) (all rows : List Row) →
         CanJoin plan port asked → AreJoined plan port asked e → notes_in all ≡ e.notes → AreThinned all rows →
@@ -223,12 +206,10 @@ pub fn a_journal_makes_the_automation()
     ensures shows { (plan : Plan) (port : ClockedPort) (asked : List Command) (e : Ends) (all : List Row) →
         AreJoined plan port asked e → notes_in all ≡ e.notes →
         log_of all ≡ logged (log_now e) (ended_by plan None e.automation.state) }
-    // if they announce a PLAY, what goes on with it has these notes more
     ensures announced { (plan : Plan) (port : ClockedPort) (e : Ends) (h : Heard) →
         Announces plan e.automation.state e.notes h →
         (connected_anew plan port (with_command plan (heard_again plan h e))).notes
         ≡ e.notes ++ played_notes (given plan e.automation.state) h }
-    // and what a driver's run keeps, with its next command given, are the notes that it adds to the journal
     ensures kept { (plan : Plan) (unit : ℕ) (e : Ends) (events : List Event) (downs : List Turn) →
         (ends_at plan unit e events downs).notes ≡ (e.notes ++ map note_for
         (kept_in (steps_of at_once plan unit (driver_of e.automation) events)))
@@ -238,7 +219,6 @@ pub fn a_journal_makes_the_automation()
     vdcp_journal::laws::a_thinned_journal_makes_the_same();
 }
 
-/// What the laws of the crates below say.
 fn what_is_below()
     ensures { Laws }
 {
