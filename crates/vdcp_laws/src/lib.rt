@@ -13,7 +13,7 @@ pub use asrun_lists::{
 };
 pub use killed_runs::{
     a_killed_run_keeps_the_headline, an_announced_play_may_go_out_unkept,
-    what_asks_may_go_out_unkept, what_going_on_adds_was_given,
+    what_asks_may_go_out_unkept, what_going_on_adds_was_given, what_waits_may_be_lacking,
 };
 pub use lossy_lines::what_is_done_is_events;
 pub use sessions::a_session_keeps_the_headline;
