@@ -1,5 +1,6 @@
 -- The headline of a driver whose wire's acts are carried.
-use Rattle.std.proofs.Common.{ℕ, ◌⊎◌, inl, inr, ◌≡◌, List, [], ◌∷◌, ◌++◌, sym, ap, ap₂, subst, ◌∙◌, append_assoc}
+use Rattle.std.proofs.Common.{ℕ, ◌⊎◌, inl, inr, ◌≡◌, List, [], ◌∷◌, ◌++◌, map, refl, sym, ap, ap₂, subst, ◌∙◌, append_assoc, append-nil}
+use Rattle.std.proofs.lemmas.List.{map-append}
 use Rattle.std.specs.Prelude.{Result}
 use Rattle.vdcp_value.specs.declared.part.Item.{Item}
 use Rattle.vdcp_words.specs.declared.command.Command.{Command}
@@ -7,28 +8,33 @@ use Rattle.vdcp_port.specs.Clock.{ClockedPort}
 use Rattle.vdcp_auto.specs.Plan.{Plan}
 use Rattle.vdcp_auto.specs.Turn.{ticked}
 use Rattle.vdcp_auto.specs.declared.exchange.Exchange.{Exchange}
-use Rattle.vdcp_wire.specs.Acts.{Act, brings}
+use Rattle.vdcp_journal.specs.declared.row.Note.{Note}
+use Rattle.vdcp_wire.specs.Acts.{Act, brings, fails, sends}
 use Rattle.vdcp_wire.specs.Wires.{Arrival, bytes, silence, close}
 use Rattle.vdcp_drive.specs.Serving.{begins, items_in, hook_steps}
 use Rattle.vdcp_drive.specs.Turns.{Turn}
 use Rattle.vdcp_drive.specs.declared.hearing.Hearing.TheVariants.{AtOnce}
-use Rattle.vdcp_drive.specs.Auto.{Auto, Event, after, log_of}
+use Rattle.vdcp_drive.specs.Auto.{AreMade, Auto, Event, after, log_of}
 use Rattle.vdcp_drive.specs.Auto as auto
 use Rattle.vdcp_drive.specs.Hearing.{at_once}
 use Rattle.vdcp_drive.specs.Leaves.{Ending, by_itself, by_hooks, in_keep, in_drop, in_send, in_listen, IsRun}
 use Rattle.vdcp_drive.specs.Reading.{Held}
-use Rattle.vdcp_drive.specs.Steps.{Step}
+use Rattle.vdcp_drive.specs.Steps.{Step, steps_of}
+use Rattle.vdcp_drive.specs.Traces.{acts_in, kept_in, sent_in}
 use Rattle.vdcp_drive.specs.declared.hooks.BrokenOff.{BrokenOff}
+use Rattle.vdcp_drive.specs.declared.hooks.Kept.{Kept}
 use Rattle.vdcp_drive.specs.declared.line.Ran.{Ran}
 use Rattle.vdcp_laws.specs.Automation.{Prompt, led}
-use Rattle.vdcp_laws.specs.Carried.{AreCarried, driver_of}
+use Rattle.vdcp_laws.specs.Carried.{AreCarried, MayGive, driver_of, next, nothing}
+use Rattle.vdcp_laws.specs.Carried as carried
 use Rattle.vdcp_laws.specs.EndsHeadline.{EndsHeadline}
 use Rattle.vdcp_laws.specs.OneConnection.{ends_at, ends_by, hears_in}
 use Rattle.vdcp_laws.specs.TwoEnds as two
-use Rattle.vdcp_laws.specs.TwoEnds.{AreJoined, AreLed, CanJoin, Ends, aired_now, log_now, new_ends, sent_down}
-use Rattle.vdcp_laws.proofs.Carrying.{Leads, Side}
+use Rattle.vdcp_laws.specs.TwoEnds.{AreJoined, AreLed, CanJoin, Ends, aired_now, log_now, new_ends, note_for, sent_down}
+use Rattle.vdcp_laws.proofs.Carrying.{Leads, Side, events_side, given_side, head_of, no_act, none_before, sent_both, tail_of}
 use Rattle.vdcp_laws.proofs.Leading.{IsFront, IsQuiet, side_led}
 use Rattle.vdcp_laws.proofs.Headline.{Laws, before_tick, of_ends}
+use Rattle.vdcp_laws.proofs.Noted.{noted}
 use Rattle.vdcp_laws.proofs.OneRun.{automation_so, led_on, stays}
 use Rattle.vdcp_laws.proofs.Servers.{ServedSo}
 use Rattle.vdcp_laws.proofs.Same.{led_log, led_so}
@@ -65,6 +71,75 @@ pub joined : (plan : Plan) (port : ClockedPort) (asked : List Command) (e last :
 joined plan port asked e last list turns below aired j s served c =
     led_on plan port.state.unit (new_ends port asked) e _ j
     (led_by plan port.state.unit e list last turns below aired s served c)
+
+-- Ends of a run that was killed.
+
+-- a front is all of a list, or doesn't have its last
+split_last : {R : Type 0} (xs : List Act) (x : Act) (front back : List Act) → xs ++ x ∷ [] ≡ front ++ back
+    → (xs ++ x ∷ [] ≡ front → R) → ((rest : List Act) → back ≡ rest ++ x ∷ [] → xs ≡ front ++ rest → R) → R
+split_last xs x [] back is all more = more xs (sym is) refl
+split_last [] x (y ∷ front) back is all more =
+    all (ap₂ (λ (a : Act) (l : List Act). a ∷ l) (ap head_of is) (sym (none_before front back (ap tail_of is))))
+split_last (z ∷ xs) x (y ∷ front) back is all more = split_last xs x front back (ap tail_of is)
+    (λ same. all (ap₂ (λ (a : Act) (l : List Act). a ∷ l) (ap head_of is) same))
+    (λ rest last parts. more rest last (ap₂ (λ (a : Act) (l : List Act). a ∷ l) (ap head_of is) parts))
+
+module _ (plan : Plan) (unit : ℕ) (e : Ends) (front : List Act) where
+  shorter : {servers : List Act} (autos : List Act) (x : Act) (back : List Act)
+      → AreCarried plan unit e (autos ++ x ∷ []) servers
+      → ((rest : List Act) → autos ≡ front ++ rest → sent_in rest ≡ [] → AreCarried plan unit e front servers)
+      → autos ++ x ∷ [] ≡ front ++ back → sent_in back ≡ [] → AreCarried plan unit e front servers
+  shorter {servers} autos x back c before is none = split_last autos x front back is
+      (λ all. subst (λ (l : List Act). AreCarried plan unit e l servers) all c)
+      (λ rest last parts. before rest parts
+      (none_before (sent_in rest) (sent_in (x ∷ [])) (sym none ∙ ap sent_in last ∙ sent_both rest (x ∷ []))))
+
+  -- what came since, and isn't heard, may be left out
+  pub carried_before : {all servers : List Act} → AreCarried plan unit e all servers → (back : List Act)
+      → all ≡ front ++ back → sent_in back ≡ [] → AreCarried plan unit e front servers
+  carried_before carried.begun back is none =
+      subst (λ (l : List Act). AreCarried plan unit e l []) (sym (none_before front back is)) carried.begun
+  carried_before (carried.sent {autos} c b) back is none =
+      shorter autos (sends b) back (carried.sent c b) (carried_before c) is none
+  carried_before (carried.up {autos} c piece rest out) back is none =
+      shorter autos (brings (bytes piece)) back (carried.up c piece rest out) (carried_before c) is none
+  carried_before (carried.waited {autos} c) back is none = shorter autos (brings silence) back (carried.waited c) (carried_before c) is none
+  carried_before (carried.hung_up {autos} c) back is none = shorter autos (brings close) back (carried.hung_up c) (carried_before c) is none
+  carried_before (carried.failed {autos} c) back is none = shorter autos fails back (carried.failed c) (carried_before c) is none
+  carried_before (carried.answered c b) back is none = carried.answered (carried_before c back is none) b
+  carried_before (carried.down {autos} {servers} c piece rest out) back is none =
+      carried.down (carried_before c back is none) piece rest
+      (ap (λ (l : List ℕ). sent_down plan unit e ++ l)
+      (sym (ap sent_in is ∙ sent_both front back ∙ ap (λ (l : List ℕ). sent_in front ++ l) none
+      ∙ append-nil (sent_in front))) ∙ out)
+  carried_before (carried.paused c) back is none = carried.paused (carried_before c back is none)
+  carried_before (carried.shut c) back is none = carried.shut (carried_before c back is none)
+  carried_before (carried.broke c) back is none = carried.broke (carried_before c back is none)
+
+may_so : (plan : Plan) (unit : ℕ) (now last : Ends) (rows : List Kept) (out : List Act) → MayGive plan unit now rows out last
+    → Side plan unit (AreLed plan unit) now (sent_down plan unit now) out last × (last.notes ≡ now.notes ++ map note_for rows)
+may_so plan unit now _ _ _ nothing = (
+  no_act plan unit (AreLed plan unit) now (sent_down plan unit now) [] (sym (append-nil (sent_down plan unit now))),
+  sym (append-nil now.notes),
+)
+may_so plan unit now _ _ _ (next out unsent none part) =
+    (given_side plan unit (AreLed plan unit) (leads_on plan unit) now out unsent none part, refl)
+
+-- it was killed after these events, with the next command kept or not
+pub killed_so : (plan : Plan) (unit : ℕ) (e last : Ends) (events : List Event) (rows : List Kept) (out : List Act)
+    → (let steps : List Step = steps_of at_once plan unit (driver_of e.automation) events in
+    AreMade at_once plan unit (driver_of e.automation) events → MayGive plan unit (ends_by plan unit e events) rows out last
+    → Side plan unit (AreLed plan unit) e (sent_down plan unit e) (acts_in steps ++ out) last
+    × (last.notes ≡ e.notes ++ map note_for (kept_in steps ++ rows)))
+killed_so plan unit e last events rows out made may =
+    let kept : List Kept = kept_in (steps_of at_once plan unit (driver_of e.automation) events) in
+    let then = may_so plan unit (ends_by plan unit e events) last rows out may in (
+      events_side plan unit (AreLed plan unit) (leads_on plan unit) out last events e made then.0,
+      then.1
+          ∙ ap (λ (l : List Note). l ++ map note_for rows) (noted plan unit e events)
+          ∙ append_assoc e.notes (map note_for kept) (map note_for rows)
+          ∙ ap (λ (l : List Note). e.notes ++ l) (sym (map-append note_for kept rows)),
+    )
 
 -- The headline of a run after which the ends are joined.
 

@@ -32,7 +32,8 @@ use Rattle.vdcp_laws.specs.TwoEnds.{Ends, bytes_in, sent_down, with_command}
 use Rattle.vdcp_laws.proofs.Commands.{commands_listens}
 use Rattle.vdcp_laws.proofs.Fronts.{head_so, tail_so}
 use Rattle.vdcp_laws.proofs.Joining.{sent_given}
-use Rattle.vdcp_laws.proofs.Same.{listens_so}
+use Rattle.vdcp_laws.proofs.OneRun.{automation_so}
+use Rattle.vdcp_laws.proofs.Same.{led_so, listens_so}
 
 -- Acts and steps, one after another.
 
@@ -206,7 +207,7 @@ none_comes : (came rest : List Arrival) (a : Arrival) → [] ≡ came ++ a ∷ r
 none_comes [] rest a is = cc
 none_comes (x ∷ came) rest a is = cc
 
-none_before : {A : Type 0} (xs ys : List A) → [] ≡ xs ++ ys → xs ≡ []
+pub none_before : {A : Type 0} (xs ys : List A) → [] ≡ xs ++ ys → xs ≡ []
 none_before [] ys is = refl
 none_before (x ∷ xs) ys is = cc
 
@@ -242,11 +243,11 @@ led_first plan unit R e e' sent list last on ups port s = record {
 
 -- an act that brings nothing
 
-abbrev head_of : List Act → Act
+abbrev pub head_of : List Act → Act
 head_of [] = fails
 head_of (x ∷ xs) = x
 
-abbrev tail_of : List Act → List Act
+abbrev pub tail_of : List Act → List Act
 tail_of [] = []
 tail_of (x ∷ xs) = xs
 
@@ -379,55 +380,66 @@ one_round plan unit R (Some c) e sent what list last is s =
     (brings_first plan unit R e (sent ++ b) [] what list last (all ∙ sym (append-nil (sent ++ b)))
     (subst (λ (l : List ℕ). Side plan unit R (hears_in plan unit what e) l list last) (heard_down plan unit what e ∙ all) s))
 
-run_side : (plan : Plan) (unit count : ℕ) (R : Ends → Ends → Type 0) (leads : Leads plan unit R) (all events : List Event) (e : Ends) (answer : Result Ran BrokenOff)
-    (more : List Step) (a' : Auto Held)
-    → Ending at_once plan unit count all (after at_once plan unit (driver_of e.automation) events) answer more a'
-    → AreMade at_once plan unit (driver_of e.automation) events
+-- what happens first, and then these acts
+pub events_side : (plan : Plan) (unit : ℕ) (R : Ends → Ends → Type 0) (leads : Leads plan unit R) (out : List Act) (last : Ends)
+    (events : List Event) (e : Ends) → AreMade at_once plan unit (driver_of e.automation) events
+    → Side plan unit R (ends_by plan unit e events) (sent_down plan unit (ends_by plan unit e events)) out last
     → Side plan unit R e (sent_down plan unit e)
-    (acts_in (steps_of at_once plan unit (driver_of e.automation) events ++ more))
-    (with_command plan (ends_by plan unit e events))
-run_side plan unit count R leads all [] e answer more a' ending made =
-    let last = last_so plan unit count all (driver_of e.automation) a' answer more ending in
-    led_first plan unit R e (with_command plan e) (sent_down plan unit e) (acts_in more) (with_command plan e)
-    (λ first downs j. leads.on two.gave tt j) refl refl
-    (last_side plan unit R (with_command plan e) (sent_down plan unit e) (last.unsent ++ bytes_of unit last.others)
-    (acts_in more) last.none (sent_given plan unit e ∙ ap (λ (l : List ℕ). sent_down plan unit e ++ l)
-    (ap (bytes_of unit) last.given_is
-    ∙ flat_map-append (command_bytes unit) (commands_kept (kept_in more)) last.others
-    ∙ ap (λ (l : List ℕ). l ++ bytes_of unit last.others) last.part
-    ∙ append_assoc (sent_in (acts_in more)) last.unsent (bytes_of unit last.others))))
-run_side plan unit count R leads all (calls call.Take ∷ later) e answer more a' ending made =
+    (acts_in (steps_of at_once plan unit (driver_of e.automation) events) ++ out) last
+events_side plan unit R leads out last [] e made s = s
+events_side plan unit R leads out last (calls call.Take ∷ later) e made s =
     led_first plan unit R e (heeds_in call.Take e) (sent_down plan unit e) _ _
     (λ first downs j. leads.on (two.took made.0) tt j) refl refl
-    (run_side plan unit count R leads all later (heeds_in call.Take e) answer more a' ending made.1)
-run_side plan unit count R leads all (calls call.Stop ∷ later) e answer more a' ending made =
+    (events_side plan unit R leads out last later (heeds_in call.Take e) made.1 s)
+events_side plan unit R leads out last (calls call.Stop ∷ later) e made s =
     led_first plan unit R e (heeds_in call.Stop e) (sent_down plan unit e) _ _
     (λ first downs j. leads.on (two.halted made.0) tt j) refl refl
-    (run_side plan unit count R leads all later (heeds_in call.Stop e) answer more a' ending made.1)
-run_side plan unit count R leads all (arrives what ∷ later) e answer more a' ending made =
+    (events_side plan unit R leads out last later (heeds_in call.Stop e) made.1 s)
+events_side plan unit R leads out last (arrives what ∷ later) e made s =
     let now : Ends = with_command plan e in
     let then : Ends = hears_in plan unit what now in
-    let last : Ends = with_command plan (ends_by plan unit then later) in
     let a : Auto Held = driver_of e.automation in
     let x : Auto Held = auto.listens at_once plan unit what (auto.gives a) in
     let same : driver_of then.automation ≡ x =
     ap driver_of (heard_by plan unit what now) ∙ listens_so plan unit what (gives e.automation) in
+    let acts_then : List Act = acts_in (steps_of at_once plan unit x later) in
     led_first plan unit R e now (sent_down plan unit e) _ last (λ first downs j. leads.on two.gave tt j) refl refl
     (subst (λ (l : List Act). Side plan unit R now (sent_down plan unit e) l last)
-    (sym (ap acts_in (append_assoc (round at_once plan unit what a) (steps_of at_once plan unit x later) more)
-    ∙ round_so plan unit what a (steps_of at_once plan unit x later ++ more)))
-    (one_round plan unit R (given plan e.automation.state) now (sent_down plan unit e) what
-    (acts_in (steps_of at_once plan unit x later ++ more)) last (sent_given plan unit e)
+    (sym (ap (λ (l : List Act). l ++ out) (round_so plan unit what a (steps_of at_once plan unit x later))
+    ∙ append_assoc (first_acts unit (given plan a.state)) (brings what ∷ acts_then) out))
+    (one_round plan unit R (given plan e.automation.state) now (sent_down plan unit e) what (acts_then ++ out) last
+    (sent_given plan unit e)
     (subst (λ (y : Auto Held). Side plan unit R then (sent_down plan unit then)
-    (acts_in (steps_of at_once plan unit y later ++ more)) last) same
-    (run_side plan unit count R leads all later then answer more a'
-    (subst (λ (y : Auto Held). Ending at_once plan unit count all (after at_once plan unit y later) answer more a')
-    (sym same) ending)
-    (subst (λ (y : Auto Held). AreMade at_once plan unit y later) (sym same) made)))))
+    (acts_in (steps_of at_once plan unit y later) ++ out) last) same
+    (events_side plan unit R leads out last later then
+    (subst (λ (y : Auto Held). AreMade at_once plan unit y later) (sym same) made) s))))
+
+-- the next command is given, of which a beginning goes out
+pub given_side : (plan : Plan) (unit : ℕ) (R : Ends → Ends → Type 0) (leads : Leads plan unit R) (e : Ends) (out : List Act)
+    (unsent : List ℕ) → came_in out ≡ []
+    → bytes_of unit (option_to_list (given plan e.automation.state)) ≡ sent_in out ++ unsent
+    → Side plan unit R e (sent_down plan unit e) out (with_command plan e)
+given_side plan unit R leads e out unsent none part =
+    led_first plan unit R e (with_command plan e) (sent_down plan unit e) out (with_command plan e)
+    (λ first downs j. leads.on two.gave tt j) refl refl
+    (last_side plan unit R (with_command plan e) (sent_down plan unit e) unsent out none
+    (sent_given plan unit e ∙ ap (λ (l : List ℕ). sent_down plan unit e ++ l) part))
 
 pub side_of : (plan : Plan) (unit count : ℕ) (R : Ends → Ends → Type 0) (leads : Leads plan unit R) (e : Ends) (answer : Result Ran BrokenOff) (a' : Auto Held)
     → (run : IsRun at_once plan unit count (driver_of e.automation) a' answer)
     → Side plan unit R e (sent_down plan unit e) (acts_in (steps_in run))
     (with_command plan (ends_by plan unit e run.events))
 side_of plan unit count R leads e answer a' run =
-    run_side plan unit count R leads run.events run.events e answer run.more a' run.ending run.made
+    let now : Ends = ends_by plan unit e run.events in
+    let more : List Act = acts_in run.more in
+    let last = last_so plan unit count run.events (driver_of now.automation) a' answer run.more
+    (subst (λ (x : Auto Held). Ending at_once plan unit count run.events x answer run.more a')
+    (sym (ap driver_of (automation_so plan unit e run.events) ∙ led_so plan unit e.automation run.events)) run.ending) in
+    subst (λ (l : List Act). Side plan unit R e (sent_down plan unit e) l (with_command plan now))
+    (sym (acts_both (steps_of at_once plan unit (driver_of e.automation) run.events) run.more))
+    (events_side plan unit R leads more (with_command plan now) run.events e run.made
+    (given_side plan unit R leads now more (last.unsent ++ bytes_of unit last.others) last.none
+    (ap (bytes_of unit) last.given_is
+    ∙ flat_map-append (command_bytes unit) (commands_kept (kept_in run.more)) last.others
+    ∙ ap (λ (l : List ℕ). l ++ bytes_of unit last.others) last.part
+    ∙ append_assoc (sent_in more) last.unsent (bytes_of unit last.others))))

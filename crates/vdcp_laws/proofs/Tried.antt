@@ -16,7 +16,7 @@ use Rattle.vdcp_drive.specs.Hearing.{at_once}
 use Rattle.vdcp_drive.specs.Leaves.{HasRun, steps_in}
 use Rattle.vdcp_drive.specs.Reading.{Held}
 use Rattle.vdcp_drive.specs.Steps.{World}
-use Rattle.vdcp_drive.specs.Traces.{acts_in, commands_kept, kept_in, sent_in}
+use Rattle.vdcp_drive.specs.Traces.{acts_in, came_in, commands_kept, kept_in, sent_in}
 use Rattle.vdcp_drive.specs.Turns.{Turn}
 use Rattle.vdcp_drive.specs.declared.hooks.BrokenOff.{BrokenOff}
 use Rattle.vdcp_drive.specs.declared.hooks.BrokenOff.TheVariants as fault
@@ -27,7 +27,7 @@ use Rattle.vdcp_laws.specs.Carried.{AreCarried}
 use Rattle.vdcp_laws.specs.EndsHeadline.{EndsHeadline}
 use Rattle.vdcp_laws.specs.OneConnection.{ends_by}
 use Rattle.vdcp_laws.specs.Sessions.{acts_asked, acts_tried, ends_asked, ends_tried, log_tried, questions, state_tried}
-use Rattle.vdcp_laws.specs.TwoEnds.{AreJoined, AreLed, CanJoin, Ends, aired_now, log_now, sent_down, with_command}
+use Rattle.vdcp_laws.specs.TwoEnds.{AreJoined, AreLed, CanJoin, Ends, aired_now, asked_first, bytes_in, log_now, sent_down, with_command}
 use Rattle.vdcp_laws.proofs.Asked.{IsAskedBy, Steps, asked_side, ear_of_run, ending, part_of_run}
 use Rattle.vdcp_laws.proofs.Asks.{MayAsk, opens, probes, sent_asked}
 use Rattle.vdcp_laws.proofs.CarriedRun.{leads_on, led_by, of_joined}
@@ -42,7 +42,7 @@ use Rattle.vdcp_run.specs.declared.run_end.RunEnd.{RunEnd}
 use Rattle.vdcp_run.specs.declared.settings.RunSettings.{RunSettings}
 
 -- It may be asked.
-may_ask : (start : Start) (cs : List Command) → AreAsked start cs → All (MayAsk start.plan start.state.stage) cs
+pub may_ask : (start : Start) (cs : List Command) → AreAsked start cs → All (MayAsk start.plan start.state.stage) cs
 may_ask start cs (opening is asks) =
     All-weaker (IsAsked start.plan.port) (MayAsk start.plan start.state.stage)
     (λ c q. subst (λ (stage : Stage). MayAsk start.plan stage c) (sym is) (opens start.plan c q)) cs asks
@@ -96,6 +96,44 @@ asked_by law settings start e ear' wire wire' left line same (Some asker) is h =
           line ∙ ap (λ (r : Result Ran BrokenOff). line_of h.last r h.outcome) failed in
           cc none
 
+-- So much of it went out that was asked, and nothing more.
+pub asking_led : (plan : Plan) (unit : ℕ) (e : Ends) (cs : List Command) (held : Held) (list : List Act) (turns : List Turn)
+    (below : List Act) (aired : List Item) → commands_in plan e.automation ≡ [] → IsAskedBy plan unit e cs held list
+    → ServedSo e turns below aired → AreCarried plan unit e list below
+    → AreLed plan unit e (record (asked_first cs held (bytes_in (came_in list)) e) { downs = e.downs ++ turns })
+asking_led plan unit e cs held list turns below aired none a served c =
+    let now : Ends = asked_first cs held (bytes_in (came_in list)) e in
+    led_by plan unit e list now turns below aired
+    (subst (λ (l : List Act). Side plan unit (AreLed plan unit) e (sent_down plan unit e) l now) (append-nil list)
+    (asked_side plan unit e cs held list [] now none a
+    (no_act plan unit (AreLed plan unit) now (sent_down plan unit e ++ sent_in list) a.unsent
+    (sent_asked plan unit e cs none ∙ ap (λ (l : List ℕ). sent_down plan unit e ++ l) a.part
+    ∙ sym (append_assoc (sent_down plan unit e) (sent_in list) a.unsent))))) served c
+
+-- All of it went out that was asked, and then these acts lead on.
+pub asked_led : {W : Type 0} {does : Act → W → W → Type 0} (law : Laws does) (settings : RunSettings) (start : Start) (e last : Ends)
+    (ear' : Held) (wire wire' : W) (left : ℕ) (more : List Act) (turns : List Turn) (below : List Act) (aired : List Item)
+    → start.state ≡ e.automation.state → commands_in start.plan e.automation ≡ []
+    → (asked : HasAsked (asker_of settings.ask start) does at_once settings e.automation.held ear' wire wire' left None)
+    → (let now : Ends = ends_asked does settings e.automation.held ear' wire wire' left None (asker_of settings.ask start) asked e in
+    Side start.plan settings.unit (AreLed start.plan settings.unit) now (sent_down start.plan settings.unit now) more last)
+    → ServedSo e turns below aired → AreCarried start.plan settings.unit e
+    (acts_asked does settings e.automation.held ear' wire wire' left None (asker_of settings.ask start) asked ++ more) below
+    → AreLed start.plan settings.unit e (record last { downs = e.downs ++ turns })
+asked_led {W} {does} law settings start e last ear' wire wire' left more turns below aired same none asked s served c =
+    let plan : Plan = start.plan in
+    let unit : ℕ = settings.unit in
+    let asker : Option Asker = asker_of settings.ask start in
+    let list : List Act = acts_asked does settings e.automation.held ear' wire wire' left None asker asked in
+    let cs : List Command = questions does settings e.automation.held ear' wire wire' left None asker asked in
+    let now : Ends = ends_asked does settings e.automation.held ear' wire wire' left None asker asked e in
+    let a = asked_by law settings start e ear' wire wire' left None same asker refl asked in
+    let sent : sent_down plan unit now ≡ sent_down plan unit e ++ sent_in list =
+    sent_asked plan unit e cs none ∙ ap (λ (l : List ℕ). sent_down plan unit e ++ l)
+    (a.0.part ∙ ap (λ (l : List ℕ). sent_in list ++ l) (a.1 refl) ∙ append-nil (sent_in list)) in
+    led_by plan unit e (list ++ more) last turns below aired (asked_side plan unit e cs ear' list more last none a.0
+    (subst (λ (l : List ℕ). Side plan unit (AreLed plan unit) now l more last) sent s)) served c
+
 -- All of it.
 pub tried_led : {W F : Type 0} {does : Act → W → W → Type 0} {safe : F → Option (List ℕ)} (law : Laws does)
     (settings : RunSettings) (plan : Plan) (from : ℕ) (e : Ends) (world : World W (Option (Recording F))) (end : RunEnd)
@@ -107,33 +145,17 @@ pub tried_led : {W F : Type 0} {does : Act → W → W → Type 0} {safe : F →
 tried_led {does} law settings plan from e world end turns below aired none (played ear' wire left asked plays) served c =
     let unit : ℕ = settings.unit in
     let start : Start = record { plan = plan; from = from; state = e.automation.state } in
-    let asker : Option Asker = asker_of settings.ask start in
-    let list : List Act = acts_asked does settings e.automation.held ear' world.wire wire left None asker asked in
-    let more : List Act = acts_in (steps_in plays.runs.run) in
-    let now : Ends = ends_asked does settings e.automation.held ear' world.wire wire left None asker asked e in
-    let last : Ends = with_command plan (ends_by plan unit now plays.runs.run.events) in
-    let a = asked_by law settings start e ear' world.wire wire left None refl asker refl asked in
-    let sent : sent_down plan unit now ≡ sent_down plan unit e ++ sent_in list =
-    sent_asked plan unit e (questions does settings e.automation.held ear' world.wire wire left None asker asked) none ∙ ap (λ (l : List ℕ). sent_down plan unit e ++ l)
-    (a.0.part ∙ ap (λ (l : List ℕ). sent_in list ++ l) (a.1 refl) ∙ append-nil (sent_in list)) in
-    led_by plan unit e (list ++ more) last turns below aired
-    (asked_side plan unit e (questions does settings e.automation.held ear' world.wire wire left None asker asked) ear' list more last none a.0
-    (subst (λ (l : List ℕ). Side plan unit (AreLed plan unit) now l more last) sent
-    (side_of plan unit left (AreLed plan unit) (leads_on plan unit) now plays.ran plays.auto plays.runs.run))) served c
+    let now : Ends = ends_asked does settings e.automation.held ear' world.wire wire left None (asker_of settings.ask start) asked e in
+    asked_led law settings start e (with_command plan (ends_by plan unit now plays.runs.run.events)) ear' world.wire wire left
+    (acts_in (steps_in plays.runs.run)) turns below aired refl none asked
+    (side_of plan unit left (AreLed plan unit) (leads_on plan unit) now plays.ran plays.auto plays.runs.run) served c
 tried_led {does} law settings plan from e world end turns below aired none (unbegun ear' wire left line asked is) served c =
     let unit : ℕ = settings.unit in
     let start : Start = record { plan = plan; from = from; state = e.automation.state } in
     let asker : Option Asker = asker_of settings.ask start in
-    let list : List Act = acts_asked does settings e.automation.held ear' world.wire wire left (Some line) asker asked in
-    let now : Ends = ends_asked does settings e.automation.held ear' world.wire wire left (Some line) asker asked e in
-    let a = asked_by law settings start e ear' world.wire wire left (Some line) refl asker refl asked in
-    let sent : sent_down plan unit now ≡ (sent_down plan unit e ++ sent_in list) ++ a.0.unsent =
-    sent_asked plan unit e (questions does settings e.automation.held ear' world.wire wire left (Some line) asker asked) none ∙ ap (λ (l : List ℕ). sent_down plan unit e ++ l) a.0.part
-    ∙ sym (append_assoc (sent_down plan unit e) (sent_in list) a.0.unsent) in
-    led_by plan unit e list now turns below aired
-    (subst (λ (l : List Act). Side plan unit (AreLed plan unit) e (sent_down plan unit e) l now) (append-nil list)
-    (asked_side plan unit e (questions does settings e.automation.held ear' world.wire wire left (Some line) asker asked) ear' list [] now none a.0
-    (no_act plan unit (AreLed plan unit) now (sent_down plan unit e ++ sent_in list) a.0.unsent sent))) served c
+    asking_led plan unit e (questions does settings e.automation.held ear' world.wire wire left (Some line) asker asked) ear'
+    (acts_asked does settings e.automation.held ear' world.wire wire left (Some line) asker asked) turns below aired none
+    (asked_by law settings start e ear' world.wire wire left (Some line) refl asker refl asked).0 served c
 
 -- The headline.
 pub tried_headline : {W F : Type 0} {does : Act → W → W → Type 0} {safe : F → Option (List ℕ)} (law : headline.Laws)

@@ -1,15 +1,19 @@
 -- One connection between both ends, by what the wire of each does, one act after another.
+use Rattle.std.specs.Option.{option_to_list}
 use Rattle.std.specs.Prelude.{ℕ, ◌≡◌, List, [], ◌∷◌, ◌++◌}
 use Rattle.vdcp_auto.specs.Plan.{Plan}
+use Rattle.vdcp_auto.specs.Turn.{given}
 use Rattle.vdcp_wire.specs.Acts.{Act, sends, brings, fails}
 use Rattle.vdcp_wire.specs.Wires.{bytes, silence, close}
 use Rattle.vdcp_drive.specs.Auto.{Auto}
 use Rattle.vdcp_drive.specs.Reading.{Held}
-use Rattle.vdcp_drive.specs.Traces.{came_in, sent_in}
+use Rattle.vdcp_drive.specs.Steps.{given_notes}
+use Rattle.vdcp_drive.specs.Traces.{bytes_of, came_in, sent_in}
 use Rattle.vdcp_drive.specs.Served.{only}
 use Rattle.vdcp_drive.specs.Turns.{Turn, arrivals}
+use Rattle.vdcp_drive.specs.declared.hooks.Kept.{Kept}
 use Rattle.vdcp_laws.specs.Automation.{Prompt}
-use Rattle.vdcp_laws.specs.TwoEnds.{Ends, bytes_in, sent_down, sent_up}
+use Rattle.vdcp_laws.specs.TwoEnds.{Ends, bytes_in, sent_down, sent_up, with_command}
 
 -- the driver that this automation is
 abbrev pub driver_of : Prompt → Auto Held
@@ -45,3 +49,11 @@ pub data AreCarried (plan : Plan) (unit : ℕ) (e : Ends) : List Act → List Ac
 -- a server's turns, with the one in which its wire then failed
 abbrev pub all_turns : List Turn → List Act → List Turn
 all_turns turns done = turns ++ only (came_in done)
+
+-- A killed automation hadn't kept its next command; or it had, and nothing of it went out, or a beginning. That leaves the
+-- ends so, with this in the journal since.
+pub data MayGive (plan : Plan) (unit : ℕ) (now : Ends) : List Kept → List Act → Ends → Type 0 where
+  nothing : MayGive plan unit now [] [] now
+  next : (out : List Act) (unsent : List ℕ) → came_in out ≡ []
+      → bytes_of unit (option_to_list (given plan now.automation.state)) ≡ sent_in out ++ unsent
+      → MayGive plan unit now (given_notes (given plan now.automation.state)) out (with_command plan now)

@@ -1,21 +1,26 @@
 //! The law of what `vdcp run` does over a connection, from its first question to its last byte.
-ghost use Rattle.std.specs.Prelude.{ℕ, ◌≡◌, ◌++◌, [], List, Option};
+ghost use Rattle.std.specs.Prelude.{ℕ, ◌≡◌, ◌++◌, [], List, None, Option, map};
 ghost use Rattle.vdcp_value.specs.declared.part.Item.{Item};
 ghost use Rattle.vdcp_words.specs.declared.command.Command.{Command};
 ghost use Rattle.vdcp_port.specs.Clock.{ClockedPort};
 ghost use Rattle.vdcp_auto.specs.Plan.{Plan};
 ghost use Rattle.vdcp_wire.specs.Acts.{Act};
+ghost use Rattle.vdcp_drive.specs.Auto.{AreMade, Event};
 ghost use Rattle.vdcp_drive.specs.Hearing.{at_once};
-ghost use Rattle.vdcp_drive.specs.Reading.{holds};
+ghost use Rattle.vdcp_drive.specs.Reading.{Held, holds};
+ghost use Rattle.vdcp_drive.specs.Steps.{Step, steps_of};
+ghost use Rattle.vdcp_drive.specs.Traces.{acts_in, bytes_of, came_in, kept_in, sent_in};
 ghost use Rattle.vdcp_drive.specs.Turns.{Turn};
+ghost use Rattle.vdcp_drive.specs.declared.hooks.Kept.{Kept};
 ghost use Rattle.vdcp_journal_file.specs.Recording.{Recording};
 ghost use Rattle.vdcp_laws.specs.Automation.{commands_in};
-ghost use Rattle.vdcp_laws.specs.Carried.{AreCarried};
+ghost use Rattle.vdcp_laws.specs.Carried.{AreCarried, MayGive, driver_of};
 ghost use Rattle.vdcp_laws.specs.EndsHeadline.{EndsHeadline};
+ghost use Rattle.vdcp_laws.specs.OneConnection.{ends_by};
 ghost use Rattle.vdcp_laws.specs.Servers.{IsServed};
-ghost use Rattle.vdcp_laws.specs.Sessions.{acts_tried, ends_tried, log_tried, state_tried};
-ghost use Rattle.vdcp_laws.specs.TwoEnds.{AreJoined, CanJoin, Ends, connected_anew, log_now};
-ghost use Rattle.vdcp_run.specs.Asking.{Start, over};
+ghost use Rattle.vdcp_laws.specs.Sessions.{acts_asked, acts_tried, ends_asked, ends_tried, log_tried, state_tried};
+ghost use Rattle.vdcp_laws.specs.TwoEnds.{AreJoined, CanJoin, Ends, asked_first, bytes_in, connected_anew, log_now, note_for};
+ghost use Rattle.vdcp_run.specs.Asking.{AreAsked, HasAsked, Start, asker_of, over};
 ghost use Rattle.vdcp_run.specs.Session.{HasTried, TriesOver};
 ghost use Rattle.vdcp_run.specs.declared.run_end.RunEnd.{RunEnd};
 ghost use Rattle.vdcp_run.specs.declared.settings.RunSettings.{RunSettings};
@@ -47,6 +52,34 @@ pub fn a_session_keeps_the_headline<C: Catalogue, A: Wire, D: Disk, B: Wire, H: 
         IsServed B.does H.can_act H.does e turns below aired →
         AreCarried plan port.state.unit e (acts_tried tried) below →
         AreJoined plan port asked (ends_tried tried e (e.downs ++ turns)) }
+    // and so does one that was killed behind its questions: after these events, with the next command kept or not. The ends
+    // have the notes that were kept by then, and what came since is lost, also if it was heard
+    ensures killed { (plan : Plan) (from : ℕ) (settings : RunSettings) (port : ClockedPort) (asked : List Command)
+        (e last : Ends) (ear : Held) (wire wire' : A) (left : ℕ) (events : List Event) (rows : List Kept) (out since : List Act)
+        (turns : List Turn) (below : List Act) (aired : List Item) →
+        AreJoined plan port asked e → commands_in plan e.automation ≡ [] →
+        let start : Start = record { plan = plan; from = from; state = e.automation.state } in
+        let given : RunSettings = record settings { unit = port.state.unit } in
+        (asks : HasAsked (asker_of settings.ask start) A.does at_once given e.automation.held ear wire wire' left None) →
+        let now : Ends =
+        ends_asked A.does given e.automation.held ear wire wire' left None (asker_of settings.ask start) asks e in
+        let acts : List Act =
+        acts_asked A.does given e.automation.held ear wire wire' left None (asker_of settings.ask start) asks in
+        let steps : List Step = steps_of at_once plan port.state.unit (driver_of now.automation) events in
+        AreMade at_once plan port.state.unit (driver_of now.automation) events →
+        MayGive plan port.state.unit (ends_by plan port.state.unit now events) rows out last → sent_in since ≡ [] →
+        IsServed B.does H.can_act H.does e turns below aired →
+        AreCarried plan port.state.unit e (acts ++ (acts_in steps ++ (out ++ since))) below →
+        AreJoined plan port asked (record last { downs = e.downs ++ turns })
+        × (last.notes ≡ e.notes ++ map note_for (kept_in steps ++ rows)) }
+    // or while it asked: of its questions a beginning went out, and nothing was kept
+    ensures asking { (plan : Plan) (from : ℕ) (port : ClockedPort) (asked questions : List Command) (e : Ends)
+        (acts : List Act) (unsent : List ℕ) (turns : List Turn) (below : List Act) (aired : List Item) →
+        AreJoined plan port asked e → commands_in plan e.automation ≡ [] →
+        AreAsked (record { plan = plan; from = from; state = e.automation.state }) questions →
+        bytes_of port.state.unit questions ≡ sent_in acts ++ unsent → IsServed B.does H.can_act H.does e turns below aired →
+        AreCarried plan port.state.unit e acts below → (held : Held) × AreJoined plan port asked
+        (record (asked_first questions held (bytes_in (came_in acts)) e) { downs = e.downs ++ turns }) }
     ensures given { (settings : RunSettings) (start : Start) (wire : A) (recorder : Option (Recording D)) (end : RunEnd) →
         TriesOver A.does D.safe (record settings { hearing = Hearing.AtOnce }) start wire recorder end →
         HasTried A.does D.safe at_once (record settings { hearing = Hearing.AtOnce }) start (holds []) (over wire recorder) end }
