@@ -52,8 +52,8 @@ pub fn a_session_keeps_the_headline<C: Catalogue, A: Wire, D: Disk, B: Wire, H: 
         IsServed B.does H.can_act H.does e turns below aired →
         AreCarried plan port.state.unit e (acts_tried tried) below →
         AreJoined plan port asked (ends_tried tried e (e.downs ++ turns)) }
-    // and so does one that was killed behind its questions: after these events, with the next command kept or not. The ends
-    // have the notes that were kept by then, and what came since is lost, also if it was heard
+    // Killed after these events, with the next command kept or not, it leads both ends on, too. They have the notes that were
+    // kept by then; what came since is lost, also if it was heard.
     ensures killed { (plan : Plan) (from : ℕ) (settings : RunSettings) (port : ClockedPort) (asked : List Command)
         (e last : Ends) (ear : Held) (wire wire' : A) (left : ℕ) (events : List Event) (rows : List Kept) (out since : List Act)
         (turns : List Turn) (below : List Act) (aired : List Item) →
@@ -72,7 +72,7 @@ pub fn a_session_keeps_the_headline<C: Catalogue, A: Wire, D: Disk, B: Wire, H: 
         AreCarried plan port.state.unit e (acts ++ (acts_in steps ++ (out ++ since))) below →
         AreJoined plan port asked (record last { downs = e.downs ++ turns })
         × (last.notes ≡ e.notes ++ map note_for (kept_in steps ++ rows)) }
-    // or while it asked: of its questions a beginning went out, and nothing was kept
+    // Killed while it asked: of its questions a beginning went out, and nothing was kept.
     ensures asking { (plan : Plan) (from : ℕ) (port : ClockedPort) (asked questions : List Command) (e : Ends)
         (acts : List Act) (unsent : List ℕ) (turns : List Turn) (below : List Act) (aired : List Item) →
         AreJoined plan port asked e → commands_in plan e.automation ≡ [] →
