@@ -1,7 +1,7 @@
 //! What a fault line means, in a sentence for whoever reads it on a terminal.
 use std::io::{self, Write};
 
-// So many bytes of a line's end are kept: more than any of `SENTENCES` needs.
+// How many bytes of a line's end are kept. Each of `SENTENCES` needs fewer.
 const KEPT: usize = 32;
 
 /// A writer that keeps how the last fault line ended. Indented lines below it say more of it, and don't count.

@@ -34,8 +34,8 @@ fn needs_more(bytes: &[u8]) -> bool
     }
 }
 
-/// Copies bytes of the piece behind the buffer's first `held`, up to the end of their message or the burst's limit, and
-/// says how many. `taken` counts all bytes of the burst that came before, the held ones, too.
+/// Copies bytes of the piece into the buffer, behind the first `held`, and gives their number. It stops where the message
+/// ends, or at the burst's limit: `taken` is how many bytes of the burst came before, with the held ones.
 pub fn fill(buffer: &mut [u8; LONGEST], taken: usize, held: usize, piece: &[u8]) -> usize
     requires held { held ≤ 258 }
     requires can { CanHold taken (take held buffer.old) }

@@ -25,9 +25,9 @@ use vdcp_journal::Heading;
 use vdcp_list::Rest;
 use vdcp_text::Failure;
 
-/// Begins a new run behind the last one of the journal of this name: at event `word` if the operator says one, and else at
-/// the first that the last run doesn't report. If `word` is None and the last run is done or stopped, its end is told
-/// again instead. The row that says where the run begins is safe before anything is sent.
+/// Begins a new run in the journal of this name, after its last one. It begins with event `word`, if the operator names one,
+/// and else with the first event that the last run doesn't report. If `word` is None and the last run is done or stopped,
+/// its end is told again instead. The row that says where the run begins is safe before anything is sent.
 ///
 /// The failure is `MayHaveAired` if that first event may have aired, and `NoEvent` if `word` is above the list's length. If
 /// no run begins, no row of one is written.

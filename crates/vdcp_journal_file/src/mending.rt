@@ -108,8 +108,8 @@ fn begins(text: &[u8], row: &[u8]) -> bool
     true
 }
 
-/// Writes behind the whole rows what a killed run couldn't write any more (`mended`), and gives the run that goes on from
-/// all of them. If no run goes on, nothing is written.
+/// Adds the rows that a killed run may lack (`mended`), and gives the run that goes on from all rows. If no run goes on,
+/// nothing is written.
 pub(crate) fn mend_end<'a, 's, R: Clock + AllocGlobal, S: Source, F: ReadableDisk>(
     rt: &R,
     name: &'a str,
