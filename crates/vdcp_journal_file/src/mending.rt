@@ -187,8 +187,8 @@ fn whole_size<'a, F: ReadableDisk>(
     }
 }
 
-/// Writes rows behind the whole lines of a file, and makes all safe. A torn last row gets its line feed if it lacks no more
-/// and may have put a clip to air; else it is cut off.
+/// Adds rows to the whole lines of a file, and makes all safe. A last row that lacks only its line feed, and may have put a
+/// clip to air, gets that; any other torn one is cut off.
 pub(crate) fn end_with<'a, F: ReadableDisk>(
     alloc: Global,
     name: &'a str,

@@ -11,7 +11,7 @@ const PLAY: &[u8; 45] = b"0000-00-00T00:00:00.000Z,sent,play,xxxxxxxxxx";
 /// A state with the cue done while a clip plays, which announces a PLAY: the digits D and P say so.
 const ANNOUNCING: &[u8; 54] = b"0000-00-00T00:00:00.000Z,heard,state DP,xxxxxxxxxxxxxx";
 
-// A line of so many bytes is none of these rows.
+// A line of this length is longer than either row.
 const MOST: usize = 55;
 
 /// Reads a journal's bytes, and behind them the line feed that the last row lacks, if that may have put a clip to air.

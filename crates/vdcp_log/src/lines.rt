@@ -21,9 +21,9 @@ pub struct Lines<W: io::Write> {
 #[derive(Clone, Copy)]
 enum Stage {
     Held,
-    // They begin a line. So many of the held bytes of the one before it went out.
+    // The next bytes begin a line. Of the held line this many bytes went out.
     Ended(usize),
-    // They are dropped, up to the end of their line. So many of the held bytes went out.
+    // The next bytes are dropped, up to the end of their line. Of the held line this many bytes went out.
     Dropped(usize),
 }
 
