@@ -21,7 +21,7 @@ use Rattle.vdcp_drive.specs.Ears.{ear_after}
 use Rattle.vdcp_drive.specs.Hearing.{at_once}
 use Rattle.vdcp_drive.specs.Leaves.{IsRun, steps_in}
 use Rattle.vdcp_drive.specs.Reading.{Held, completed, held_after, held_after_silence}
-use Rattle.vdcp_drive.specs.Steps.{Step, acts, asks, keeps, misses, command_bytes, steps_of}
+use Rattle.vdcp_drive.specs.Steps.{Step, acts, asks, command_bytes, steps_of}
 use Rattle.vdcp_drive.specs.Traces.{acts_in, bytes_of, came_in, commands_kept, kept_in, sent_in}
 use Rattle.vdcp_drive.specs.declared.hooks.BrokenOff.{BrokenOff}
 use Rattle.vdcp_drive.specs.declared.hooks.Kept.{Kept}
@@ -33,6 +33,7 @@ use Rattle.vdcp_laws.specs.TwoEnds.{AreLed, Ends, asked_first, bytes_in, note_fo
 use Rattle.vdcp_laws.proofs.Asks.{MayAsk, asking_all, asks_all, sent_asked}
 use Rattle.vdcp_laws.proofs.Carrying.{Last, Side, acts_both, came_both, heard_up, last_so, led_first, listening, sent_both}
 use Rattle.vdcp_laws.proofs.CarriedRun.{left_at}
+use Rattle.vdcp_laws.proofs.Noted.{rows_both}
 
 -- An automation that awaits nothing passes over what it hears.
 
@@ -138,13 +139,6 @@ asked_side plan unit e cs held list more last none a s =
 
 -- A run of the automation that asks.
 
-kept_both : (xs ys : List Step) → kept_in (xs ++ ys) ≡ kept_in xs ++ kept_in ys
-kept_both [] ys = refl
-kept_both (acts a ∷ xs) ys = kept_both xs ys
-kept_both (asks s n ∷ xs) ys = kept_both xs ys
-kept_both (keeps r ∷ xs) ys = ap (λ (l : List Kept). r ∷ l) (kept_both xs ys)
-kept_both (misses c ∷ xs) ys = kept_both xs ys
-
 commands_both : (xs ys : List Kept) → commands_kept (xs ++ ys) ≡ commands_kept xs ++ commands_kept ys
 commands_both [] ys = refl
 commands_both (row.Sent c ∷ xs) ys = ap (λ (l : List Command). c ∷ l) (commands_both xs ys)
@@ -189,7 +183,7 @@ module _ (law : Steps) (plan : Plan) (unit count : ℕ) (a a' : Auto Held) (answ
   part_of_run =
       let steps : List Step = steps_of at_once plan unit a run.events in
       let first : List Command = commands_kept (kept_in steps) in
-      ap (λ (l : List Kept). bytes_of unit (commands_kept l)) (kept_both steps run.more)
+      ap (λ (l : List Kept). bytes_of unit (commands_kept l)) (rows_both steps run.more)
       ∙ ap (bytes_of unit) (commands_both (kept_in steps) (kept_in run.more))
       ∙ flat_map-append (command_bytes unit) first (commands_kept (kept_in run.more))
       ∙ ap₂ (λ (l k : List ℕ). l ++ k) (sym (law.bytes plan unit a run.events)) ending.part

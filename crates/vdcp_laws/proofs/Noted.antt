@@ -27,7 +27,7 @@ use Rattle.vdcp_laws.specs.TwoEnds.{Ends, note_for, notes_given, notes_heard, wi
 use Rattle.vdcp_laws.proofs.OneRun.{automation_so}
 use Rattle.vdcp_laws.proofs.Same.{led_so, listens_so}
 
-rows_both : (xs ys : List Step) → kept_in (xs ++ ys) ≡ kept_in xs ++ kept_in ys
+pub rows_both : (xs ys : List Step) → kept_in (xs ++ ys) ≡ kept_in xs ++ kept_in ys
 rows_both [] ys = refl
 rows_both (asks s n ∷ xs) ys = rows_both xs ys
 rows_both (keeps r ∷ xs) ys = ap (λ (l : List Kept). r ∷ l) (rows_both xs ys)
