@@ -34,8 +34,8 @@ fn needs_more(bytes: &[u8]) -> bool
     }
 }
 
-/// Copies bytes of the piece into the buffer, behind the first `held`, and gives their number. It stops where the message
-/// ends, or at the burst's limit: `taken` is how many bytes of the burst came before, with the held ones.
+/// Fills the buffer from byte `held` on with bytes of the piece, and gives their number. The message's end stops it, and so
+/// does the burst's limit: `taken` bytes of the burst came before, the held ones among them.
 pub fn fill(buffer: &mut [u8; LONGEST], taken: usize, held: usize, piece: &[u8]) -> usize
     requires held { held ≤ 258 }
     requires can { CanHold taken (take held buffer.old) }

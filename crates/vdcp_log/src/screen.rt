@@ -10,7 +10,7 @@ use std::net::Net;
 use std::os::fd::{AsRawFd, RawFd};
 use std::time::Duration;
 
-// A pipe or a terminal that takes any bytes takes so many at once.
+// If a pipe or a terminal takes any bytes, it takes this many at once.
 const PIECE: usize = 255;
 
 /// Tells whether a read or a write at a descriptor would wait.

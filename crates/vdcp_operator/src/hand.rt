@@ -27,10 +27,10 @@ use vdcp_words::Command;
 // In nanoseconds: a wait is cut into such pieces, between which requests for the page are answered.
 const PIECE: u64 = 20_000_000;
 
-// The first command goes out so many milliseconds before the start, in time for the cue.
+// How long before the start the first command goes out, in milliseconds: the cue takes some time.
 const LEAD: u64 = 2_000;
 
-// Once the run has ended the page is shown for so many pieces, so that a browser sees the end.
+// How many pieces of time the page is still shown after the run's end, so that a browser sees it.
 const LINGER: u64 = 50;
 
 /// Reads calls, answers requests for the page, and holds commands back: a STATUS also in a run without an operator.

@@ -13,7 +13,7 @@ use vdcp_words::Command;
 // In milliseconds, if nothing changed.
 const REDRAWN_AFTER: u128 = 100;
 
-// No terminal breaks a line of so many columns in two.
+// How many columns a line has at most, so that no terminal breaks it in two.
 const MOST_COLUMNS: usize = 79;
 
 // In milliseconds: an answer that takes longer, beside the silences round it, is said to be missing.

@@ -18,10 +18,10 @@ use std::rt::Clock;
 use std::time::{Duration, Instant};
 use std::{io, mem};
 
-// One call takes no more connections. Only a flood has so many, and of a flood only the last are answered.
+// How many connections one call takes at most. Only a flood brings more, and of a flood only the last are answered.
 const MOST_NEW: usize = 256;
 
-// After a call nothing is done for so many times as long as it took: a panel has a twentieth of the time at most.
+// After a call nothing is done for this many times as long as it took, so a panel has at most a twentieth of the time.
 const REST: u64 = 19;
 
 // In bytes.

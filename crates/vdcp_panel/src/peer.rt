@@ -10,7 +10,7 @@ use crate::view::View;
 use http_server::{Connection, Service};
 use std::io::{self, ErrorKind, Read, Write};
 
-// A connection is closed so many milliseconds after its last answer was made.
+// How long after its last answer a connection is closed, in milliseconds.
 const PATIENCE: u64 = 10_000;
 
 #[derive(Drop)]

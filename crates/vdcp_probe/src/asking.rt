@@ -13,7 +13,7 @@ use vdcp_wire::{Came, PIECE, StreamWire, Wire};
 // How often a server that answers nothing is asked.
 const MOST_ASKS: u32 = 3;
 
-// After so many silences an answer counts as ended, also if bytes still come.
+// After this many silences an answer counts as ended, also if bytes still come.
 const MOST_SILENCES: u64 = 16;
 
 #[derive(Drop)]

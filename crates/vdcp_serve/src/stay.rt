@@ -80,7 +80,7 @@ pub fn stay<
     Ok(port)
 }
 
-/// Serves a port over a line, for so many turns at most, and gives the port as it is then.
+/// Serves a port over a line, for at most this many turns, and gives the port as it is then.
 pub fn serve_over<C: Catalogue + Drop, W: Wire + Drop, R: Clock + AllocGlobal, L: io::Write + Drop>(
     port: Port<C>,
     line: W,

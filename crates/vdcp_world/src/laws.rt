@@ -56,7 +56,7 @@ pub fn good_rounds_bring_the_rest_to_air()
 }
 
 /// Where nothing was lost, copied, damaged or forged, at most one way has something; and if nothing was cued at first, a
-/// playable list that isn't stopped has aired whole after so many exchanges (`PlaysOn`).
+/// playable list that isn't stopped has aired whole after as many exchanges as `PlaysOn` says.
 pub fn what_loses_nothing_plays_the_list()
     ensures line { (plan : Plan) (port : ClockedPort) (events : List Event) → All LosesNone events →
         HasOneWay (after_events (channel_to plan port) events) }
