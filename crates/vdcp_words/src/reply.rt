@@ -34,8 +34,8 @@ pub enum Reply {
 }
 
 impl Reply {
-    /// Reads a reply from whatever unit (VDCP; the meaning of each byte is this profile's). Data behind the reply's own
-    /// is ignored. `NotCommand` never comes.
+    /// Reads a reply of any unit, by VDCP and this profile's table, and ignores data behind it.
+    /// It never fails by `NotCommand`.
     pub fn read(message: &Message) -> Result<Reply, WordFault>
         ensures table { ReadsReply (content_of message.now) result }
         ensures exact { result ≡ reply_of (content_of message.now) }
