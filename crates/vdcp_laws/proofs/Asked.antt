@@ -21,7 +21,7 @@ use Rattle.vdcp_drive.specs.Ears.{ear_after}
 use Rattle.vdcp_drive.specs.Hearing.{at_once}
 use Rattle.vdcp_drive.specs.Leaves.{IsRun, steps_in}
 use Rattle.vdcp_drive.specs.Reading.{Held, completed, held_after, held_after_silence}
-use Rattle.vdcp_drive.specs.Steps.{Step, acts, asks, command_bytes, steps_of}
+use Rattle.vdcp_drive.specs.Steps.{Step, command_bytes, steps_of}
 use Rattle.vdcp_drive.specs.Traces.{acts_in, bytes_of, came_in, commands_kept, kept_in, sent_in}
 use Rattle.vdcp_drive.specs.declared.hooks.BrokenOff.{BrokenOff}
 use Rattle.vdcp_drive.specs.declared.hooks.Kept.{Kept}

@@ -64,7 +64,7 @@ keeps_nothing [] = refl
 keeps_nothing (k ∷ ks) = keeps_nothing ks
 
 -- what goes out before a listen
-abbrev first_acts : ℕ → Option Command → List Act
+abbrev pub first_acts : ℕ → Option Command → List Act
 first_acts unit None = []
 first_acts unit (Some c) = sends (command_bytes unit c) ∷ []
 
@@ -73,7 +73,7 @@ opens_so : (unit : ℕ) (o : Option Command)
 opens_so unit None = refl
 opens_so unit (Some c) = refl
 
-round_so : (plan : Plan) (unit : ℕ) (what : Arrival) (a : Auto Held) (later : List Step)
+pub round_so : (plan : Plan) (unit : ℕ) (what : Arrival) (a : Auto Held) (later : List Step)
     → acts_in (round at_once plan unit what a ++ later)
     ≡ first_acts unit (given plan a.state) ++ brings what ∷ acts_in later
 round_so plan unit what a later =

@@ -17,6 +17,8 @@ mod Killed
 mod Leading
 mod Mended
 mod Waiting
+mod Unwritten
+mod KilledSession
 mod Logging
 mod Noting
 mod Noted

@@ -43,10 +43,10 @@ rows_of_rows [] = refl
 rows_of_rows (x ∷ xs) = ap (λ (l : List Kept). x ∷ l) (rows_of_rows xs)
 
 -- what one arrival ends
-abbrev ends_in : Plan → ℕ → Arrival → Auto Held → List Kept
+abbrev pub ends_in : Plan → ℕ → Arrival → Auto Held → List Kept
 ends_in plan unit what a = ended_notes (auto.ended plan (inputs at_once unit what a.ear) (ticked a.state))
 
-round_rows : (plan : Plan) (unit : ℕ) (what : Arrival) (a : Auto Held) (later : List Step)
+pub round_rows : (plan : Plan) (unit : ℕ) (what : Arrival) (a : Auto Held) (later : List Step)
     → kept_in (round at_once plan unit what a ++ later)
     ≡ given_notes (given plan a.state) ++ (ends_in plan unit what a ++ kept_in later)
 round_rows plan unit what a later =
@@ -66,6 +66,13 @@ arrival_notes plan unit (bytes piece) e =
     ap (λ (l : List Note). e.notes ++ l) (heard_rows plan unit (completed e.automation.held piece) e.automation)
 arrival_notes plan unit silence e = simp append-nil
 arrival_notes plan unit close e = simp append-nil
+
+pub moved : (plan : Plan) (unit : ℕ) (what : Arrival) (e : Ends)
+    → driver_of (hears_in plan unit what (with_command plan e)).automation
+    ≡ driver_of (listens plan unit what (gives e.automation))
+moved plan unit (bytes piece) e = refl
+moved plan unit silence e = refl
+moved plan unit close e = refl
 
 pub noted : (plan : Plan) (unit : ℕ) (e : Ends) (events : List Event) → (ends_by plan unit e events).notes
     ≡ e.notes ++ map note_for (kept_in (steps_of at_once plan unit (driver_of e.automation) events))
@@ -89,13 +96,7 @@ noted plan unit e (arrives what ∷ later) =
     ∙ ap (λ (l : List Note). e.notes ++ (map note_for first ++ l)) (sym (map-append note_for ends rows))
     ∙ ap (λ (l : List Note). e.notes ++ l) (sym (map-append note_for first (ends ++ rows)))
     ∙ ap (λ (l : List Kept). e.notes ++ map note_for l)
-    (sym (round_rows plan unit what a (steps_of at_once plan unit b later))) where
-      moved : (plan : Plan) (unit : ℕ) (what : Arrival) (e : Ends)
-          → driver_of (hears_in plan unit what (with_command plan e)).automation
-          ≡ driver_of (listens plan unit what (gives e.automation))
-      moved plan unit (bytes piece) e = refl
-      moved plan unit silence e = refl
-      moved plan unit close e = refl
+    (sym (round_rows plan unit what a (steps_of at_once plan unit b later)))
 
 pub noted_at : (plan : Plan) (unit : ℕ) (e : Ends) (events : List Event) (downs : List Turn)
     → (ends_at plan unit e events downs).notes

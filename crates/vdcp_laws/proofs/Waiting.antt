@@ -27,7 +27,7 @@ use Rattle.vdcp_journal_file.specs.declared.pending.Pending.{Pending}
 use Rattle.vdcp_journal_file.specs.declared.pending.Pending.TheVariants as pending
 use Rattle.vdcp_journal_file.specs.declared.pending.Seen.{Seen}
 use Rattle.vdcp_laws.specs.Mended as safe
-use Rattle.vdcp_laws.specs.Mended.{AreSafe, AreUnkept, MayLack, heard_since}
+use Rattle.vdcp_laws.specs.Mended.{AreSafe, AreUnkept, MayLack}
 use Rattle.vdcp_laws.specs.TwoEnds.{AreJoined, CanJoin, Ends, note_for}
 use Rattle.vdcp_laws.proofs.Announced.{thinned_more}
 use Rattle.vdcp_laws.proofs.Journaled.{AllTold, after_more, given_awaited, of_rows}
@@ -35,6 +35,12 @@ use Rattle.vdcp_laws.proofs.Mended.{Below, made, noted_behind, still_announced, 
 use Rattle.vdcp_laws.proofs.Running.{last_more}
 
 -- What was heard last is lost.
+
+-- the last of the rows that wait, if it says what was heard
+abbrev pub heard_since : List Row → List Note
+heard_since [] = []
+heard_since (row ∷ []) = if is_end row.note then row.note ∷ [] else []
+heard_since (row ∷ later ∷ rows) = heard_since (later ∷ rows)
 
 abbrev unheard : List Note → List Note
 unheard [] = []

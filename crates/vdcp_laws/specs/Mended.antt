@@ -1,7 +1,8 @@
 -- What a killed automation goes on as, whose rows are what is safe in its journal, and what going on writes behind them.
-use Rattle.std.specs.Prelude.{ℕ, ◌≡◌, List, [], ◌∷◌, ◌++◌, if◌then◌else◌, Option, None, Some}
+use Rattle.std.specs.Prelude.{ℕ, ◌≡◌, List, [], ◌∷◌, ◌++◌, Option, None, Some}
 use Rattle.vdcp_words.specs.declared.command.Command.{Command}
 use Rattle.vdcp_words.specs.declared.command.Command.TheVariants as command
+use Rattle.vdcp_port.specs.Clock.{ClockedPort}
 use Rattle.vdcp_auto.specs.Plan.{Plan}
 use Rattle.vdcp_auto.specs.State.{State}
 use Rattle.vdcp_auto.specs.Turn.{awaited, given, outcome_of, start}
@@ -13,8 +14,7 @@ use Rattle.vdcp_journal.specs.Thinned.{IsThinned, heard_last, notes_in}
 use Rattle.vdcp_journal.specs.declared.row.Note.{Note}
 use Rattle.vdcp_journal.specs.declared.row.Note.TheVariants as note
 use Rattle.vdcp_journal.specs.declared.row.Row.{Row}
-use Rattle.vdcp_journal_file.specs.Recorded.{is_end}
-use Rattle.vdcp_laws.specs.TwoEnds.{Ends, GoesOn, notes_ended, with_command}
+use Rattle.vdcp_laws.specs.TwoEnds.{AreJoined, Ends, GoesOn, notes_ended, with_command}
 
 -- What may have gone out behind rows, by the command that is open, the one that is given next, and the state that announces a
 -- PLAY: nothing; the next command, if it asks for the state or is a PLAY; and, if one is announced, a PLAY, once something was
@@ -40,11 +40,11 @@ pub record AreSafe (plan : Plan) (e : Ends) (rows : List Row) : Type 0 where
   pub may_lack : MayLack plan (after_rows plan start rows) (heard_last (notes_in rows)) unkept
   pub thinned : IsThinned e.notes (notes_in rows ++ unkept)
 
--- the last of the rows that wait, if it says what was heard: a kill loses it
-abbrev pub heard_since : List Row → List Note
-heard_since [] = []
-heard_since (row ∷ []) = if is_end row.note then row.note ∷ [] else []
-heard_since (row ∷ later ∷ rows) = heard_since (later ∷ rows)
+-- and these ends are joined
+pub record AreOfJoined (plan : Plan) (port : ClockedPort) (asked : List Command) (rows : List Row) : Type 0 where
+  pub ends : Ends
+  pub joined : AreJoined plan port asked ends
+  pub safe : AreSafe plan ends rows
 
 -- it goes on as it was, or with its next command taken for given
 pub data GoesOnGiven (plan : Plan) (e : Ends) : Ends → Type 0 where

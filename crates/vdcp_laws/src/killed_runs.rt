@@ -11,14 +11,10 @@ ghost use Rattle.vdcp_journal.specs.declared.moment.Moment.{Moment};
 ghost use Rattle.vdcp_journal.specs.declared.row.Note.{Note};
 ghost use Rattle.vdcp_journal.specs.declared.row.Note.TheVariants as note;
 ghost use Rattle.vdcp_journal.specs.declared.row.Row.{Row};
-ghost use Rattle.vdcp_drive.specs.declared.hooks.Kept.{Kept};
-ghost use Rattle.vdcp_journal_file.specs.Recorded.{WaitsSince};
-ghost use Rattle.vdcp_journal_file.specs.Recording.{rows_left, seen_before};
-ghost use Rattle.vdcp_journal_file.specs.declared.pending.Pending.{Pending};
 ghost use Rattle.vdcp_laws.specs.Announced.{Announces, played_notes};
 ghost use Rattle.vdcp_laws.specs.Kills.{IsRun, asked_in_vain, played, silence_notes};
-ghost use Rattle.vdcp_laws.specs.Mended.{AreSafe, GoesOnGiven, IsMendedOf, heard_since};
-ghost use Rattle.vdcp_laws.specs.TwoEnds.{AreJoined, CanJoin, Ends, connected_anew, note_for, port_now};
+ghost use Rattle.vdcp_laws.specs.Mended.{AreSafe, GoesOnGiven, IsMendedOf};
+ghost use Rattle.vdcp_laws.specs.TwoEnds.{AreJoined, CanJoin, Ends, connected_anew, port_now};
 ghost use Rattle.vdcp_port.specs.Clock.{ClockedPort};
 ghost use Rattle.vdcp_world.specs.LateLine.GoingOn.{IsNoTick, gone_on};
 ghost use Rattle.vdcp_world.specs.LateLine.LateChannel.{LateChannel, IsLateReached, after_late_event, after_late_events};
@@ -84,19 +80,6 @@ pub fn what_going_on_adds_was_given()
     ensures joined { (plan : Plan) (port : ClockedPort) (asked : List Command) (e on : Ends) →
         AreJoined plan port asked e → GoesOnGiven plan e on →
         AreJoined plan port asked (connected_anew plan (port_now on) on) }
-{
-    vdcp_journal::laws::an_announced_play_comes_next();
-    crate::two_ends::a_journal_makes_the_automation();
-}
-
-/// At each moment of a recorded run its safe rows lack at most what the recorder still has to write and what was heard
-/// since, also behind earlier rows, and if a kill left the first of it: `what_going_on_adds_was_given` holds of such rows.
-pub fn what_waits_may_be_lacking()
-    ensures { (plan : Plan) (port : ClockedPort) (asked : List Command) (e : Ends) (before left : Pending)
-        (earlier rows part rest : List Row) (all : List Note) (notes : List Kept) → CanJoin plan port asked →
-        AreJoined plan port asked e → IsThinned all (notes_in (earlier ++ rows_left before)) → seen_before before ≡ None →
-        WaitsSince before notes rows left → rows_left left ≡ part ++ rest →
-        e.notes ++ heard_since rest ≡ all ++ map note_for notes → AreSafe plan e ((earlier ++ rows) ++ part) }
 {
     vdcp_journal::laws::an_announced_play_comes_next();
     crate::two_ends::a_journal_makes_the_automation();

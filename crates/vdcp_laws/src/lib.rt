@@ -13,10 +13,10 @@ pub use asrun_lists::{
 };
 pub use killed_runs::{
     a_killed_run_keeps_the_headline, an_announced_play_may_go_out_unkept,
-    what_asks_may_go_out_unkept, what_going_on_adds_was_given, what_waits_may_be_lacking,
+    what_asks_may_go_out_unkept, what_going_on_adds_was_given,
 };
 pub use lossy_lines::what_is_done_is_events;
-pub use sessions::a_session_keeps_the_headline;
+pub use sessions::{a_killed_session_is_safe, a_session_keeps_the_headline};
 pub use two_ends::{
     a_carried_run_keeps_the_headline, a_journal_makes_the_automation, a_kill_loses_what_came_since,
     ends_in_time_are_a_channel, nothing_airs_after_a_complete_end,

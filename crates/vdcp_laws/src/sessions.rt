@@ -1,5 +1,5 @@
 //! The law of what `vdcp run` does over a connection, from its first question to its last byte.
-ghost use Rattle.std.specs.Prelude.{ℕ, ◌≡◌, ◌++◌, [], List, None, Option, map};
+ghost use Rattle.std.specs.Prelude.{ℕ, ◌≡◌, ◌∷◌, ◌++◌, [], List, None, Option, map};
 ghost use Rattle.vdcp_value.specs.declared.part.Item.{Item};
 ghost use Rattle.vdcp_words.specs.declared.command.Command.{Command};
 ghost use Rattle.vdcp_port.specs.Clock.{ClockedPort};
@@ -12,20 +12,27 @@ ghost use Rattle.vdcp_drive.specs.Steps.{Step, steps_of};
 ghost use Rattle.vdcp_drive.specs.Traces.{acts_in, bytes_of, came_in, kept_in, sent_in};
 ghost use Rattle.vdcp_drive.specs.Turns.{Turn};
 ghost use Rattle.vdcp_drive.specs.declared.hooks.Kept.{Kept};
-ghost use Rattle.vdcp_journal_file.specs.Recording.{Recording};
+ghost use Rattle.vdcp_journal.specs.Thinned.{IsThinned, notes_in};
+ghost use Rattle.vdcp_journal.specs.declared.row.Row.{Row};
+ghost use Rattle.vdcp_journal_file.specs.Recorded.{WaitsSince};
+ghost use Rattle.vdcp_journal_file.specs.Recording.{Recording, rows_left, seen_before};
+ghost use Rattle.vdcp_journal_file.specs.declared.pending.Pending.{Pending};
 ghost use Rattle.vdcp_laws.specs.Automation.{commands_in};
 ghost use Rattle.vdcp_laws.specs.Carried.{AreCarried, MayGive, driver_of};
 ghost use Rattle.vdcp_laws.specs.EndsHeadline.{EndsHeadline};
+ghost use Rattle.vdcp_laws.specs.Mended.{AreOfJoined};
 ghost use Rattle.vdcp_laws.specs.OneConnection.{ends_by};
 ghost use Rattle.vdcp_laws.specs.Servers.{IsServed};
 ghost use Rattle.vdcp_laws.specs.Sessions.{acts_asked, acts_tried, ends_asked, ends_tried, log_tried, state_tried};
-ghost use Rattle.vdcp_laws.specs.TwoEnds.{AreJoined, CanJoin, Ends, asked_first, bytes_in, connected_anew, log_now, note_for};
+ghost use Rattle.vdcp_laws.specs.TwoEnds.{AreJoined, CanJoin, Ends, asked_first, bytes_in, connected_anew, log_now};
 ghost use Rattle.vdcp_run.specs.Asking.{AreAsked, HasAsked, Start, asker_of, over};
 ghost use Rattle.vdcp_run.specs.Session.{HasTried, TriesOver};
 ghost use Rattle.vdcp_run.specs.declared.run_end.RunEnd.{RunEnd};
 ghost use Rattle.vdcp_run.specs.declared.settings.RunSettings.{RunSettings};
 
-use crate::two_ends::{two_ends_are_a_late_channel, untorn_turns_are_at_once};
+use crate::two_ends::{
+    a_journal_makes_the_automation, two_ends_are_a_late_channel, untorn_turns_are_at_once,
+};
 use vdcp_drive::{AtOnce, Hearing, ServerHooks};
 use vdcp_journal_file::Disk;
 use vdcp_port::Catalogue;
@@ -52,26 +59,6 @@ pub fn a_session_keeps_the_headline<C: Catalogue, A: Wire, D: Disk, B: Wire, H: 
         IsServed B.does H.can_act H.does e turns below aired →
         AreCarried plan port.state.unit e (acts_tried tried) below →
         AreJoined plan port asked (ends_tried tried e (e.downs ++ turns)) }
-    // Killed after these events, with the next command kept or not, it leads both ends on, too. They have the notes that were
-    // kept by then; what came since is lost, also if it was heard.
-    ensures killed { (plan : Plan) (from : ℕ) (settings : RunSettings) (port : ClockedPort) (asked : List Command)
-        (e last : Ends) (ear : Held) (wire wire' : A) (left : ℕ) (events : List Event) (rows : List Kept) (out since : List Act)
-        (turns : List Turn) (below : List Act) (aired : List Item) →
-        AreJoined plan port asked e → commands_in plan e.automation ≡ [] →
-        let start : Start = record { plan = plan; from = from; state = e.automation.state } in
-        let given : RunSettings = record settings { unit = port.state.unit } in
-        (asks : HasAsked (asker_of settings.ask start) A.does at_once given e.automation.held ear wire wire' left None) →
-        let now : Ends =
-        ends_asked A.does given e.automation.held ear wire wire' left None (asker_of settings.ask start) asks e in
-        let acts : List Act =
-        acts_asked A.does given e.automation.held ear wire wire' left None (asker_of settings.ask start) asks in
-        let steps : List Step = steps_of at_once plan port.state.unit (driver_of now.automation) events in
-        AreMade at_once plan port.state.unit (driver_of now.automation) events →
-        MayGive plan port.state.unit (ends_by plan port.state.unit now events) rows out last → sent_in since ≡ [] →
-        IsServed B.does H.can_act H.does e turns below aired →
-        AreCarried plan port.state.unit e (acts ++ (acts_in steps ++ (out ++ since))) below →
-        AreJoined plan port asked (record last { downs = e.downs ++ turns })
-        × (last.notes ≡ e.notes ++ map note_for (kept_in steps ++ rows)) }
     // Killed while it asked: of its questions a beginning went out, and nothing was kept.
     ensures asking { (plan : Plan) (from : ℕ) (port : ClockedPort) (asked questions : List Command) (e : Ends)
         (acts : List Act) (unsent : List ℕ) (turns : List Turn) (below : List Act) (aired : List Item) →
@@ -93,4 +80,39 @@ pub fn a_session_keeps_the_headline<C: Catalogue, A: Wire, D: Disk, B: Wire, H: 
     vdcp_drive::laws::what_goes_out_is_answered();
     vdcp_drive::laws::steps_are_exchanges::<AtOnce>();
     vdcp_run::laws::only_questions_are_asked::<AtOnce, A>();
+}
+
+/// A session that is killed after whatever events of its run, with its next command kept or not, leaves a journal whose
+/// rows are safe of joined ends (`what_going_on_adds_was_given` takes them), whether its recorder wrote none of what
+/// waits for a later row, the first of it or all. What was heard last may be lost. As long as nothing was kept, the
+/// journal is as it was.
+pub fn a_killed_session_is_safe<C: Catalogue, A: Wire, B: Wire, H: ServerHooks<C>>()
+    ensures { (plan : Plan) (from : ℕ) (settings : RunSettings) (port : ClockedPort) (asked : List Command)
+        (e last : Ends) (ear : Held) (wire wire' : A) (left : ℕ) (events : List Event) (rows : List Kept) (out since : List Act)
+        (turns : List Turn) (below : List Act) (aired : List Item) (before waits : Pending)
+        (earlier written part rest : List Row) (first : Kept) (more : List Kept) →
+        CanJoin plan port asked → AreJoined plan port asked e → commands_in plan e.automation ≡ [] →
+        let start : Start = record { plan = plan; from = from; state = e.automation.state } in
+        let given : RunSettings = record settings { unit = port.state.unit } in
+        (asks : HasAsked (asker_of settings.ask start) A.does at_once given e.automation.held ear wire wire' left None) →
+        let now : Ends =
+        ends_asked A.does given e.automation.held ear wire wire' left None (asker_of settings.ask start) asks e in
+        let acts : List Act =
+        acts_asked A.does given e.automation.held ear wire wire' left None (asker_of settings.ask start) asks in
+        let steps : List Step = steps_of at_once plan port.state.unit (driver_of now.automation) events in
+        AreMade at_once plan port.state.unit (driver_of now.automation) events →
+        MayGive plan port.state.unit (ends_by plan port.state.unit now events) rows out last → sent_in since ≡ [] →
+        IsServed B.does H.can_act H.does e turns below aired →
+        AreCarried plan port.state.unit e (acts ++ (acts_in steps ++ (out ++ since))) below →
+        IsThinned e.notes (notes_in (earlier ++ rows_left before)) → seen_before before ≡ None →
+        kept_in steps ++ rows ≡ first ∷ more → WaitsSince before (first ∷ more) written waits →
+        rows_left waits ≡ part ++ rest → AreOfJoined plan port asked ((earlier ++ written) ++ part) }
+{
+    untorn_turns_are_at_once();
+    vdcp_drive::laws::servers_go_on();
+    vdcp_drive::laws::what_goes_out_is_answered();
+    vdcp_drive::laws::steps_are_exchanges::<AtOnce>();
+    vdcp_run::laws::only_questions_are_asked::<AtOnce, A>();
+    vdcp_journal::laws::an_announced_play_comes_next();
+    a_journal_makes_the_automation();
 }

@@ -1,21 +1,14 @@
-use Rattle.std.proofs.Common.{ℕ, List, ◌++◌, ◌∙◌, None, ap, subst, refl, sym, append_assoc}
+use Rattle.std.proofs.Common.{◌++◌, ap, subst, refl}
 use Rattle.std.specs.Option.{option_to_list}
-use Rattle.vdcp_wire.specs.Acts.{Act}
-use Rattle.vdcp_drive.specs.Hearing.{at_once}
-use Rattle.vdcp_drive.specs.Steps.{steps_of}
-use Rattle.vdcp_drive.specs.Traces.{acts_in}
-use Rattle.vdcp_laws.specs.Carried.{driver_of}
 use Rattle.vdcp_laws.specs.EndsHeadline.{EndsHeadline}
-use Rattle.vdcp_laws.specs.Sessions.{acts_asked, ends_asked, log_tried, state_tried}
-use Rattle.vdcp_laws.specs.TwoEnds.{Ends, log_now, new_ends}
+use Rattle.vdcp_laws.specs.Sessions.{log_tried, state_tried}
+use Rattle.vdcp_laws.specs.TwoEnds.{log_now, new_ends}
 use Rattle.vdcp_laws.proofs.Commands.{timed_out}
 use Rattle.vdcp_laws.proofs.OneRun.{led_on}
 use Rattle.vdcp_laws.proofs.Servers.{Laws, served_so}
-use Rattle.vdcp_laws.proofs.CarriedRun.{carried_before, killed_so}
-use Rattle.vdcp_laws.proofs.Tried.{asked_led, asking_led, may_ask, tried_headline, tried_led}
+use Rattle.vdcp_laws.proofs.Tried.{asking_led, may_ask, tried_headline, tried_led}
 use Rattle.vdcp_laws.proofs.Tried as session
-use Rattle.vdcp_run.specs.Asking.{Start, over}
-use Rattle.vdcp_run.specs.declared.settings.RunSettings.{RunSettings}
+use Rattle.vdcp_run.specs.Asking.{over}
 use Rattle.vdcp_laws.proofs.sessions.a_session_keeps_the_headline.Given.{Over}
 use Rattle.vdcp_laws.proofs.sessions.a_session_keeps_the_headline.Goals as goal
 
@@ -54,24 +47,6 @@ returns-clause-anew g c plan port e = ap option_to_list (timed_out plan e.automa
 
 pub returns-clause-given : goal.returns-clause-given
 returns-clause-given g c settings start wire recorder end tried = tried
-
-pub returns-clause-killed : goal.returns-clause-killed
-returns-clause-killed g c plan from settings port asked e last ear wire wire' left events rows out since turns below aired j none
-    asks made may unsent served carried =
-    let unit : ℕ = port.state.unit in
-    let given : RunSettings = record settings { unit = unit } in
-    let start : Start = record { plan = plan; from = from; state = e.automation.state } in
-    let first : List Act = acts_asked g.A.Wire.does given e.automation.held ear wire wire' left None _ asks in
-    let now : Ends = ends_asked g.A.Wire.does given e.automation.held ear wire wire' left None _ asks e in
-    let acts : List Act = acts_in (steps_of at_once plan unit (driver_of now.automation) events) in
-    let then = killed_so plan unit now last events rows out made may in (
-      led_on plan unit (new_ends port asked) e _ j
-          (asked_led (tried_laws g c) given start e last ear wire wire' left (acts ++ out) turns below aired refl none asks then.0
-          (served_so (laws g c) e turns below aired served)
-          (carried_before plan unit e (first ++ (acts ++ out)) carried since
-          (sym (append_assoc first (acts ++ out) since ∙ ap (λ (l : List Act). first ++ l) (append_assoc acts out since))) unsent)),
-      then.1,
-    )
 
 pub returns-clause-asking : goal.returns-clause-asking
 returns-clause-asking g c plan from port asked questions e acts unsent turns below aired j none asks part served carried = (

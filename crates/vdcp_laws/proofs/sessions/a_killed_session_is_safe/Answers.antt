@@ -1,0 +1,52 @@
+use Rattle.std.proofs.Common.{ℕ, List, ◌++◌, ◌∙◌, None, ap, refl, sym, append_assoc}
+use Rattle.vdcp_wire.specs.Acts.{Act}
+use Rattle.vdcp_laws.specs.Sessions.{acts_asked, ends_asked}
+use Rattle.vdcp_laws.specs.TwoEnds.{Ends, new_ends}
+use Rattle.vdcp_laws.proofs.CarriedRun.{carried_before, killed_so}
+use Rattle.vdcp_laws.proofs.KilledSession.{is_left_safe, steps_at}
+use Rattle.vdcp_laws.proofs.Mended.{Below}
+use Rattle.vdcp_laws.proofs.OneRun.{led_on}
+use Rattle.vdcp_laws.proofs.Servers.{Laws, served_so}
+use Rattle.vdcp_laws.proofs.Tried.{asked_led}
+use Rattle.vdcp_laws.proofs.Tried as session
+use Rattle.vdcp_drive.specs.Traces.{acts_in}
+use Rattle.vdcp_run.specs.Asking.{Start}
+use Rattle.vdcp_run.specs.declared.settings.RunSettings.{RunSettings}
+use Rattle.vdcp_laws.proofs.sessions.a_killed_session_is_safe.Goals as goal
+
+pub returns : goal.returns
+returns g c plan from settings port asked e last ear wire wire' left events rows out since turns below aired before waits
+    earlier written part rest first more can j none asks made may unsent served carried thin unseen kept w split =
+    let unit : ℕ = port.state.unit in
+    let given : RunSettings = record settings { unit = unit } in
+    let start : Start = record { plan = plan; from = from; state = e.automation.state } in
+    let questions : List Act = acts_asked g.A.Wire.does given e.automation.held ear wire wire' left None _ asks in
+    let now : Ends = ends_asked g.A.Wire.does given e.automation.held ear wire wire' left None _ asks e in
+    let laws : Laws = record {
+      goes_on = c.servers_go_on.ensures.acts;
+      answered = c.what_goes_out_is_answered.ensures;
+      acts = c.untorn_turns_are_at_once.ensures.acts;
+      items = c.untorn_turns_are_at_once.ensures.items;
+    } in
+    let tried : session.Laws g.A.Wire.does = record {
+      asks = c.only_questions_are_asked.ensures;
+      steps = record { bytes = c.steps_are_exchanges.ensures.bytes; came = c.steps_are_exchanges.ensures.came };
+    } in
+    let below_laws : Below = record {
+      comes = c.an_announced_play_comes_next.ensures;
+      makes = c.a_journal_makes_the_automation.ensures.makes;
+      told = c.a_journal_makes_the_automation.ensures.told;
+    } in
+    is_left_safe below_laws c.steps_are_exchanges.ensures.bytes plan port asked e now questions _
+    (λ events rows out since last made may unsent acts.
+    let done : List Act = acts_in (steps_at plan port now events) in
+    let then = killed_so plan unit now last events rows out made may in record {
+      ends = record last { downs = e.downs ++ turns };
+      joined = led_on plan unit (new_ends port asked) e _ j
+          (asked_led tried given start e last ear wire wire' left (done ++ out) turns below aired refl none asks then.0
+          (served_so laws e turns below aired served)
+          (carried_before plan unit e (questions ++ (done ++ out)) carried since
+          (acts ∙ sym (append_assoc questions (done ++ out) since
+          ∙ ap (λ (l : List Act). questions ++ l) (append_assoc done out since))) unsent));
+      notes_are = then.1;
+    }) can before waits earlier written part rest thin unseen events rows out since last first more made may unsent refl kept w split
