@@ -21,8 +21,11 @@ use Rattle.vdcp_journal.specs.declared.row.Note.TheVariants as note
 use Rattle.vdcp_journal.specs.declared.row.Row.{Row}
 use Rattle.vdcp_drive.specs.Steps.{given_notes}
 use Rattle.vdcp_laws.specs.Announced.{Announces, came_again}
+use Rattle.std.specs.Option.{option_to_list}
+use Rattle.vdcp_journal_file.specs.Recording.{IsTimedOut, rows_left, seen_before}
+use Rattle.vdcp_journal_file.specs.declared.pending.Pending.{Pending}
 use Rattle.vdcp_laws.specs.Mended as safe
-use Rattle.vdcp_laws.specs.Mended.{AreMended, AreSafe, AreUnkept, MayLack, GoesOnGiven, IsMendedOf, as_given, as_kept, goes, lost}
+use Rattle.vdcp_laws.specs.Mended.{AreSafe, AreUnkept, IsGoneOnWith, MayLack}
 use Rattle.vdcp_laws.specs.TwoEnds.{AreJoined, CanJoin, Ends, GoesOn, as_announced, as_noted, connected_anew, gave, heard_again, note_for, notes_ended, notes_given, port_now, resumed, went_on, with_command}
 use Rattle.vdcp_laws.proofs.Announced.{after_play, none_some, on_refusal_plays, on_silence_plays, one_is, sent_of, thinned_more, ticked_twice}
 use Rattle.vdcp_laws.proofs.Commands as commands
@@ -157,6 +160,11 @@ made below time plan port asked e can j notes more thin =
     }
 
 -- What may have gone out is taken for given.
+
+-- it goes on as it was, or with its next command taken for given
+data GoesOnGiven (plan : Plan) (e : Ends) : Ends → Type 0 where
+  as_kept : {on : Ends} → GoesOn plan e on → GoesOnGiven plan e on
+  as_given : {on : Ends} → GoesOn plan (with_command plan e) on → GoesOnGiven plan e on
 
 record Adds (plan : Plan) (e : Ends) (notes added : List Note) : Type 0 where
   on : Ends
@@ -296,6 +304,13 @@ adds below plan e notes s so unended next announced heard waits gives ann last _
 
 -- The loss.
 
+-- these notes are a journal of what goes on; or of that once what is open timed out, by which it was lost, and then say so
+data AreMended (plan : Plan) (on : Ends) : List Note → Type 0 where
+  goes : {notes : List Note} → IsThinned on.notes notes → AreMended plan on notes
+  lost : {notes : List Note} → IsThinned (on.notes ++ notes_ended plan None on.automation.state) notes
+      → outcome_of (timed_out plan on.automation.state).stage ≡ Some Lost
+      → AreMended plan on (notes ++ note.End Lost ∷ [])
+
 abbrev silence_if : Option Command → List Note
 silence_if None = []
 silence_if (Some c) = note.Silence ∷ []
@@ -340,14 +355,48 @@ mends plan on notes from o said same is thin = goes (subst (IsThinned on.notes) 
 
 -- All of it.
 
-pub joins : (plan : Plan) (port : ClockedPort) (asked : List Command) (e on : Ends) → AreJoined plan port asked e
+joins : (plan : Plan) (port : ClockedPort) (asked : List Command) (e on : Ends) → AreJoined plan port asked e
     → GoesOnGiven plan e on → AreJoined plan port asked (connected_anew plan (port_now on) on)
 joins plan port asked e on j (as_kept on_so) = went_on j (resumed on_so)
 joins plan port asked e on j (as_given on_so) = went_on (went_on j gave) (resumed on_so)
 
+waits_so : (o : Option Command) (waits : Pending) → IsTimedOut o waits
+    → (notes_in (rows_left waits) ≡ silence_if o) × (seen_before waits ≡ None)
+waits_so None waits is = (ap (λ (p : Pending). notes_in (rows_left p)) is, ap seen_before is)
+waits_so (Some c) waits (time, is) = (ap (λ (p : Pending). notes_in (rows_left p)) is, ap seen_before is)
+
+-- of what goes on, and of rows that are its journal, a session begins; or it was lost
+goes_with : Below → (plan : Plan) (port : ClockedPort) (asked : List Command) (time : Moment) (on : Ends) (rows : List Row)
+    → CanJoin plan port asked → AreJoined plan port asked (connected_anew plan (port_now on) on)
+    → timed_out plan (after_rows plan start rows) ≡ timed_out plan on.automation.state
+    → (notes : List Note) → notes_in rows ≡ notes → AreMended plan on notes → IsGoneOnWith plan port asked rows
+goes_with below plan port asked time on rows can j makes notes notes_are (goes thin) =
+    let next : Ends = connected_anew plan (port_now on) on in
+    let ends : List Note = notes_ended plan None on.automation.state in
+    let both : IsThinned next.notes (notes ++ ends) = thinned_more on.notes notes ends thin in
+    let later = made below time plan port asked next can j notes ends both in
+    let same : Alike plan (after_notes plan start notes) on.automation.state =
+    alike plan (after_notes plan start notes) on.automation.state (awaited plan on.automation.state) refl later.state_is
+    (told_behind plan start notes ends later.told) in
+    let from_is : after_rows plan start rows ≡ after_notes plan start notes =
+    of_rows plan start rows ∙ ap (after_notes plan start) notes_are in
+    safe.goes_on next (sym makes) (λ waits is.
+    let w = waits_so (awaited plan (after_rows plan start rows)) waits is in record {
+      joined = j;
+      ready = ap option_to_list (commands.timed_out plan on.automation.state);
+      thinned = subst (IsThinned next.notes)
+          (ap (λ (l : List Note). notes ++ l) (same.silent
+          ∙ ap (λ (x : State). silence_if (awaited plan x)) (sym from_is) ∙ sym w.0)
+          ∙ ap (λ (l : List Note). l ++ notes_in (rows_left waits)) (sym notes_are)
+          ∙ sym (noted_behind rows (rows_left waits))) both;
+      unseen = w.1;
+    })
+goes_with below plan port asked time on rows can j makes _ notes_are (lost thin ended) =
+    safe.was_lost (ap (λ (s : State). outcome_of s.stage) makes ∙ ended)
+
 pub is_mended : Below → (plan : Plan) (port : ClockedPort) (asked : List Command) (e : Ends) (journal : List Row)
     (time : Moment) → CanJoin plan port asked → AreJoined plan port asked e → AreSafe plan e (last_run journal).rows
-    → IsMendedOf plan e ((last_run journal).rows ++ rows_at time (mended plan journal (last_run journal).rows))
+    → IsGoneOnWith plan port asked ((last_run journal).rows ++ rows_at time (mended plan journal (last_run journal).rows))
 is_mended below plan port asked e journal time can j kept =
     let rows : List Row = (last_run journal).rows in
     let notes : List Note = notes_in rows in
@@ -368,8 +417,8 @@ is_mended below plan port asked e journal time can j kept =
     let ended : Option Outcome = outcome_of (timed_out plan from).stage in
     let loss : List Note = loss_at plan from said in
     let ends : List Note = notes_ended plan None on in
-    let later = made below time plan port asked (connected_anew plan (port_now a.on) a.on) can
-    (joins plan port asked e a.on j a.goes_on) (notes ++ unkept) ends (thinned_more a.on.notes (notes ++ unkept) ends a.thinned) in
+    let joined = joins plan port asked e a.on j a.goes_on in
+    let later = made below time plan port asked (connected_anew plan (port_now a.on) a.on) can joined (notes ++ unkept) ends (thinned_more a.on.notes (notes ++ unkept) ends a.thinned) in
     let same : Alike plan from on = subst (λ (x : State). Alike plan x on) from_is
     (alike plan (after_notes plan start (notes ++ unkept)) on (awaited plan on) refl later.state_is
     (told_behind plan start (notes ++ unkept) ends later.told)) in
@@ -377,15 +426,12 @@ is_mended below plan port asked e journal time can j kept =
     let more_is : notes_in more ≡ (notes ++ unkept) ++ loss =
     noted_behind rows (rows_at time (unkept ++ loss)) ∙ ap (λ (l : List Note). notes ++ l) (noted time (unkept ++ loss))
     ∙ sym (append_assoc notes unkept loss) in
-    subst (λ (l : List Note). IsMendedOf plan e (rows ++ rows_at time l))
+    subst (λ (l : List Note). IsGoneOnWith plan port asked (rows ++ rows_at time l))
     (sym (ap₂ (λ (x : State) (h : Option Heard). mended_at plan x (last_note journal) h) s_is
     (sym (runs_heard first_run journal))))
-    (record {
-      on = a.on;
-      goes_on = a.goes_on;
-      mended = subst (AreMended plan a.on) (sym more_is)
-          (mends plan a.on (notes ++ unkept) from ended said same refl a.thinned);
-      makes = ap (timed_out plan) (of_rows plan start more ∙ ap (after_notes plan start) more_is
-          ∙ after_more plan start (notes ++ unkept) loss ∙ ap (λ (x : State). after_notes plan x loss) from_is)
-          ∙ loss_times plan from ended said (awaited plan from) ∙ same.times;
-    })
+    (goes_with below plan port asked time a.on more can joined
+    (ap (timed_out plan) (of_rows plan start more ∙ ap (after_notes plan start) more_is
+    ∙ after_more plan start (notes ++ unkept) loss ∙ ap (λ (x : State). after_notes plan x loss) from_is)
+    ∙ loss_times plan from ended said (awaited plan from) ∙ same.times)
+    (notes_in more) refl
+    (subst (AreMended plan a.on) (sym more_is) (mends plan a.on (notes ++ unkept) from ended said same refl a.thinned)))

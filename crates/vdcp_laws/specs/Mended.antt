@@ -14,7 +14,10 @@ use Rattle.vdcp_journal.specs.Thinned.{IsThinned, heard_last, notes_in}
 use Rattle.vdcp_journal.specs.declared.row.Note.{Note}
 use Rattle.vdcp_journal.specs.declared.row.Note.TheVariants as note
 use Rattle.vdcp_journal.specs.declared.row.Row.{Row}
-use Rattle.vdcp_laws.specs.TwoEnds.{AreJoined, Ends, GoesOn, notes_ended, with_command}
+use Rattle.vdcp_journal_file.specs.Recording.{IsTimedOut, rows_left, seen_before}
+use Rattle.vdcp_journal_file.specs.declared.pending.Pending.{Pending}
+use Rattle.vdcp_laws.specs.Automation.{commands_in}
+use Rattle.vdcp_laws.specs.TwoEnds.{AreJoined, Ends}
 
 -- What may have gone out behind rows, by the command that is open, the one that is given next, and the state that announces a
 -- PLAY: nothing; the next command, if it asks for the state or is a PLAY; and, if one is announced, a PLAY, once something was
@@ -46,21 +49,18 @@ pub record AreOfJoined (plan : Plan) (port : ClockedPort) (asked : List Command)
   pub joined : AreJoined plan port asked ends
   pub safe : AreSafe plan ends rows
 
--- it goes on as it was, or with its next command taken for given
-pub data GoesOnGiven (plan : Plan) (e : Ends) : Ends → Type 0 where
-  as_kept : {on : Ends} → GoesOn plan e on → GoesOnGiven plan e on
-  as_given : {on : Ends} → GoesOn plan (with_command plan e) on → GoesOnGiven plan e on
+-- A session begins so: its ends are joined, and await nothing; a journal's rows, with what is still to be written behind them,
+-- are one of theirs.
+pub record IsSession (plan : Plan) (port : ClockedPort) (asked : List Command) (rows : List Row) (waits : Pending) (e : Ends)
+    : Type 0 where
+  pub joined : AreJoined plan port asked e
+  pub ready : commands_in plan e.automation ≡ []
+  pub thinned : IsThinned e.notes (notes_in (rows ++ rows_left waits))
+  pub unseen : seen_before waits ≡ None
 
--- these notes are a journal of what goes on; or of that once what is open timed out, by which it was lost, and then say so
-pub data AreMended (plan : Plan) (on : Ends) : List Note → Type 0 where
-  goes : {notes : List Note} → IsThinned on.notes notes → AreMended plan on notes
-  lost : {notes : List Note} → IsThinned (on.notes ++ notes_ended plan None on.automation.state) notes
-      → outcome_of (timed_out plan on.automation.state).stage ≡ Some Lost
-      → AreMended plan on (notes ++ note.End Lost ∷ [])
-
--- the rows are a journal of ends that go on from these, and make their controller, with what is open timed out
-pub record IsMendedOf (plan : Plan) (e : Ends) (rows : List Row) : Type 0 where
-  pub on : Ends
-  pub goes_on : GoesOnGiven plan e on
-  pub mended : AreMended plan on (notes_in rows)
-  pub makes : timed_out plan (after_rows plan start rows) ≡ timed_out plan on.automation.state
+-- One begins with the controller of these rows, once what is open there has timed out; or they tell of a run that is lost.
+pub data IsGoneOnWith (plan : Plan) (port : ClockedPort) (asked : List Command) (rows : List Row) : Type 0 where
+  goes_on : (e : Ends) → e.automation.state ≡ timed_out plan (after_rows plan start rows)
+      → ((waits : Pending) → IsTimedOut (awaited plan (after_rows plan start rows)) waits → IsSession plan port asked rows waits e)
+      → IsGoneOnWith plan port asked rows
+  was_lost : outcome_of (timed_out plan (after_rows plan start rows)).stage ≡ Some Lost → IsGoneOnWith plan port asked rows

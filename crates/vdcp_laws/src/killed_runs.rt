@@ -13,8 +13,8 @@ ghost use Rattle.vdcp_journal.specs.declared.row.Note.TheVariants as note;
 ghost use Rattle.vdcp_journal.specs.declared.row.Row.{Row};
 ghost use Rattle.vdcp_laws.specs.Announced.{Announces, played_notes};
 ghost use Rattle.vdcp_laws.specs.Kills.{IsRun, asked_in_vain, played, silence_notes};
-ghost use Rattle.vdcp_laws.specs.Mended.{AreSafe, GoesOnGiven, IsMendedOf};
-ghost use Rattle.vdcp_laws.specs.TwoEnds.{AreJoined, CanJoin, Ends, connected_anew, port_now};
+ghost use Rattle.vdcp_laws.specs.Mended.{AreSafe, IsGoneOnWith};
+ghost use Rattle.vdcp_laws.specs.TwoEnds.{AreJoined, CanJoin, Ends};
 ghost use Rattle.vdcp_port.specs.Clock.{ClockedPort};
 ghost use Rattle.vdcp_world.specs.LateLine.GoingOn.{IsNoTick, gone_on};
 ghost use Rattle.vdcp_world.specs.LateLine.LateChannel.{LateChannel, IsLateReached, after_late_event, after_late_events};
@@ -70,16 +70,15 @@ pub fn an_announced_play_may_go_out_unkept()
     vdcp_port::laws::the_unit_stays();
 }
 
-/// What going on adds to a killed run's safe rows (`mended`) may have gone out of the two ends: taken for given, it makes
-/// the rows a journal of them again, and their controller. If the rows say that the run was lost, it was.
-pub fn what_going_on_adds_was_given()
-    ensures mended { (plan : Plan) (port : ClockedPort) (asked : List Command) (e : Ends) (journal : List Row)
+/// A journal whose rows are safe of joined ends is gone on with: what going on adds (`mended`) may have gone out of them;
+/// taken for given, it makes the rows a journal of both ends again, joined over a new connection, and the controller that a
+/// session begins with; or the rows then say that the run was lost.
+pub fn a_mended_journal_is_gone_on_with()
+    ensures { (plan : Plan) (port : ClockedPort) (asked : List Command) (e : Ends) (journal : List Row)
         (time : Moment) → CanJoin plan port asked → AreJoined plan port asked e →
         AreSafe plan e (last_run journal).rows →
-        IsMendedOf plan e ((last_run journal).rows ++ rows_at time (mended plan journal (last_run journal).rows)) }
-    ensures joined { (plan : Plan) (port : ClockedPort) (asked : List Command) (e on : Ends) →
-        AreJoined plan port asked e → GoesOnGiven plan e on →
-        AreJoined plan port asked (connected_anew plan (port_now on) on) }
+        IsGoneOnWith plan port asked ((last_run journal).rows
+        ++ rows_at time (mended plan journal (last_run journal).rows)) }
 {
     vdcp_journal::laws::an_announced_play_comes_next();
     crate::two_ends::a_journal_makes_the_automation();

@@ -12,8 +12,8 @@ pub use asrun_lists::{
     an_asrun_list_is_of_what_aired, an_asrun_list_of_a_late_line_is_of_what_aired,
 };
 pub use killed_runs::{
-    a_killed_run_keeps_the_headline, an_announced_play_may_go_out_unkept,
-    what_asks_may_go_out_unkept, what_going_on_adds_was_given,
+    a_killed_run_keeps_the_headline, a_mended_journal_is_gone_on_with,
+    an_announced_play_may_go_out_unkept, what_asks_may_go_out_unkept,
 };
 pub use lossy_lines::what_is_done_is_events;
 pub use sessions::{a_killed_session_is_safe, a_session_keeps_the_headline};

@@ -12,19 +12,18 @@ ghost use Rattle.vdcp_drive.specs.Steps.{Step, steps_of};
 ghost use Rattle.vdcp_drive.specs.Traces.{acts_in, bytes_of, came_in, kept_in, sent_in};
 ghost use Rattle.vdcp_drive.specs.Turns.{Turn};
 ghost use Rattle.vdcp_drive.specs.declared.hooks.Kept.{Kept};
-ghost use Rattle.vdcp_journal.specs.Thinned.{IsThinned, notes_in};
 ghost use Rattle.vdcp_journal.specs.declared.row.Row.{Row};
 ghost use Rattle.vdcp_journal_file.specs.Recorded.{WaitsSince};
-ghost use Rattle.vdcp_journal_file.specs.Recording.{Recording, rows_left, seen_before};
+ghost use Rattle.vdcp_journal_file.specs.Recording.{Recording, rows_left};
 ghost use Rattle.vdcp_journal_file.specs.declared.pending.Pending.{Pending};
 ghost use Rattle.vdcp_laws.specs.Automation.{commands_in};
 ghost use Rattle.vdcp_laws.specs.Carried.{AreCarried, MayGive, driver_of};
 ghost use Rattle.vdcp_laws.specs.EndsHeadline.{EndsHeadline};
-ghost use Rattle.vdcp_laws.specs.Mended.{AreOfJoined};
+ghost use Rattle.vdcp_laws.specs.Mended.{AreOfJoined, IsSession};
 ghost use Rattle.vdcp_laws.specs.OneConnection.{ends_by};
 ghost use Rattle.vdcp_laws.specs.Servers.{IsServed};
 ghost use Rattle.vdcp_laws.specs.Sessions.{acts_asked, acts_tried, ends_asked, ends_tried, log_tried, state_tried};
-ghost use Rattle.vdcp_laws.specs.TwoEnds.{AreJoined, CanJoin, Ends, asked_first, bytes_in, connected_anew, log_now};
+ghost use Rattle.vdcp_laws.specs.TwoEnds.{AreJoined, CanJoin, Ends, asked_first, bytes_in, log_now, new_ends};
 ghost use Rattle.vdcp_run.specs.Asking.{AreAsked, HasAsked, Start, asker_of, over};
 ghost use Rattle.vdcp_run.specs.Session.{HasTried, TriesOver};
 ghost use Rattle.vdcp_run.specs.declared.run_end.RunEnd.{RunEnd};
@@ -70,8 +69,6 @@ pub fn a_session_keeps_the_headline<C: Catalogue, A: Wire, D: Disk, B: Wire, H: 
     ensures given { (settings : RunSettings) (start : Start) (wire : A) (recorder : Option (Recording D)) (end : RunEnd) →
         TriesOver A.does D.safe (record settings { hearing = Hearing.AtOnce }) start wire recorder end →
         HasTried A.does D.safe at_once (record settings { hearing = Hearing.AtOnce }) start (holds []) (over wire recorder) end }
-    ensures anew { (plan : Plan) (port : ClockedPort) (e : Ends) →
-        commands_in plan (connected_anew plan port e).automation ≡ [] }
 {
     two_ends_are_a_late_channel();
     vdcp_world::laws::a_late_line_keeps_the_headline();
@@ -83,15 +80,15 @@ pub fn a_session_keeps_the_headline<C: Catalogue, A: Wire, D: Disk, B: Wire, H: 
 }
 
 /// A session that is killed after whatever events of its run, with its next command kept or not, leaves a journal whose
-/// rows are safe of joined ends (`what_going_on_adds_was_given` takes them), whether its recorder wrote none of what
-/// waits for a later row, the first of it or all. What was heard last may be lost. As long as nothing was kept, the
-/// journal is as it was.
+/// rows are safe of joined ends, whether its recorder wrote none of what waits for a later row, the first of it or all. So
+/// the journal is gone on with (`a_mended_journal_is_gone_on_with`), which begins the next session. What was heard last
+/// may be lost. As long as nothing was kept, the journal is as it was.
 pub fn a_killed_session_is_safe<C: Catalogue, A: Wire, B: Wire, H: ServerHooks<C>>()
-    ensures { (plan : Plan) (from : ℕ) (settings : RunSettings) (port : ClockedPort) (asked : List Command)
+    ensures safe { (plan : Plan) (from : ℕ) (settings : RunSettings) (port : ClockedPort) (asked : List Command)
         (e last : Ends) (ear : Held) (wire wire' : A) (left : ℕ) (events : List Event) (rows : List Kept) (out since : List Act)
         (turns : List Turn) (below : List Act) (aired : List Item) (before waits : Pending)
         (earlier written part rest : List Row) (first : Kept) (more : List Kept) →
-        CanJoin plan port asked → AreJoined plan port asked e → commands_in plan e.automation ≡ [] →
+        CanJoin plan port asked → IsSession plan port asked earlier before e →
         let start : Start = record { plan = plan; from = from; state = e.automation.state } in
         let given : RunSettings = record settings { unit = port.state.unit } in
         (asks : HasAsked (asker_of settings.ask start) A.does at_once given e.automation.held ear wire wire' left None) →
@@ -104,9 +101,9 @@ pub fn a_killed_session_is_safe<C: Catalogue, A: Wire, B: Wire, H: ServerHooks<C
         MayGive plan port.state.unit (ends_by plan port.state.unit now events) rows out last → sent_in since ≡ [] →
         IsServed B.does H.can_act H.does e turns below aired →
         AreCarried plan port.state.unit e (acts ++ (acts_in steps ++ (out ++ since))) below →
-        IsThinned e.notes (notes_in (earlier ++ rows_left before)) → seen_before before ≡ None →
         kept_in steps ++ rows ≡ first ∷ more → WaitsSince before (first ∷ more) written waits →
         rows_left waits ≡ part ++ rest → AreOfJoined plan port asked ((earlier ++ written) ++ part) }
+    ensures new { (plan : Plan) (port : ClockedPort) → IsSession plan port [] [] Pending.Nothing (new_ends port []) }
 {
     untorn_turns_are_at_once();
     vdcp_drive::laws::servers_go_on();

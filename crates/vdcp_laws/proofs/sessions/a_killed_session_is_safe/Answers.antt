@@ -1,7 +1,8 @@
 use Rattle.std.proofs.Common.{ℕ, List, ◌++◌, ◌∙◌, None, ap, refl, sym, append_assoc}
 use Rattle.vdcp_wire.specs.Acts.{Act}
 use Rattle.vdcp_laws.specs.Sessions.{acts_asked, ends_asked}
-use Rattle.vdcp_laws.specs.TwoEnds.{Ends, new_ends}
+use Rattle.vdcp_journal.specs.Thinned.{whole}
+use Rattle.vdcp_laws.specs.TwoEnds.{Ends, begun, new_ends}
 use Rattle.vdcp_laws.proofs.CarriedRun.{carried_before, killed_so}
 use Rattle.vdcp_laws.proofs.KilledSession.{is_left_safe, steps_at}
 use Rattle.vdcp_laws.proofs.Mended.{Below}
@@ -14,9 +15,12 @@ use Rattle.vdcp_run.specs.Asking.{Start}
 use Rattle.vdcp_run.specs.declared.settings.RunSettings.{RunSettings}
 use Rattle.vdcp_laws.proofs.sessions.a_killed_session_is_safe.Goals as goal
 
-pub returns : goal.returns
-returns g c plan from settings port asked e last ear wire wire' left events rows out since turns below aired before waits
-    earlier written part rest first more can j none asks made may unsent served carried thin unseen kept w split =
+pub returns-clause-new : goal.returns-clause-new
+returns-clause-new g c plan port = record { joined = begun; ready = refl; thinned = whole; unseen = refl }
+
+pub returns-clause-safe : goal.returns-clause-safe
+returns-clause-safe g c plan from settings port asked e last ear wire wire' left events rows out since turns below aired before waits
+    earlier written part rest first more can begins asks made may unsent served carried kept w split =
     let unit : ℕ = port.state.unit in
     let given : RunSettings = record settings { unit = unit } in
     let start : Start = record { plan = plan; from = from; state = e.automation.state } in
@@ -42,11 +46,11 @@ returns g c plan from settings port asked e last ear wire wire' left events rows
     let done : List Act = acts_in (steps_at plan port now events) in
     let then = killed_so plan unit now last events rows out made may in record {
       ends = record last { downs = e.downs ++ turns };
-      joined = led_on plan unit (new_ends port asked) e _ j
-          (asked_led tried given start e last ear wire wire' left (done ++ out) turns below aired refl none asks then.0
+      joined = led_on plan unit (new_ends port asked) e _ begins.joined
+          (asked_led tried given start e last ear wire wire' left (done ++ out) turns below aired refl begins.ready asks then.0
           (served_so laws e turns below aired served)
           (carried_before plan unit e (questions ++ (done ++ out)) carried since
           (acts ∙ sym (append_assoc questions (done ++ out) since
           ∙ ap (λ (l : List Act). questions ++ l) (append_assoc done out since))) unsent));
       notes_are = then.1;
-    }) can before waits earlier written part rest thin unseen events rows out since last first more made may unsent refl kept w split
+    }) can before waits earlier written part rest begins.thinned begins.unseen events rows out since last first more made may unsent refl kept w split

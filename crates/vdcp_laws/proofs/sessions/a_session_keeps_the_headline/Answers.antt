@@ -1,9 +1,7 @@
-use Rattle.std.proofs.Common.{◌++◌, ap, subst, refl}
-use Rattle.std.specs.Option.{option_to_list}
+use Rattle.std.proofs.Common.{◌++◌, subst, refl}
 use Rattle.vdcp_laws.specs.EndsHeadline.{EndsHeadline}
 use Rattle.vdcp_laws.specs.Sessions.{log_tried, state_tried}
 use Rattle.vdcp_laws.specs.TwoEnds.{log_now, new_ends}
-use Rattle.vdcp_laws.proofs.Commands.{timed_out}
 use Rattle.vdcp_laws.proofs.OneRun.{led_on}
 use Rattle.vdcp_laws.proofs.Servers.{Laws, served_so}
 use Rattle.vdcp_laws.proofs.Tried.{asking_led, may_ask, tried_headline, tried_led}
@@ -41,9 +39,6 @@ returns-clause-headline g c plan from settings port asked e wire recorder end tu
       headline = c.a_late_line_keeps_the_headline.ensures;
     }) settings plan from port asked e (over wire recorder) end (e.downs ++ turns) start tried
     (returns-clause-joined g c plan from settings port asked e wire recorder end turns below aired j none tried served carried))
-
-pub returns-clause-anew : goal.returns-clause-anew
-returns-clause-anew g c plan port e = ap option_to_list (timed_out plan e.automation.state)
 
 pub returns-clause-given : goal.returns-clause-given
 returns-clause-given g c settings start wire recorder end tried = tried
