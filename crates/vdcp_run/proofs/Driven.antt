@@ -1,6 +1,6 @@
 -- What a driver's run left, with what keeps it, and the end that it comes to.
 use Rattle.std.proofs.Common.{◌≡◌, ◌∙◌, ◌+◌, ◌++◌, ℕ, List, [], ◌∷◌, ap, subst, sym}
-use Rattle.std.specs.Prelude.{Err, IsSome, None, Ok, Option, Result, Some, refl}
+use Rattle.std.specs.Prelude.{true, Err, IsSome, None, Ok, Option, Result, Some, refl}
 use Rattle.vdcp_auto.specs.Plan.{Plan, View, plan_of}
 use Rattle.vdcp_auto.specs.Turn.{outcome_of}
 use Rattle.vdcp_auto.specs.declared.outcome.Outcome.{Outcome}
@@ -10,7 +10,8 @@ use Rattle.vdcp_drive.specs.Auto.{Auto, Driving, Event, auto_of}
 use Rattle.vdcp_drive.specs.Ears.{Fold}
 use Rattle.vdcp_drive.specs.Hooked.{MayKeep, MayLose}
 use Rattle.vdcp_drive.specs.Leaves.{Ending, HasRun, RunLeaves, asked_before, by_hooks, by_itself, in_drop, in_keep, in_listen, in_send, steps_in}
-use Rattle.vdcp_drive.specs.Steps.{Happens, Rules, Step, World, acts, asks, keeps, misses, steps_of}
+use Rattle.vdcp_drive.specs.Steps.{Does, Happens, Rules, Step, World, acts, asks, keeps, misses, steps_of}
+use Rattle.vdcp_drive.specs.Traces.{kept_in}
 use Rattle.vdcp_drive.specs.declared.hooks.Kept.{Kept}
 use Rattle.vdcp_drive.specs.declared.hooks.Kept.TheVariants as row
 use Rattle.vdcp_drive.specs.declared.hooks.Next.{Next}
@@ -25,7 +26,7 @@ use Rattle.vdcp_run.proofs.Ends.{EndedWith, comes_so}
 use Rattle.vdcp_run.specs.Ends.{line_end_of, outcome_in_list}
 use Rattle.vdcp_run.specs.Run.{ComesTo, EndsRun, HasAsrun, IsEndBy, MayBeUnkept, journal_of}
 use Rattle.vdcp_run.specs.Asking.{Comes, over, start_of}
-use Rattle.vdcp_run.specs.Session.{IsClosed, Plays}
+use Rattle.vdcp_run.specs.Session.{IsClosed, Keeping, Plays, playing_rules, unopened_by}
 use Rattle.vdcp_run.specs.declared.run_end.LineEnd.TheVariants as line_end
 use Rattle.vdcp_run.specs.declared.run_end.RunEnd.{RunEnd}
 use Rattle.vdcp_run.specs.declared.settings.RunSettings.{RunSettings}
@@ -132,6 +133,44 @@ module _ {W F : Type 0} (does : Act → W → W → Type 0) (safe : F → Option
       (subst (λ (m : List Step). Happens (recorder_rules does safe) (steps_of fold plan unit a h.run.events ++ m) old new) lost.1
       h.happened)
 
+-- ---- What a run keeps over its connection: its journal's recorder, and what came
+
+module _ {W F : Type 0} (does : Act → W → W → Type 0) (safe : F → Option (List ℕ)) where
+  abbrev recorded : World W (Keeping F) → World W (Option (Recording F))
+  recorded world = record { wire = world.wire; keep = world.keep.recorder }
+
+  step_recorded : (s : Step) (old new : World W (Keeping F)) → Does (playing_rules does safe) s old new
+      → Does (recorder_rules does safe) s (recorded old) (recorded new)
+  step_recorded (acts a) old new h = (h.0, ap recorded h.1)
+  step_recorded (asks s n) old new h = (ap (λ (k : Keeping F). k.recorder) h.0, ap recorded h.1)
+  step_recorded (keeps r) old new h = (h.0.0, ap recorded h.1)
+  step_recorded (misses r) old new h = (h.0.0, ap recorded h.1)
+
+  steps_recorded : (steps : List Step) (old new : World W (Keeping F)) → Happens (playing_rules does safe) steps old new
+      → Happens (recorder_rules does safe) steps (recorded old) (recorded new)
+  steps_recorded [] old new h = ap recorded h
+  steps_recorded (s ∷ later) old new (next, one, rest) =
+      (recorded next, step_recorded s old next one, steps_recorded later next new rest)
+
+  run_recorded : {E : Type 0} (fold : Fold E) (plan : Plan) (unit count : ℕ) (a a' : Auto E)
+      (old new : World W (Keeping F)) (answer : Result Ran BrokenOff)
+      → HasRun (playing_rules does safe) fold plan unit count a a' old new answer
+      → HasRun (recorder_rules does safe) fold plan unit count a a' (recorded old) (recorded new) answer
+  run_recorded fold plan unit count a a' old new answer h =
+      record { run = h.run; happened = steps_recorded (steps_in h.run) old new h.happened }
+
+  unopened_so : (steps : List Step) (old new : World W (Keeping F)) → Happens (playing_rules does safe) steps old new
+      → new.keep.unopened ≡ unopened_by (kept_in steps) old.keep.unopened
+  unopened_so [] old new h = ap (λ (w : World W (Keeping F)). w.keep.unopened) h
+  unopened_so (acts a ∷ later) old new (next, (done, is), rest) = unopened_so later next new rest
+      ∙ ap (λ (w : World W (Keeping F)). unopened_by (kept_in later) w.keep.unopened) is
+  unopened_so (asks s n ∷ later) old new (next, (asked, is), rest) = unopened_so later next new rest
+      ∙ ap (λ (k : Keeping F). unopened_by (kept_in later) k.unopened) asked
+  unopened_so (keeps r ∷ later) old new (next, (kept, is), rest) =
+      unopened_so later next new rest ∙ ap (unopened_by (kept_in later)) kept.1
+  unopened_so (misses r ∷ later) old new (next, (lost, is), rest) =
+      unopened_so later next new rest ∙ ap (unopened_by (kept_in later)) lost.1
+
 unkept_by : (answer : Result Ran BrokenOff) → line_end_of answer ≡ line_end.Unkept → answer ≡ Err fault.Unkept
 unkept_by (Ok ran.Ended) h = cc
 unkept_by (Ok ran.Closed) h = cc
@@ -144,51 +183,66 @@ unkept_by (Err fault.Unkept) h = refl
 
 pub record HasEnded {S E W F : Type 0} (items : S → List Item) (does : Act → W → W → Type 0)
     (safe : F → Option (List ℕ)) (fold : Fold E) (failures : W → ℕ) (settings : RunSettings) (n turns : ℕ)
-    (old new : Driving (FromEvent S) E W) (keep keep' : Option (Recording F)) (answer : Result Ran BrokenOff) (end : RunEnd)
+    (old new : Driving (FromEvent S) E W) (keep keep' : Keeping F) (answer : Result Ran BrokenOff) (end : RunEnd)
     : Type 0 where
   pub listens : n ≡ turns
-  pub leaves : RunLeaves (items_left items) (recorder_rules does safe) fold failures n old new keep keep' answer
+  pub leaves : RunLeaves (items_left items) (playing_rules does safe) fold failures n old new keep keep' answer
+  pub fresh : keep.unopened ≡ true
+  pub unopened : end.unopened ≡ keep'.unopened
   pub works : failures old.wire ≡ 0
   pub line : end.line ≡ line_end_of answer
   pub by : IsEndBy new.controller end
   pub asrun : HasAsrun settings (items new.controller.source.source) end
-  pub closed : IsClosed safe (outcome_of new.controller.state.stage) end.unkept keep'
-  pub unkept : MayBeUnkept (journal_of keep') end.unkept
-  pub told : end.line ≡ line_end.Unkept → IsSome keep' → IsSome end.unkept
+  pub closed : IsClosed safe (outcome_of new.controller.state.stage) end.unkept keep'.recorder
+  pub unkept : MayBeUnkept (journal_of keep'.recorder) end.unkept
+  pub told : end.line ≡ line_end.Unkept → IsSome keep'.recorder → IsSome end.unkept
 
 module _ {S E W F : Type 0} (items : S → List Item) (does : Act → W → W → Type 0) (safe : F → Option (List ℕ))
     (fold : Fold E) (failures : W → ℕ) (settings : RunSettings) (n turns : ℕ) (old new : Driving (FromEvent S) E W)
-    (keep keep' : Option (Recording F)) (answer : Result Ran BrokenOff) (end : RunEnd)
+    (keep keep' : Keeping F) (answer : Result Ran BrokenOff) (end : RunEnd)
     (h : HasEnded items does safe fold failures settings n turns old new keep keep' answer end) where
   abbrev from_is : end.from ≡ old.controller.source.from
   from_is = h.by.from_is ∙ ap (λ (c : View (FromEvent S)). c.source.from) h.leaves.controller
 
+  abbrev has_run : HasRun (playing_rules does safe) fold (plan_of (items_left items) old.controller) old.unit turns (auto_of old)
+      (auto_of new) (over old.wire keep) (over new.wire keep') answer
+  has_run = subst (λ (m : ℕ). HasRun (playing_rules does safe) fold (plan_of (items_left items) old.controller) old.unit m
+      (auto_of old) (auto_of new) (over old.wire keep) (over new.wire keep') answer) h.listens (h.leaves.runs h.works)
+
+  abbrev has_recorded : HasRun (recorder_rules does safe) fold (plan_of (items_left items) old.controller) old.unit turns
+      (auto_of old) (auto_of new) (over old.wire keep.recorder) (over new.wire keep'.recorder) answer
+  has_recorded = run_recorded does safe fold (plan_of (items_left items) old.controller) old.unit turns (auto_of old)
+      (auto_of new) (over old.wire keep) (over new.wire keep') answer has_run
+
   plays_so : Plays does safe fold old.ear old.unit turns (start_of items old.controller)
-      (over old.wire keep) end
+      (over old.wire keep.recorder) end
+  unfolding run_recorded
   plays_so = record {
     ran = answer;
     auto = auto_of new;
-    left = over new.wire keep';
-    runs = subst (λ (m : ℕ). HasRun (recorder_rules does safe) fold (plan_of (items_left items) old.controller) old.unit m
-        (auto_of old) (auto_of new) (over old.wire keep) (over new.wire keep') answer) h.listens (h.leaves.runs h.works);
+    left = over new.wire keep'.recorder;
+    runs = has_recorded;
     line_is = h.line;
     outcome_is = subst (λ (from : ℕ). end.outcome ≡ outcome_in_list from (outcome_of new.controller.state.stage)) from_is
         h.by.outcome_is;
     reported_is = subst (λ (from : ℕ). end.reported ≡ from + new.controller.state.settled) from_is h.by.reported_is;
+    unopened_is = h.unopened ∙ unopened_so does safe (steps_in has_run.run) (over old.wire keep) (over new.wire keep')
+        has_run.happened ∙ ap (unopened_by (kept_in (steps_in has_run.run))) h.fresh;
     closed = h.closed;
   }
 
-  ends_so : EndsRun settings (journal_of keep) items old.controller end
-  ends_so = let run = h.leaves.runs h.works in record {
-    comes = comes_to items (recorder_rules does safe) fold failures n old new keep keep' answer end h.leaves h.line h.by
-        (λ unkept. h.told unkept (unkept_has does safe fold (plan_of (items_left items) old.controller) old.unit n
-        (auto_of old) (auto_of new) (over old.wire keep) (over new.wire keep') answer run
+  ends_so : EndsRun settings (journal_of keep.recorder) items old.controller end
+  unfolding run_recorded
+  ends_so = record {
+    comes = comes_to items (playing_rules does safe) fold failures n old new keep keep' answer end h.leaves h.line h.by
+        (λ unkept. h.told unkept (unkept_has does safe fold (plan_of (items_left items) old.controller) old.unit turns
+        (auto_of old) (auto_of new) (over old.wire keep.recorder) (over new.wire keep'.recorder) answer has_recorded
         (unkept_by answer (sym h.line ∙ unkept))));
     asrun = subst (λ (v : View (FromEvent S)). HasAsrun settings (items v.source.source) end) h.leaves.controller h.asrun;
-    unkept = subst (λ (name : _). MayBeUnkept name end.unkept) (names_stay does safe (steps_in run.run)
-        (over old.wire keep) (over new.wire keep') run.happened) h.unkept;
+    unkept = subst (λ (name : _). MayBeUnkept name end.unkept) (names_stay does safe (steps_in has_run.run)
+        (over old.wire keep.recorder) (over new.wire keep'.recorder) has_recorded.happened) h.unkept;
   }
 
   pub played_so : Plays does safe fold old.ear old.unit turns (start_of items old.controller)
-      (over old.wire keep) end × EndsRun settings (journal_of keep) items old.controller end
+      (over old.wire keep.recorder) end × EndsRun settings (journal_of keep.recorder) items old.controller end
   played_so = (plays_so, ends_so)

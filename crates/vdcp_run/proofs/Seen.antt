@@ -92,6 +92,7 @@ module _ {W W' : Type 0} (does : Act → W → W → Type 0) (does' : Act → W'
     plays_seen : {E : Type 0} (fold : Fold E) (ear : E) (unit listens : ℕ) (start : Start)
         (world : World W (Option (Recording F))) (end : RunEnd) → Plays does safe fold ear unit listens start world end
         → Plays does' safe fold ear unit listens start (below world) end
+    unfolding run_seen
     plays_seen fold ear unit listens start world end plays = record {
       ran = plays.ran;
       auto = plays.auto;
@@ -100,6 +101,7 @@ module _ {W W' : Type 0} (does : Act → W → W → Type 0) (does' : Act → W'
       line_is = plays.line_is;
       outcome_is = plays.outcome_is;
       reported_is = plays.reported_is;
+      unopened_is = plays.unopened_is;
       closed = plays.closed;
     }
 

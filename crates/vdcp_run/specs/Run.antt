@@ -107,27 +107,62 @@ is_by_line line outcome = false
 abbrev pub turns_left : RunSettings → RunEnd → ℕ
 turns_left settings end = min end.left (settings.listens - 1)
 
--- a run with these settings tries again after this end: it stays, that was by the line, its journal is whole, and a turn is left
-abbrev pub tries_again : RunSettings → RunEnd → Bool
-tries_again settings end = settings.stay && (is_by_line end.line (told_outcome end.line end.outcome)
-    && (not (is_some end.unkept) && nat_lt 0 (turns_left settings end)))
+-- the controller was refused: by NAK 01, or by a port that is denied
+abbrev pub is_refused : LineEnd → Option Outcome → Bool
+is_refused line_end.Unneeded (Some Denied) = true
+is_refused line_end.Unneeded (Some (Refused k)) = true
+is_refused line outcome = false
+
+-- The server lost the port since the journal's last rows: the run that goes on from them was refused, and over its
+-- connection came only what a port answers that isn't open.
+abbrev pub has_lost_port : RunJournal → RunEnd → Bool
+has_lost_port (journals.New name) end = false
+has_lost_port (journals.Older name) end = end.unopened && is_refused end.line end.outcome
+has_lost_port (journals.Again name) end = false
+
+-- a run with these settings may try again after this end: it stays, its journal is whole, and a turn is left
+abbrev pub may_try : RunSettings → RunEnd → Bool
+may_try settings end = settings.stay && (not (is_some end.unkept) && nat_lt 0 (turns_left settings end))
 
 -- the settings of a run that goes on from the journal that it has, with so many turns
 abbrev pub going_on : RunSettings → RunJournal → ℕ → RunSettings
 going_on settings journal left = record settings { journal = Some (journals.Older (name_of journal)); listens = left }
 
+-- and of one that begins anew after the journal's last run, with the first event that this doesn't report
+abbrev pub opening_again : RunSettings → RunJournal → ℕ → RunSettings
+opening_again settings journal left =
+    record settings { journal = Some (journals.Again (name_of journal)); from = None; listens = left }
+
+-- the first goes on after an end by the line, the second after the loss of the port
+abbrev pub next_by : RunSettings → RunJournal → RunEnd → Option RunSettings
+next_by settings journal end =
+    if is_by_line end.line (told_outcome end.line end.outcome) then Some (going_on settings journal (turns_left settings end))
+    else (if has_lost_port journal end then Some (opening_again settings journal (turns_left settings end)) else None)
+
 abbrev pub later_by : RunSettings → Option RunJournal → RunEnd → Option RunSettings
 later_by settings None end = None
-later_by settings (Some journal) end =
-    if tries_again settings end then Some (going_on settings journal (turns_left settings end)) else None
+later_by settings (Some journal) end = if may_try settings end then next_by settings journal end else None
 
--- the settings with which it tries again, if it does: it goes on from its journal
+-- the settings with which it tries again, if it does
 abbrev pub later_of : RunSettings → RunEnd → Option RunSettings
 later_of settings end = later_by settings settings.journal end
 
-abbrev pub later_after : RunSettings → Result RunEnd Failure → Option RunSettings
-later_after settings (Ok end) = later_of settings end
-later_after settings (Err failure) = None
+-- the event with which no run begins, since it may have aired
+abbrev pub unsure_event : Failure → Option ℕ
+unsure_event (failures.MayHaveAired event) = Some event
+unsure_event _ = None
+
+-- a run that stays leaves out such an event of so many, and one turn
+abbrev pub leaving_out : RunSettings → ℕ → Option ℕ → Option RunSettings
+leaving_out settings count None = None
+leaving_out settings count (Some event) =
+    if settings.stay && (nat_lt event count && nat_lt 1 settings.listens)
+    then Some (record settings { from = Some (event + 1); listens = settings.listens - 1 }) else None
+
+-- the settings of the next try of a list of so many events
+abbrev pub later_after : RunSettings → ℕ → Result RunEnd Failure → Option RunSettings
+later_after settings count (Ok end) = later_of settings end
+later_after settings count (Err failure) = leaving_out settings count (unsure_event failure)
 
 -- ---- the as-run file
 
@@ -417,11 +452,23 @@ pub record IsTried (settings : RunSettings) (items : List Item) (end : RunEnd) :
   pub asrun : HasAsrun settings items end
   pub unkept : MayBeUnkept (option_map name_of settings.journal) end.unkept
 
--- with which settings a run tries: with its own first; and after a try by whose end it tries again it goes on from its journal
+-- why a try of these items with these settings came to nothing: the journal can't be kept, or else nobody takes the
+-- connection, or else the port isn't empty
+pub data IsUntried (settings : RunSettings) (items : List Item) (failure : Failure) : Type 0 where
+  not_kept : IsUnkept settings items settings.journal failure → IsUntried settings items failure
+  unconnected : failure ≡ failures.Connect → IsUntried settings items failure
+  occupied : failure ≡ failures.NotEmpty → IsUntried settings items failure
+
+-- what a try came to
+abbrev pub CameTo : RunSettings → List Item → Result RunEnd Failure → Type 0
+CameTo settings items (Ok end) = IsTried settings items end
+CameTo settings items (Err failure) = IsUntried settings items failure
+
+-- with which settings a run tries: with its own first, and then with those that follow from what the last try came to
 pub data IsTry (settings : RunSettings) (items : List Item) : RunSettings → Type 0 where
   first : IsTry settings items settings
-  later : {before next : RunSettings} → IsTry settings items before → (end : RunEnd) → IsTried before items end
-      → later_of before end ≡ Some next → IsTry settings items next
+  later : {before next : RunSettings} → IsTry settings items before → (end : Result RunEnd Failure)
+      → CameTo before items end → later_after before (length items) end ≡ Some next → IsTry settings items next
 
 -- this is the end of its last try, after which it doesn't try again
 pub record IsLastTry (settings : RunSettings) (items : List Item) (end : RunEnd) : Type 0 where
@@ -457,18 +504,12 @@ is_of_other_list _ = false
 abbrev pub told_of_list : Bor (List ℕ) → Failure → Failure
 told_of_list list failure = if is_of_other_list failure then failures.NotTheList list else failure
 
--- why a try of these items with these settings came to nothing: the journal can't be kept, or else nobody takes the
--- connection, or else the port isn't empty
-pub data IsUntried (settings : RunSettings) (items : List Item) (failure : Failure) : Type 0 where
-  not_kept : IsUnkept settings items settings.journal failure → IsUntried settings items failure
-  unconnected : failure ≡ failures.Connect → IsUntried settings items failure
-  occupied : failure ≡ failures.NotEmpty → IsUntried settings items failure
-
--- why one of the tries of a run did
+-- why the last of the tries of a run came to nothing
 pub record IsUntriedIn (settings : RunSettings) (items : List Item) (failure : Failure) : Type 0 where
   pub last : RunSettings
   pub tries : IsTry settings items last
   pub untried : IsUntried last items failure
+  pub over : later_after last (length items) (Err failure) ≡ None
 
 -- why a list isn't played: the text is no address, or else the list isn't read, or else it has no event to begin with, or
 -- else the as-run file is the list, or else the journal can't be kept, or else nobody takes the connection, or else

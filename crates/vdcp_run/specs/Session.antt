@@ -1,20 +1,26 @@
 -- What a session did: it asked the port, if it was to, and ran a driver, with the journal that it has, if it has one.
 use Rattle.std.specs.Option.{option_map}
-use Rattle.std.specs.Prelude.{ℕ, ◌≡◌, ◌+◌, ◌*◌, true, List, [], Option, None, Some, IsSome, Result}
+use Rattle.std.specs.Prelude.{ℕ, ◌≡◌, ◌+◌, ◌*◌, Bool, true, false, ◌&&◌, List, [], ◌∷◌, Option, None, Some, IsSome, Result}
 use Rattle.vdcp_auto.specs.Turn.{outcome_of}
+use Rattle.vdcp_auto.specs.declared.exchange.Heard.{Heard}
+use Rattle.vdcp_auto.specs.declared.exchange.Heard.TheVariants as heard
 use Rattle.vdcp_auto.specs.declared.outcome.Outcome.{Outcome}
 use Rattle.vdcp_drive.specs.Auto.{Auto}
 use Rattle.vdcp_drive.specs.Ears.{Fold}
 use Rattle.vdcp_drive.specs.Hearing as ears
-use Rattle.vdcp_drive.specs.Leaves.{HasRun}
+use Rattle.vdcp_drive.specs.Hooked.{MayKeep, MayLose}
+use Rattle.vdcp_drive.specs.Leaves.{HasRun, steps_in}
 use Rattle.vdcp_drive.specs.Reading.{holds}
-use Rattle.vdcp_drive.specs.Steps.{World}
+use Rattle.vdcp_drive.specs.Steps.{Rules, World}
+use Rattle.vdcp_drive.specs.Traces.{kept_in}
 use Rattle.vdcp_drive.specs.declared.hooks.BrokenOff.{BrokenOff}
+use Rattle.vdcp_drive.specs.declared.hooks.Kept.{Kept}
+use Rattle.vdcp_drive.specs.declared.hooks.Kept.TheVariants as kept
 use Rattle.vdcp_drive.specs.declared.line.Ran.{Ran}
 use Rattle.vdcp_journal.specs.declared.moment.Moment.{Moment}
 use Rattle.vdcp_drive.specs.declared.hearing.Hearing.{Hearing}
 use Rattle.vdcp_drive.specs.declared.hearing.Hearing.TheVariants as hears
-use Rattle.vdcp_journal_file.specs.Recorded.{recorder_rules}
+use Rattle.vdcp_journal_file.specs.Recorded.{Loses, Notes, recorder_rules}
 use Rattle.vdcp_journal_file.specs.Recording.{Adds, Recording, outcome_rows}
 use Rattle.vdcp_run.specs.Ends.{line_end_of, outcome_in_list}
 use Rattle.vdcp_run.specs.Asking.{HasAsked, Start, asker_of, over}
@@ -26,6 +32,47 @@ use Rattle.vdcp_run.specs.declared.settings.RunSettings.{RunSettings}
 use Rattle.vdcp_wire.specs.Acts.{Act}
 use Rattle.vdcp_wire.specs.Streams.{StreamDoes, Streamed}
 use Rattle.vdcp_wire.specs.declared.stream.Connection.TheVariants as connection
+use Rattle.vdcp_words.specs.declared.reply.Reply.TheVariants as reply
+
+-- ---- what is kept over a connection
+
+-- its journal, if there is one, and whether only such answers came as a port gives that isn't open
+pub record Keeping (F : Type 0) : Type 0 where
+  pub recorder : Option (Recording F)
+  pub unopened : Bool
+
+-- NAK, or whether the catalogue has a clip
+abbrev pub is_unopened : Heard → Bool
+is_unopened (heard.Reply (reply.Nak e)) = true
+is_unopened (heard.Reply (reply.Present present)) = true
+is_unopened _ = false
+
+-- that, once this is kept
+abbrev pub unopened_after : Kept → Bool → Bool
+unopened_after (kept.Sent c) before = before
+unopened_after (kept.Heard h) before = before && is_unopened h
+unopened_after kept.Silence before = before
+unopened_after (kept.Called c) before = before
+
+abbrev pub unopened_by : List Kept → Bool → Bool
+unopened_by [] before = before
+unopened_by (one ∷ later) before = unopened_by later (unopened_after one before)
+
+-- what a run does over a connection to its wire, and to this
+abbrev pub KeepsOn : {F : Type 0} → (F → Option (List ℕ)) → Kept → Keeping F → Keeping F → Type 0
+KeepsOn safe one old new = MayKeep (Notes safe) one old.recorder new.recorder
+    × (new.unopened ≡ unopened_after one old.unopened)
+
+abbrev pub LosesIn : {F : Type 0} → (F → Option (List ℕ)) → Kept → Keeping F → Keeping F → Type 0
+LosesIn safe one old new = MayLose (Loses safe) one old.recorder new.recorder × (new.unopened ≡ old.unopened)
+
+abbrev pub playing_rules : {W F : Type 0} → (Act → W → W → Type 0) → (F → Option (List ℕ)) → Rules W (Keeping F)
+playing_rules does safe = record {
+  does = does;
+  asks = λ _ _ before after. after ≡ before;
+  adds = KeepsOn safe;
+  loses = LosesIn safe;
+}
 
 -- ---- a driver's run
 
@@ -48,6 +95,7 @@ pub record Plays {E W F : Type 0} (does : Act → W → W → Type 0) (safe : F 
   pub line_is : end.line ≡ line_end_of ran
   pub outcome_is : end.outcome ≡ outcome_in_list start.from (outcome_of auto.state.stage)
   pub reported_is : end.reported ≡ start.from + auto.state.settled
+  pub unopened_is : end.unopened ≡ unopened_by (kept_in (steps_in runs.run)) true
   pub closed : IsClosed safe (outcome_of auto.state.stage) end.unkept left.keep
 
 -- ---- over a connection
@@ -94,7 +142,7 @@ Limits wire time = option_map (λ l. l.most) wire.answer ≡ Some time
 -- of a run that stays stopped before there was one
 pub data HasSession {F : Type 0} (safe : F → Option (List ℕ)) (settings : RunSettings) (start : Start)
     (recorder : Option (Recording F)) (end : RunEnd) : Type 0 where
-  had_ended : IsSome (outcome_of start.state.stage) → end.line ≡ line_end.Unneeded
+  had_ended : IsSome (outcome_of start.state.stage) → end.line ≡ line_end.Unneeded → end.unopened ≡ false
       → HasSession safe settings start recorder end
   no_wire : end.line ≡ line_end.Failed → HasSession safe settings start recorder end
   unconnected : settings.stay ≡ true → end.line ≡ line_end.Stopped → HasSession safe settings start recorder end

@@ -90,15 +90,22 @@ impl<
         }
     }
 
-    /// Tells that the run connects again after this end.
+    /// Tells how the run goes on after this try.
     pub fn tell_again(&self, end: &Result<RunEnd<'_>, Failure<'_>>) {
-        let failure = match end {
-            Ok(end) => end.line.failure(),
-            Err(_) => None,
+        let end = match end {
+            Ok(end) => end,
+            Err(failure) => {
+                self.tell(&format_args!("{failure}: it is left out"));
+                return;
+            }
         };
-        match failure {
+        let event = end.reported;
+        match end.line.failure() {
             Some(failure) => self.tell(&format_args!("{failure}: connecting again")),
-            None => self.tell(&"lost: connecting again"),
+            None if end.is_by_line() => self.tell(&"lost: connecting again"),
+            None => self.tell(&format_args!(
+                "the server lost the port: going on with event {event}"
+            )),
         }
     }
 
@@ -121,16 +128,18 @@ impl<
         &mut self,
         controller: &Controller<Rest<S>>,
         line: LineEnd,
+        unopened: bool,
         unkept: Option<Lack<'a>>,
         left: u32,
         settings: RunSettings<'a>,
     ) -> RunEnd<'a>
         ensures of_controller { IsEndBy controller.now result }
         ensures line { result.line ≡ line }
+        ensures unopened { result.unopened ≡ unopened }
         ensures asrun { HasAsrun settings.entry (S.items controller.now.source.source) result }
         ensures kept { result.unkept ≡ unkept.entry }
     {
-        let end = ended(self.rt, controller, line, unkept, left, settings);
+        let end = ended(self.rt, controller, line, unopened, unkept, left, settings);
         if later_of(&end, settings).is_none() {
             if let Some(progress) = &mut self.progress {
                 progress.clear();

@@ -1,4 +1,7 @@
 //! What takes part in a run beside its wire: the journal's recorder and the console.
+ghost use Rattle.std.specs.Prelude.{◌≡◌};
+ghost use Rattle.vdcp_run.specs.Session.{is_unopened};
+
 use crate::console::Console;
 use std::io;
 use std::rt::{Clock, Files};
@@ -6,7 +9,7 @@ use vdcp_auto::{Controller, Heard, Source};
 use vdcp_drive::{Call, Hooks, KeepFault, Next};
 use vdcp_journal_file::{Disk, Recorder};
 use vdcp_list::Rest;
-use vdcp_words::Command;
+use vdcp_words::{Command, Reply};
 
 #[derive(Drop)]
 pub struct Playing<'a, 'r, 'l, R: Clock, F: Disk, I: io::Read, O: io::Write, V: io::Write> {
@@ -14,6 +17,14 @@ pub struct Playing<'a, 'r, 'l, R: Clock, F: Disk, I: io::Read, O: io::Write, V: 
     pub console: Console<'r, 'l, R, I, O, V>,
     /// The turns that may still be made.
     pub left: u32,
+    /// Only such answers came as a port gives that isn't open.
+    pub unopened: bool,
+}
+
+fn is_unopened(heard: Heard) -> bool
+    ensures { result ≡ is_unopened heard }
+{
+    matches!(heard, Heard::Reply(Reply::Nak(_) | Reply::Present(_)))
 }
 
 impl<
@@ -24,20 +35,18 @@ impl<
     O: io::Write + Drop,
     V: io::Write + Drop,
 > Hooks<Rest<S>> for Playing<'_, '_, '_, R, F, I, O, V> {
-    ghost use Rattle.std.specs.Prelude.{◌≡◌, Option};
-    ghost use Rattle.vdcp_drive.specs.Hooked.{MayKeep, MayLose};
-    ghost use Rattle.vdcp_journal_file.specs.Recorded.{Loses, Notes};
-    ghost use Rattle.vdcp_journal_file.specs.Recording.{Recording};
+    ghost use Rattle.std.specs.Prelude.{◌≡◌};
+    ghost use Rattle.vdcp_run.specs.Session.{Keeping, KeepsOn, LosesIn};
 
-    ghost Journal = { Option (Recording F) };
+    ghost Journal = { Keeping F };
 
-    ghost journal = { λ p. p.recorder };
+    ghost journal = { λ p. record { recorder = p.recorder; unopened = p.unopened } };
 
     ghost asks = { λ _ _ _ old new. new ≡ old };
 
-    ghost adds = { MayKeep (Notes F.safe) };
+    ghost adds = { KeepsOn F.safe };
 
-    ghost loses = { MayLose (Loses F.safe) };
+    ghost loses = { LosesIn F.safe };
 
     fn due(&mut self, controller: &Controller<Rest<S>>) -> Next {
         self.left = self.left.saturating_sub(1);
@@ -58,6 +67,9 @@ impl<
 
     fn note_end(&mut self, heard: Option<Heard>) {
         self.console.note_end(heard);
+        if let Some(heard) = heard {
+            self.unopened = self.unopened && is_unopened(heard);
+        }
         Hooks::<Rest<S>>::note_end(&mut self.recorder, heard);
     }
 

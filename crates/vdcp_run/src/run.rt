@@ -16,7 +16,7 @@ use crate::place::{Apart, tell_place};
 use crate::run_end::RunEnd;
 use crate::session::Session;
 use crate::settings::{RunJournal, RunSettings, Showing};
-use crate::staying::{Pace, later_of};
+use crate::staying::{Pace, later_of, leaving_out};
 use std::fs::{self, File};
 use std::io;
 use std::net::{Net, SocketAddrV4};
@@ -206,7 +206,7 @@ impl<
     {
         let mut settings = settings;
         let (mut end, mut session) = self.try_events(address, events, settings, seen);
-        'tries: while let Some(later) = later_after(&end, settings) {
+        'tries: while let Some(later) = later_after(&end, events.len(), settings) {
             session.console.tell_again(&end);
             settings = later;
             let (next, rest) = session.try_events(address, events, settings, seen);
@@ -243,17 +243,20 @@ impl<
     }
 }
 
+// An event that may have aired isn't sent again: a run that stays leaves it out.
 fn later_after<'a>(
     end: &Result<RunEnd<'_>, Failure<'_>>,
+    count: usize,
     settings: RunSettings<'a>,
 ) -> Option<RunSettings<'a>>
-    ensures later { result ≡ later_after settings.entry end.now }
-    ensures same { IfSome result (λ later. (later.unit ≡ settings.entry.unit) × (later.limit ≡ settings.entry.limit)
-        × (later.from ≡ settings.entry.from)) }
+    ensures later { result ≡ later_after settings.entry count end.now }
+    ensures same { IfSome result (λ later. (later.unit ≡ settings.entry.unit) × (later.limit ≡ settings.entry.limit)) }
+    ensures listed { first_event settings.entry.from ≤ count → IfSome result (λ later. first_event later.from ≤ count) }
     ensures fewer { IfSome result (λ later. later.listens < settings.entry.listens) }
 {
     match end {
         Ok(end) => later_of(end, settings),
+        Err(Failure::MayHaveAired(event)) => leaving_out(*event, count, settings),
         Err(_) => None,
     }
 }

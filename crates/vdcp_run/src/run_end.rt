@@ -2,13 +2,13 @@
 ghost use Rattle.std.specs.Io.KnownBytes.{Appends};
 ghost use Rattle.std.specs.Prelude.{◌≡◌, IfOk, OnOk};
 ghost use Rattle.vdcp_run.specs.Ends.{line_end_of};
-ghost use Rattle.vdcp_run.specs.Run.{HasAsrun, IsEndBy, asrun_failure, end_text, fault_text, faults_text, is_by_line, lack_text, line_failure, run_status, told_outcome};
+ghost use Rattle.vdcp_run.specs.Run.{HasAsrun, IsEndBy, asrun_failure, end_text, fault_text, faults_text, has_lost_port, is_by_line, is_refused, lack_text, line_failure, run_status, told_outcome};
 
 use crate::asrun::save_asrun;
 use crate::in_list::{outcome_in_list, reported_in_list};
 use crate::lack::Lack;
 use crate::saved::SavedText;
-use crate::settings::RunSettings;
+use crate::settings::{RunJournal, RunSettings};
 use crate::staying::later_of;
 use std::io;
 use std::rt::Files;
@@ -75,6 +75,8 @@ pub struct RunEnd<'a> {
     /// The first event that isn't reported.
     pub reported: usize,
     pub line: LineEnd,
+    /// Over the connection came only such answers as a port gives that isn't open.
+    pub unopened: bool,
     /// None if no as-run file is wanted.
     pub asrun: Option<Result<SavedText<'a>, Failure<'a>>>,
     pub unkept: Option<Lack<'a>>,
@@ -129,6 +131,25 @@ impl<'a> RunEnd<'a> {
         match (self.line, self.told_outcome()) {
             (_, Some(Outcome::Lost)) => true,
             (LineEnd::Closed | LineEnd::Failed, None) => true,
+            _ => false,
+        }
+    }
+
+    /// Whether the server has lost the port since the rows of this journal.
+    pub fn has_lost_port(&self, journal: RunJournal<'_>) -> bool
+        ensures { result ≡ has_lost_port journal.entry self.now }
+    {
+        match journal {
+            RunJournal::New(_) | RunJournal::Again(_) => false,
+            RunJournal::Older(_) => self.unopened && self.is_refused(),
+        }
+    }
+
+    fn is_refused(&self) -> bool
+        ensures { result ≡ is_refused self.now.line self.now.outcome }
+    {
+        match (self.line, self.outcome) {
+            (LineEnd::Unneeded, Some(Outcome::Denied | Outcome::Refused(_))) => true,
             _ => false,
         }
     }
@@ -194,12 +215,14 @@ pub fn ended<'a, R: Files + AllocGlobal, S: Source>(
     rt: &R,
     controller: &Controller<Rest<S>>,
     line: LineEnd,
+    unopened: bool,
     unkept: Option<Lack<'a>>,
     left: u32,
     settings: RunSettings<'a>,
 ) -> RunEnd<'a>
     ensures of_controller { IsEndBy controller.now result }
     ensures line { result.line ≡ line }
+    ensures unopened { result.unopened ≡ unopened }
     ensures asrun { HasAsrun settings.entry (S.items controller.now.source.source) result }
     ensures kept { result.unkept ≡ unkept.entry }
 {
@@ -209,6 +232,7 @@ pub fn ended<'a, R: Files + AllocGlobal, S: Source>(
         outcome: outcome_in_list(from, controller.outcome()),
         reported: reported_in_list(controller),
         line,
+        unopened,
         asrun: None,
         unkept,
         left,

@@ -1,6 +1,6 @@
 //! One session: plays a list over a connection, and says what came of it.
 ghost use Rattle.std.specs.Duration.{as_nanos};
-ghost use Rattle.std.specs.Prelude.{◌≡◌, ◌⊎◌, ◌≤◌, ◌*◌, ◌^◌, ◌-◌, IfErr, IfOk, IsSome, None, OnErr};
+ghost use Rattle.std.specs.Prelude.{◌≡◌, ◌⊎◌, ◌≤◌, ◌*◌, ◌^◌, ◌-◌, IfErr, IfOk, IsSome, None, OnErr, true};
 ghost use Rattle.vdcp_run.specs.Run.{EndsRun, MayBeUnkept, journal_of};
 ghost use Rattle.vdcp_run.specs.Asking.{over, start_of};
 ghost use Rattle.vdcp_run.specs.Session.{HasSession, HasTried, IsClosed, Plays, TriesOver, longest_answer};
@@ -72,7 +72,7 @@ impl<
         let rt = console.rt;
         if controller.outcome().is_some() {
             // (no turn is left: a run whose controller has ended makes no further try)
-            let end = console.end(&controller, LineEnd::Unneeded, None, 0, settings);
+            let end = console.end(&controller, LineEnd::Unneeded, false, None, 0, settings);
             return (Ok(end), Session { console, pace });
         }
         console
@@ -83,7 +83,14 @@ impl<
                 Some(stream) => stream,
                 None => {
                     let left = settings.listens;
-                    let end = console.end(&controller, LineEnd::Stopped, None, left, settings);
+                    let end = console.end(
+                        &controller,
+                        LineEnd::Stopped,
+                        false,
+                        None,
+                        left,
+                        settings,
+                    );
                     return (Ok(end), Session { console, pace });
                 }
             }
@@ -98,6 +105,7 @@ impl<
             recorder,
             console,
             left: settings.listens,
+            unopened: true,
         };
         let (end, console) = playing.play_over(controller, wire, settings, seen);
         let session = Session { console, pace };
@@ -156,7 +164,7 @@ impl<
                 left,
                 ..
             } = self;
-            let end = console.end(&controller, LineEnd::Failed, None, left, settings);
+            let end = console.end(&controller, LineEnd::Failed, false, None, left, settings);
             return (end, console);
         };
         let log = self.console.log;
@@ -214,13 +222,14 @@ impl<
             left,
         } = console.ask_first(&controller, ear, wire, settings);
         if let Some(line) = line {
-            let end = console.end(&controller, line, None, left, settings);
+            let end = console.end(&controller, line, false, None, left, settings);
             return (end, console);
         }
         let playing = Playing {
             recorder,
             console,
             left,
+            unopened: true,
         };
         let driver = Driver::with_ear(controller, settings.unit, ear, wire);
         playing.play(driver, left, settings, seen)
@@ -234,6 +243,7 @@ impl<
         seen: &mut Seen,
     ) -> (RunEnd<'a>, Console<'r, 'l, R, I, O, V>)
         requires works { W.failures driver.wire ≡ 0 }
+        requires fresh { self.unopened ≡ true }
         ensures plays { Plays W.does F.safe E.fold driver.ear driver.unit turns
             (start_of S.items driver.controller) (over driver.wire self.entry.recorder) result.0 }
         ensures end { EndsRun settings.entry (journal_of self.entry.recorder) S.items driver.controller result.0 }
@@ -244,10 +254,11 @@ impl<
             mut recorder,
             mut console,
             left,
+            unopened,
         } = self;
         let unkept = close(&mut recorder, driver.controller().outcome(), line);
         seen.last = console.last();
-        let end = console.end(driver.controller(), line, unkept, left, settings);
+        let end = console.end(driver.controller(), line, unopened, unkept, left, settings);
         (end, console)
     }
 }
