@@ -193,7 +193,7 @@ pub record HasEnded {S E W F : Type 0} (items : S → List Item) (does : Act →
   pub line : end.line ≡ line_end_of answer
   pub by : IsEndBy new.controller end
   pub asrun : HasAsrun settings (items new.controller.source.source) end
-  pub closed : IsClosed safe (outcome_of new.controller.state.stage) end.unkept keep'.recorder
+  pub closed : IsClosed safe new.controller.state.stage end.unkept keep'.recorder
   pub unkept : MayBeUnkept (journal_of keep'.recorder) end.unkept
   pub told : end.line ≡ line_end.Unkept → IsSome keep'.recorder → IsSome end.unkept
 

@@ -1,10 +1,10 @@
 -- What a session did: it asked the port, if it was to, and ran a driver, with the journal that it has, if it has one.
 use Rattle.std.specs.Option.{option_map}
 use Rattle.std.specs.Prelude.{ℕ, ◌≡◌, ◌+◌, ◌*◌, Bool, true, false, ◌&&◌, List, [], ◌∷◌, Option, None, Some, IsSome, Result}
-use Rattle.vdcp_auto.specs.Turn.{outcome_of}
+use Rattle.vdcp_auto.specs.State.{Stage}
+use Rattle.vdcp_auto.specs.Turn.{is_awaiting, outcome_of}
 use Rattle.vdcp_auto.specs.declared.exchange.Heard.{Heard}
 use Rattle.vdcp_auto.specs.declared.exchange.Heard.TheVariants as heard
-use Rattle.vdcp_auto.specs.declared.outcome.Outcome.{Outcome}
 use Rattle.vdcp_drive.specs.Auto.{Auto}
 use Rattle.vdcp_drive.specs.Ears.{Fold}
 use Rattle.vdcp_drive.specs.Hearing as ears
@@ -20,7 +20,7 @@ use Rattle.vdcp_drive.specs.declared.line.Ran.{Ran}
 use Rattle.vdcp_journal.specs.declared.moment.Moment.{Moment}
 use Rattle.vdcp_drive.specs.declared.hearing.Hearing.{Hearing}
 use Rattle.vdcp_drive.specs.declared.hearing.Hearing.TheVariants as hears
-use Rattle.vdcp_journal_file.specs.Recorded.{Loses, Notes, recorder_rules}
+use Rattle.vdcp_journal_file.specs.Recorded.{Loses, Notes, NotesEnd, recorder_rules}
 use Rattle.vdcp_journal_file.specs.Recording.{Adds, Recording, outcome_rows}
 use Rattle.vdcp_run.specs.Ends.{line_end_of, outcome_in_list}
 use Rattle.vdcp_run.specs.Asking.{HasAsked, Start, asker_of, over}
@@ -76,12 +76,18 @@ playing_rules does safe = record {
 
 -- ---- a driver's run
 
--- its journal was ended, if it has one, with the outcome, if there is one, or why it isn't whole is told
-abbrev pub IsClosed : {F : Type 0} → (F → Option (List ℕ)) → Option Outcome → Option Lack → Option (Recording F) → Type 0
-IsClosed safe outcome lack None = lack ≡ None
-IsClosed {F} safe outcome None (Some recorder) =
-    (time : Moment) × (then : Recording F) × Adds safe recorder then (outcome_rows time outcome)
-IsClosed safe outcome (Some lack) (Some recorder) = Unit {0}
+-- if a command's exchange is open, it is noted that nothing came for it
+abbrev pub EndsOpen : {F : Type 0} → Bool → Recording F → Recording F → Type 0
+EndsOpen true old new = NotesEnd None old new
+EndsOpen false old new = new ≡ old
+
+-- its journal was ended, if it has one: first an exchange that is still open, and then with the outcome, if there is one; or why
+-- it isn't whole is told
+abbrev pub IsClosed : {F : Type 0} → (F → Option (List ℕ)) → Stage → Option Lack → Option (Recording F) → Type 0
+IsClosed safe stage lack None = lack ≡ None
+IsClosed {F} safe stage None (Some recorder) = (last : Recording F) × EndsOpen (is_awaiting stage) recorder last
+    × (time : Moment) × (then : Recording F) × Adds safe last then (outcome_rows time (outcome_of stage))
+IsClosed safe stage (Some lack) (Some recorder) = Unit {0}
 
 -- with this ear a driver ran, and came to this end: before each command went out and each call was given its journal,
 -- if it has one, had the rows safe that were due. Then the journal was ended
@@ -96,7 +102,7 @@ pub record Plays {E W F : Type 0} (does : Act → W → W → Type 0) (safe : F 
   pub outcome_is : end.outcome ≡ outcome_in_list start.from (outcome_of auto.state.stage)
   pub reported_is : end.reported ≡ start.from + auto.state.settled
   pub unopened_is : end.unopened ≡ unopened_by (kept_in (steps_in runs.run)) true
-  pub closed : IsClosed safe (outcome_of auto.state.stage) end.unkept left.keep
+  pub closed : IsClosed safe auto.state.stage end.unkept left.keep
 
 -- ---- over a connection
 

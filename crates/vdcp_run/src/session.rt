@@ -3,7 +3,8 @@ ghost use Rattle.std.specs.Duration.{as_nanos};
 ghost use Rattle.std.specs.Prelude.{◌≡◌, ◌⊎◌, ◌≤◌, ◌*◌, ◌^◌, ◌-◌, IfErr, IfOk, IsSome, None, OnErr, true};
 ghost use Rattle.vdcp_run.specs.Run.{EndsRun, MayBeUnkept, journal_of};
 ghost use Rattle.vdcp_run.specs.Asking.{over, start_of};
-ghost use Rattle.vdcp_run.specs.Session.{HasSession, HasTried, IsClosed, Plays, TriesOver, longest_answer};
+ghost use Rattle.vdcp_auto.specs.Turn.{is_awaiting};
+ghost use Rattle.vdcp_run.specs.Session.{EndsOpen, HasSession, HasTried, IsClosed, Plays, TriesOver, longest_answer};
 
 use crate::advice::Seen;
 use crate::asking::Asked;
@@ -19,8 +20,8 @@ use std::io;
 use std::net::{Net, SocketAddrV4};
 use std::rt::{Clock, Files};
 use std::time::Duration;
-use vdcp_auto::{Controller, Outcome, Source};
-use vdcp_drive::{AtOnce, AtSilences, Driver, Ear, Hearing};
+use vdcp_auto::{Controller, Source};
+use vdcp_drive::{AtOnce, AtSilences, Driver, Ear, Hearing, Hooks};
 use vdcp_journal_file::{Disk, RecordFault, Recorder, Resumption};
 use vdcp_list::Rest;
 use vdcp_log::Logged;
@@ -256,19 +257,31 @@ impl<
             left,
             unopened,
         } = self;
-        let unkept = close(&mut recorder, driver.controller().outcome(), line);
+        let unkept = close(&mut recorder, driver.controller(), line);
         seen.last = console.last();
         let end = console.end(driver.controller(), line, unopened, unkept, left, settings);
         (end, console)
     }
 }
 
-fn close<'a, R: Files + Clock + AllocGlobal, F: Disk + Drop>(
+// No answer comes any more. Behind that a state that was heard before announces no PLAY.
+fn end_open<S: Source, R: Files + Clock + AllocGlobal, F: Disk + Drop>(
+    recorder: &mut Recorder<'_, '_, R, F>,
+    controller: &Controller<Rest<S>>,
+)
+    ensures { EndsOpen (is_awaiting controller.now.state.stage) recorder.old recorder.new }
+{
+    if controller.awaiting() {
+        Hooks::<Rest<S>>::note_end(recorder, None);
+    }
+}
+
+fn close<'a, S: Source, R: Files + Clock + AllocGlobal, F: Disk + Drop>(
     recorder: &mut Option<Recorder<'a, '_, R, F>>,
-    outcome: Option<Outcome>,
+    controller: &Controller<Rest<S>>,
     line: LineEnd,
 ) -> Option<Lack<'a>>
-    ensures closed { IsClosed F.safe outcome result recorder.old }
+    ensures closed { IsClosed F.safe controller.now.state.stage result recorder.old }
     ensures unkept { MayBeUnkept (journal_of recorder.old) result }
     ensures told { line ≡ LineEnd.Unkept → IsSome recorder.old → IsSome result }
 {
@@ -276,7 +289,8 @@ fn close<'a, R: Files + Clock + AllocGlobal, F: Disk + Drop>(
         return None;
     };
     let journal = recorder.name();
-    let fault = match recorder.finish(outcome) {
+    end_open(recorder, controller);
+    let fault = match recorder.finish(controller.outcome()) {
         Err(fault) => fault,
         Ok(()) if line == LineEnd::Unkept => RecordFault::Device,
         Ok(()) => return None,

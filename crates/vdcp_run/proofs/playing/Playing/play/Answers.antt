@@ -23,8 +23,8 @@ returns g c =
       by = subst (λ v. IsEndBy v end) c.controller-2.ensures by;
       asrun = subst (λ v. HasAsrun c.args.settings (g.S.Source.items v.source.source) end) c.controller-2.ensures
           c.end-end.ensures.asrun;
-      closed = subst (λ o. IsClosed g.F.Disk.safe o c.end-end.result.unkept c.run_with-ran.new.hooks.recorder)
-          (c.outcome.ensures ∙ ap (λ v. outcome_of v.state.stage) c.controller.ensures)
+      closed = subst (λ v. IsClosed g.F.Disk.safe v.state.stage c.end-end.result.unkept c.run_with-ran.new.hooks.recorder)
+          c.controller.ensures
           (rw c.end-end.ensures.kept c.close-unkept.ensures.closed);
       unkept = rw c.end-end.ensures.kept c.close-unkept.ensures.unkept;
       told = λ unkept some. rw c.end-end.ensures.kept (c.close-unkept.ensures.told (sym c.end-end.ensures.line ∙ unkept) some);
