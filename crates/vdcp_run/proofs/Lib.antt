@@ -3,6 +3,7 @@ pub mod EarlierRuns
 mod Begun
 mod Driven
 mod Ends
+mod LeftOut
 mod Tries
 mod Unplayed
 pub mod Seen

@@ -26,7 +26,7 @@ use Rattle.vdcp_list.specs.Playlists.{IsListOf}
 use Rattle.vdcp_list.specs.Rests.{FromEvent, items_left}
 use Rattle.vdcp_list.specs.Rows.{FileBytes}
 use Rattle.vdcp_journal_file.specs.Recording.{BeganWith, IsTimedOut, IsUnbegun, Recording}
-use Rattle.vdcp_journal_file.specs.Resuming.{IsOpenedAgain, IsReplayed, IsUnopenedAgain, IsUnresumed, open_after, plan_of_run}
+use Rattle.vdcp_journal_file.specs.Resuming.{IsOpenedAgain, IsReplayed, IsUnopenedAgain, IsUnresumed, next_event, open_after, plan_of_run}
 use Rattle.vdcp_journal_file.specs.Showing.{IsAsrunOf, digest_of}
 use Rattle.vdcp_journal_file.specs.declared.pending.RecordFault.{RecordFault}
 use Rattle.vdcp_journal_file.specs.declared.pending.RecordFault.TheVariants as records
@@ -463,6 +463,13 @@ pub data IsUntried (settings : RunSettings) (items : List Item) (failure : Failu
 abbrev pub CameTo : RunSettings → List Item → Result RunEnd Failure → Type 0
 CameTo settings items (Ok end) = IsTried settings items end
 CameTo settings items (Err failure) = IsUntried settings items failure
+
+-- A run that begins anew in its journal begins with the first event that the run before doesn't report, which can't have aired
+-- (`BeginsAfter`), or else behind the first that the last run of a journal of these items doesn't report.
+abbrev pub BeginsBehind : List Item → RunSettings → Type 0
+BeginsBehind items next = (next.from ≡ None) ⊎ ((lines : FileBytes) × (run : Run) × (ended : Plan) × (end : State)
+    × IsReplayed items (heading_for next items) lines run ended end
+    × (next.from ≡ Some (next_event (heading_for next items) run + 1)))
 
 -- with which settings a run tries: with its own first, and then with those that follow from what the last try came to
 pub data IsTry (settings : RunSettings) (items : List Item) : RunSettings → Type 0 where

@@ -1,5 +1,6 @@
 //! The laws of what is asked before a list's own commands, and of the tries of a run. The functions do nothing.
-ghost use Rattle.std.specs.Prelude.{◌≡◌, ℕ, Bool, List, Result, Some, false};
+ghost use Rattle.std.specs.Borrow.{Bor};
+ghost use Rattle.std.specs.Prelude.{◌≡◌, ℕ, Bool, List, Result, Some, false, length};
 ghost use Rattle.vdcp_drive.specs.Auto.{Auto};
 ghost use Rattle.vdcp_drive.specs.Leaves.{HasRun, steps_in};
 ghost use Rattle.vdcp_drive.specs.Steps.{World};
@@ -7,8 +8,11 @@ ghost use Rattle.vdcp_drive.specs.Traces.{commands_kept, kept_in};
 ghost use Rattle.vdcp_drive.specs.declared.hooks.BrokenOff.{BrokenOff};
 ghost use Rattle.vdcp_drive.specs.declared.line.Ran.{Ran};
 ghost use Rattle.vdcp_run.specs.Asking.{AreAsked, Asker, Inquiring, Start, asker_of, asking};
-ghost use Rattle.vdcp_run.specs.Run.{IsTry};
+ghost use Rattle.vdcp_run.specs.Run.{BeginsBehind, CameTo, IsTry, later_after};
+ghost use Rattle.vdcp_run.specs.declared.run_end.RunEnd.{RunEnd};
+ghost use Rattle.vdcp_run.specs.declared.settings.RunJournal.TheVariants as journals;
 ghost use Rattle.vdcp_run.specs.declared.settings.RunSettings.{RunSettings};
+ghost use Rattle.vdcp_text.specs.declared.failure.Failure.{Failure};
 ghost use Rattle.vdcp_value.specs.declared.part.Item.{Item};
 
 use vdcp_drive::{Ear, Wire};
@@ -21,6 +25,14 @@ pub fn only_questions_are_asked<E: Ear, W: Wire>()
         (answer : Result Ran BrokenOff) → asker_of ask start ≡ Some asker → a.state ≡ asker.state →
         (h : HasRun (asking W.does asker.plan) E.fold asker.plan unit count a a' old new answer) →
         AreAsked start (commands_kept (kept_in (steps_in h.run))) }
+{}
+
+/// A run that stays and begins anew in its journal begins behind all that aired or may have aired before: with the first
+/// event that isn't reported, if that can't have aired, and else behind it.
+pub fn a_new_run_begins_behind()
+    ensures { (before next : RunSettings) (items : List Item) (end : Result RunEnd Failure) (name : Bor (List ℕ))
+        → CameTo before items end → later_after before (length items) end ≡ Some next
+        → next.journal ≡ Some (journals.Again name) → BeginsBehind items next }
 {}
 
 /// A run that doesn't stay makes one try: with the settings that it has.
