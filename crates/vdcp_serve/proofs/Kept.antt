@@ -1,12 +1,15 @@
 -- How a port is kept for one turn more.
-use Rattle.std.proofs.Common.{ℕ, ◌≡◌, ◌<◌, ◌-◌, suc, subst, arith}
+use Rattle.std.proofs.Common.{ℕ, ◌≡◌, ◌<◌, ◌-◌, ap, suc, subst, arith}
+use Rattle.std.specs.Prelude.{Option}
+use Rattle.std.specs.declared.net.SocketAddr.{SocketAddr}
 use Rattle.vdcp_port.specs.Clock.{ClockedPort}
 use Rattle.vdcp_wire.specs.Acts.{Act}
-use Rattle.vdcp_serve.specs.Stay.{IfLine, IsKept}
+use Rattle.vdcp_serve.specs.Stay.{IfLine, IsKept, driven}
 use Rattle.vdcp_serve.specs.declared.hooks.Hooks.{Hooks}
 use Rattle.vdcp_serve.specs.declared.serve.ServeSettings.{ServeSettings}
 use Rattle.vdcp_serve.specs.declared.stay.Coming.{Coming}
 use Rattle.vdcp_serve.specs.declared.stay.Coming.TheVariants as comings
+use Rattle.vdcp_serve.specs.declared.timing.Timing.{Timing}
 
 -- this many turns are left, since some are
 pub one_more : {W R L : Type 0} {does : Act → W → W → Type 0} {failures : W → ℕ} {settings : ServeSettings}
@@ -18,7 +21,15 @@ one_more {W} {R} {L} {does} {failures} {settings} {port} {first} {h} now left so
     subst (λ (n : ℕ). IsKept does failures settings port first now n h) one kept
 
 -- of a line that came and works
-pub line_works : {W : Type 0} (failures : W → ℕ) (coming : Coming W) (line : W) → coming ≡ comings.Line line
-    → IfLine coming (λ w. failures w ≡ 0) → failures line ≡ 0
-line_works {W} failures coming line is works =
+pub line_works : {W : Type 0} (failures : W → ℕ) (coming : Coming W) (line : W) (from : SocketAddr)
+    → coming ≡ comings.Line line from → IfLine coming (λ w. failures w ≡ 0) → failures line ≡ 0
+line_works {W} failures coming line from is works =
     subst (λ (c : Coming W). IfLine c (λ w. failures w ≡ 0)) is works
+
+-- a line begins once its address is shown
+pub same_timing : {R L : Type 0} (from : Option SocketAddr) (h h' : Hooks R L) → h' ≡ driven from h → h'.timing ≡ h.timing
+same_timing {R} {L} from h h' e = ap (λ (x : Hooks R L). x.timing) e
+
+pub begun_so : {R L : Type 0} (timing : Timing R) (h h' : Hooks R L) → h ≡ h'
+    → record h { timing = timing } ≡ record h' { timing = timing }
+begun_so {R} {L} timing h h' e = ap (λ (x : Hooks R L). record x { timing = timing }) e

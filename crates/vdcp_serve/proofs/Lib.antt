@@ -1,4 +1,3 @@
 -- The lemmas, file by file.
 mod Kept
-mod Noting
 pub mod Showing

@@ -1,6 +1,8 @@
 -- What the page of a port shows.
-use Rattle.std.specs.Prelude.{ℕ, ◌≡◌, ◌⊎◌, ◌<◌, ◌≤◌, ◌++◌, List, [], ◌∷◌, codes, drop, length, map, Option, None, Some, String, string_bytes}
-use Rattle.std.specs.declared.alloc.Global.{Global}
+use Rattle.circular_buffer.specs.Buffer.{buffer, keep_last}
+use Rattle.std.specs.Net.Text.{socket_text}
+use Rattle.std.specs.Prelude.{ℕ, ◌≡◌, ◌+◌, ◌-◌, ◌^◌, min, ◌++◌, List, [], ◌∷◌, codes, map, Option, None, Some, option_map}
+use Rattle.std.specs.declared.net.SocketAddr.{SocketAddr}
 use Rattle.serde_json.specs.Data.{Data, array, member, no_members, null, number, object, string, unsigned}
 use Rattle.serde_json.specs.View.{items_of}
 use Rattle.serde_json.specs.Written.{compact_text}
@@ -15,6 +17,7 @@ use Rattle.vdcp_port.specs.declared.access.Access.TheVariants as access
 use Rattle.vdcp_port.specs.declared.airing.Clip.{Clip}
 use Rattle.vdcp_serve.specs.declared.panel.Airing.{Airing}
 use Rattle.vdcp_serve.specs.declared.panel.PortPanel.{PortPanel}
+use Rattle.vdcp_serve.specs.declared.panel.PortSeen.{PortSeen}
 use Rattle.vdcp_serve.specs.declared.panel.PortView.{PortView}
 use Rattle.vdcp_text.specs.Items.{item_text}
 use Rattle.vdcp_value.specs.Labels.{frames_per_second}
@@ -40,35 +43,16 @@ airing_data rate a =
     (member (codes "item") (string (item_text rate a.item))
     (member (codes "number") (number (unsigned a.number)) no_members)))
 
--- those that are shown still once one more went to air: while there are fewer than fifty, all, and then all but the oldest
-abbrev pub AreShownStill : List Airing → List Airing → Type 0
-AreShownStill aired still = ((length aired < 50) × (still ≡ aired)) ⊎ ((50 ≤ length aired) × (still ≡ drop 1 aired))
-
--- this went to air as that number: it stands behind those, or memory was refused
-abbrev pub IsNoted : Item → ℕ → List Airing → List Airing → Type 0
-IsNoted item n aired aired' = (still : List Airing) × AreShownStill aired still
-    × (((a : Airing) × (a.item ≡ item) × (a.number ≡ n) × (aired' ≡ still ++ a ∷ [])) ⊎ (aired' ≡ still))
-
--- what a page shows of what went to air, if there is one
-abbrev pub aired_on : {R : Type 0} → Option (PortPanel R) → List Airing
-aired_on None = []
-aired_on (Some page) = page.aired.items
-
--- this went to air as that number, or nothing did
-abbrev pub Notes : Option Item → ℕ → List Airing → List Airing → Type 0
-Notes None n aired aired' = aired' ≡ aired
-Notes (Some item) n aired aired' = IsNoted item n aired aired'
-
-abbrev pub from_data : Option (String Global) → Data
+abbrev pub from_data : Option SocketAddr → Data
 from_data None = null
-from_data (Some text) = string (string_bytes text)
+from_data (Some address) = string (socket_text address)
 
-abbrev pub seen_data : PortView → Data
+abbrev pub seen_data : PortSeen → Data
 seen_data v =
     object (member (codes "access") (string (access_text v.kept.access))
-    (member (codes "aired") (array (items_of (map (airing_data v.rate) v.aired.now)))
+    (member (codes "aired") (array (items_of (map (airing_data v.rate) v.aired.items)))
     (member (codes "cued") (slot_data v.rate v.kept.cued)
-    (member (codes "from") (from_data v.from.now)
+    (member (codes "from") (from_data v.from)
     (member (codes "number") (number (unsigned v.kept.number))
     (member (codes "playing") (slot_data v.rate v.kept.playing)
     (member (codes "rate") (number (unsigned (frames_per_second v.rate)))
@@ -80,18 +64,41 @@ page_bytes v = v.page.now
 
 -- the state is the text of that
 abbrev pub state_bytes : PortView → List ℕ
-state_bytes v = compact_text (seen_data v)
+state_bytes v = compact_text (seen_data v.seen.now)
 
--- requests were answered by the port as it is: its access, its slots with the frames that are left and its state byte,
--- and by what went to air and the address that is connected
-pub record ShowsPort (rate : Rate) (p : ClockedPort) (aired : List Airing) (from : Option (String Global)) (names : Names)
-    : Type 0 where
-  pub view : PortView
-  pub kept : p ≡ port_of p.clips view.kept
-  pub state : view.state ≡ state_byte p.state
-  pub rate_is : view.rate ≡ rate
-  pub aired_is : view.aired.now ≡ aired
-  pub from_is : view.from.now ≡ from
-  pub calls : List Call
-  pub calls' : List Call
-  pub served : ServesSome page_bytes state_bytes (λ _. None) names view calls calls'
+-- this went to air: it is shown behind those before it, of which the oldest goes once there is no more room
+abbrev pub noting : {R : Type 0} → Airing → PortPanel R → PortPanel R
+noting a p =
+    let aired = p.seen.aired in
+    record p { seen = record p.seen { aired = buffer (keep_last aired.capacity (aired.items ++ a ∷ [])) aired.capacity } }
+
+-- a page, if there is one, shows what went to air as that number, if something did
+abbrev pub NotesOn : {R : Type 0} → Option Item → ℕ → Option (PortPanel R) → Option (PortPanel R) → Type 0
+NotesOn None n page page' = page' ≡ page
+NotesOn (Some item) n page page' = (at : ℕ)
+    × (page' ≡ option_map (noting (record { number = n; item = item; at = at })) page)
+
+-- how many went to air then
+abbrev pub counted_on : Option Item → ℕ → ℕ
+counted_on None n = n
+counted_on (Some item) n = min (n + 1) (2 ^ 64 - 1)
+
+-- the port is shown as it is: its access, its slots with the frames that are left and its state byte
+pub record IsPortSeen (p : ClockedPort) (seen : PortSeen) : Type 0 where
+  pub kept : p ≡ port_of p.clips seen.kept
+  pub state : seen.state ≡ state_byte p.state
+
+-- and nothing else changes of what is shown
+pub record Shows {R : Type 0} (p : ClockedPort) (old new : PortPanel R) : Type 0 where
+  pub port : IsPortSeen p new.seen
+  pub rest : new.seen ≡ record old.seen { kept = new.seen.kept; state = new.seen.state }
+
+abbrev pub ShowsOn : {R : Type 0} → ClockedPort → Option (PortPanel R) → Option (PortPanel R) → Type 0
+ShowsOn p None page' = page' ≡ None
+ShowsOn p (Some page) None = ⊥
+ShowsOn p (Some page) (Some page') = Shows p page page'
+
+-- requests were answered by that
+abbrev pub Answers : Names → PortSeen → Type 0
+Answers names seen = (view : PortView) × (view.seen.now ≡ seen)
+    × ((calls : List Call) × ServesSome page_bytes state_bytes (λ _. None) names view [] calls)

@@ -1,6 +1,5 @@
 -- When a frame passes on a line, and when the line is given up.
 use Rattle.std.specs.Prelude.{ℕ, ◌≡◌, ◌≤◌, ◌+◌, ◌-◌, ◌*◌, ◌^◌, Bool, true, false, Option, None, Some, Result, Ok, Err, min, nat_le, nat_lt, if◌then◌else◌, zero, suc}
-use Rattle.vdcp_drive.specs.Serving.{HookStep, asked, lent}
 use Rattle.vdcp_drive.specs.declared.line.DriveFault.{DriveFault}
 use Rattle.vdcp_drive.specs.declared.server_hooks.Due.{Due}
 use Rattle.vdcp_drive.specs.declared.server_hooks.Due.TheVariants as due
@@ -95,7 +94,3 @@ pub record WasTold {R : Type 0} (turned : Result Turned DriveFault) (old new : T
   pub frames : new.frames ≡ old.frames
   pub patience : new.patience ≡ after_turn turned old.stopwatch.now new.stopwatch.now old.patience
   pub turns : new.turns ≡ old.turns
-
-abbrev pub TimingDoes : {R : Type 0} → HookStep → Timing R → Timing R → Type 0
-TimingDoes (asked answer) old new = WasAsked answer old new
-TimingDoes (lent look) old new = WasTold look.turned old new

@@ -1,9 +1,8 @@
 //! How one connection after another is taken, and made a line.
 ghost use Rattle.std.specs.Duration.{as_nanos};
 ghost use Rattle.std.specs.Int.{div_ceil};
-ghost use Rattle.std.specs.Prelude.{◌≡◌, ◌*◌, ◌-◌, false, true, IfErr, IfOk, IsTrue};
-ghost use Rattle.vdcp_serve.specs.Stay.{IfLine};
-ghost use Rattle.vdcp_value.specs.Clock.{frames_after};
+ghost use Rattle.std.specs.Prelude.{◌≡◌, ◌*◌, false, true, IfErr, IfOk, IsTrue};
+ghost use Rattle.vdcp_serve.specs.Stay.{IfLine, IsPause};
 ghost use Rattle.vdcp_wire.specs.Streams.{failures_of};
 
 use crate::serve::{ServeSettings, word_of};
@@ -12,7 +11,7 @@ use mio::unix::SourceFd;
 use mio::{Events, Interest, Poll, Token};
 use std::alloc::Global;
 use std::io;
-use std::net::{Net, OpenListener, SocketAddr};
+use std::net::{Net, OpenListener};
 use std::os::fd::AsRawFd;
 use std::rt::Clock;
 use std::time::Duration;
@@ -34,8 +33,9 @@ pub struct Entrance<'a, R: Net, L: io::Write> {
     poll: Poll,
     events: Events<Global>,
     settings: ServeSettings,
+    // How long a wait for a connection is.
+    pause: Duration,
     log: &'a Log<L>,
-    from: Option<SocketAddr>,
     // Whether the system refuses to wait.
     is_refused: bool,
 }
@@ -47,7 +47,9 @@ impl<'a, R: Net + AllocGlobal, L: io::Write + Drop> Entrance<'a, R, L> {
         listener: R::Listener,
         settings: ServeSettings,
         log: &'a Log<L>,
-    ) -> io::Result<Self> {
+    ) -> io::Result<Self>
+        ensures { IfOk result (λ entrance. IsPause settings (as_nanos entrance.pause)) }
+    {
         listener.set_nonblocking(true)?;
         let poll = Poll::new(rt)?;
         let events = Events::with_capacity(rt.alloc(), 1)?;
@@ -59,8 +61,8 @@ impl<'a, R: Net + AllocGlobal, L: io::Write + Drop> Entrance<'a, R, L> {
             poll,
             events,
             settings,
+            pause: pause_of(settings),
             log,
-            from: None,
             is_refused: false,
         })
     }
@@ -69,23 +71,11 @@ impl<'a, R: Net + AllocGlobal, L: io::Write + Drop> Entrance<'a, R, L> {
         ensures { IfErr result (λ _. IsTrue self.new.is_refused) }
     {
         // (what came is told once, so that one that can't be taken doesn't cut the wait short again)
-        let pause = pause_of(self.settings);
-        self.is_refused = self.poll.poll(&mut self.events, Some(pause)).is_err();
+        self.is_refused = self.poll.poll(&mut self.events, Some(self.pause)).is_err();
         if self.is_refused {
             return Err(WireFault);
         }
         Ok(())
-    }
-
-    // If none can be taken now, none has come.
-    fn take(&mut self) -> Option<R::Stream> {
-        match self.listener.accept() {
-            Ok((stream, from)) => {
-                self.from = Some(from);
-                Some(stream)
-            }
-            Err(_) => None,
-        }
     }
 }
 
@@ -96,25 +86,22 @@ impl<'a, R: Net + AllocGlobal, L: io::Write + Drop> Connections<
         ensures works { IfOk result (λ coming. IfLine coming (λ line. failures_of line.wire.connection ≡ 0)) }
         ensures refused { IfErr result (λ _. IsTrue self.new.is_refused) }
     {
-        let mut taken = self.take();
+        // (if none can be taken now, none has come)
+        let mut taken = self.listener.accept().ok();
         if taken.is_none() {
             self.pause()?;
-            taken = self.take();
+            taken = self.listener.accept().ok();
         }
-        let Some(stream) = taken else {
+        let Some((stream, from)) = taken else {
             return Ok(Coming::Nobody);
         };
         match line_over(stream, self.settings, self.log) {
             Ok(line) => {
                 self.log.tell(&"taken");
-                Ok(Coming::Line(line))
+                Ok(Coming::Line(line, from))
             }
             Err(_) => Ok(Coming::Failed),
         }
-    }
-
-    fn from(&self) -> Option<SocketAddr> {
-        self.from
     }
 
     fn tell_end(&mut self, end: Result<TurnsEnd, DriveFault>) {
@@ -159,9 +146,7 @@ fn waits_of(settings: ServeSettings) -> Waits
 
 // A frame passes at each pause while there is no line. By the clock a pause is the least time after which one is over.
 fn pause_of(settings: ServeSettings) -> Duration
-    ensures at_silences { settings.by_clock ≡ false → as_nanos result ≡ settings.silence * 1000000 }
-    ensures by_clock { settings.by_clock ≡ true → (frames_after settings.rate (as_nanos result) ≡ 1)
-        × (frames_after settings.rate (as_nanos result - 1) ≡ 0) }
+    ensures { IsPause settings (as_nanos result) }
 {
     if settings.by_clock {
         Duration::from_nanos(settings.rate.frame_nanos())

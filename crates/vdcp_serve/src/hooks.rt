@@ -1,6 +1,7 @@
 //! What takes part in a server's turns: time, the log and the page.
-ghost use Rattle.std.specs.Prelude.{◌≡◌, ◌+◌, ◌-◌, ◌^◌, min};
-ghost use Rattle.vdcp_serve.specs.Panel.{IsNoted, Notes, aired_on};
+ghost use Rattle.std.specs.Prelude.{◌≡◌, Some};
+ghost use Rattle.vdcp_serve.specs.Panel.{NotesOn, counted_on};
+ghost use Rattle.vdcp_serve.specs.Stay.{Looks, driven};
 
 use crate::panel::PortPanel;
 use crate::timing::Timing;
@@ -34,7 +35,7 @@ impl<'a, R: Clock + AllocGlobal, L: io::Write + Drop> Hooks<'a, R, L> {
     }
 
     pub fn connected(&mut self, from: Option<SocketAddr>)
-        ensures { self.new.timing ≡ self.old.timing }
+        ensures { self.new ≡ driven from self.old }
     {
         if let Some(panel) = &mut self.panel {
             panel.connected(from);
@@ -44,7 +45,7 @@ impl<'a, R: Clock + AllocGlobal, L: io::Write + Drop> Hooks<'a, R, L> {
     /// Shows the port as it is now, and notes what went to air.
     pub fn show<C: Catalogue>(&mut self, port: &Port<C>, aired: Option<Item>)
         ensures timing { self.new.timing ≡ self.old.timing }
-        ensures noted { Notes aired self.old.aired (aired_on self.old.panel) (aired_on self.new.panel) }
+        ensures looks { Looks port.now aired self.old self.new }
     {
         if let Some(item) = aired {
             self.note(item);
@@ -55,9 +56,9 @@ impl<'a, R: Clock + AllocGlobal, L: io::Write + Drop> Hooks<'a, R, L> {
     }
 
     fn note(&mut self, item: Item)
-        ensures timing { self.new.timing ≡ self.old.timing }
-        ensures noted { IsNoted item self.old.aired (aired_on self.old.panel) (aired_on self.new.panel) }
-        ensures counted { self.new.aired ≡ min (self.old.aired + 1) (2 ^ 64 - 1) }
+        ensures noted { NotesOn (Some item) self.old.aired self.old.panel self.new.panel }
+        ensures counted { self.new.aired ≡ counted_on (Some item) self.old.aired }
+        ensures rest { self.new ≡ record self.old { aired = self.new.aired; panel = self.new.panel } }
     {
         let (number, rate) = (self.aired, self.rate);
         self.aired = number.saturating_add(1);
@@ -70,9 +71,9 @@ impl<'a, R: Clock + AllocGlobal, L: io::Write + Drop> Hooks<'a, R, L> {
 }
 
 impl<C: Catalogue, R: Clock + AllocGlobal, L: io::Write + Drop> ServerHooks<C> for Hooks<'_, R, L> {
-    ghost use Rattle.vdcp_serve.specs.Timing.{TimingDoes};
+    ghost use Rattle.vdcp_serve.specs.Stay.{HooksDo};
 
-    ghost does = { λ step old new. TimingDoes step old.timing new.timing };
+    ghost does = { HooksDo };
 
     fn due(&mut self) -> Due {
         self.timing.due()

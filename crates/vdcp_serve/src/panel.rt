@@ -1,11 +1,13 @@
 //! What the page of a port shows.
-ghost use Rattle.std.specs.Prelude.{◌≡◌, IfOk, map, string_bytes};
+ghost use Rattle.circular_buffer.specs.Buffer.{buffer};
+ghost use Rattle.std.specs.Prelude.{◌≡◌, ℕ, [], IfOk, None, map, string_bytes};
 ghost use Rattle.serde_json.specs.Data.{array};
 ghost use Rattle.serde_json.specs.View.{items_of, view};
 ghost use Rattle.vdcp_text.specs.Items.{item_text};
-ghost use Rattle.vdcp_serve.specs.Panel.{IsNoted, ShowsPort, access_text, airing_data, from_data, seen_data, slot_data};
+ghost use Rattle.vdcp_serve.specs.Panel.{Answers, IsPortSeen, Shows, access_text, airing_data, from_data, noting, seen_data, slot_data};
 
 use crate::page::PAGE;
+use circular_buffer::HeapCircularBuffer;
 use serde_json::{Value, json};
 use std::alloc::{AllocError, Global};
 use std::net::SocketAddr;
@@ -27,73 +29,84 @@ pub struct Airing {
     pub at: u64,
 }
 
+/// What is shown of a port.
+#[derive(Drop)]
+pub struct PortSeen {
+    rate: Rate,
+    kept: Kept,
+    state: u8,
+    /// The items that went to air last, in order.
+    aired: HeapCircularBuffer<Airing>,
+    /// The address that is connected, if one is.
+    from: Option<SocketAddr>,
+}
+
 #[derive(Clone, Copy)]
 pub struct PortView<'a> {
-    pub page: &'static str,
-    pub rate: Rate,
-    pub kept: Kept,
-    pub state: u8,
-    /// The items that went to air last, in order.
-    pub aired: &'a [Airing],
-    /// The address that is connected, if one is.
-    pub from: &'a Option<String>,
+    page: &'static str,
+    seen: &'a PortSeen,
 }
 
 #[derive(Drop)]
 pub struct PortPanel<'a, R: Clock> {
     rt: &'a R,
     panel: Panel,
-    rate: Rate,
-    aired: Vec<Airing>,
-    from: Option<String>,
+    seen: PortSeen,
 }
 
 impl<'a, R: Clock + AllocGlobal> PortPanel<'a, R> {
-    pub fn new(rt: &'a R, panel: Panel, rate: Rate) -> Result<Self, AllocError> {
+    pub fn new<C: Catalogue>(
+        rt: &'a R,
+        panel: Panel,
+        rate: Rate,
+        port: &Port<C>,
+    ) -> Result<Self, AllocError>
+        ensures port { IfOk result (λ page. IsPortSeen port.now page.seen) }
+        ensures rate { IfOk result (λ page. page.seen.rate ≡ rate) }
+        ensures aired { IfOk result (λ page. page.seen.aired ≡ buffer [] MOST_AIRED) }
+        ensures from { IfOk result (λ page. page.seen.from ≡ None) }
+    {
         Ok(PortPanel {
             rt,
             panel,
-            rate,
-            aired: Vec::with_capacity(rt.alloc(), MOST_AIRED)?,
-            from: None,
+            seen: PortSeen {
+                rate,
+                kept: port.kept(),
+                state: port.status_byte(),
+                aired: HeapCircularBuffer::with_capacity(rt.alloc(), MOST_AIRED)?,
+                from: None,
+            },
         })
     }
 
     /// Notes which address drives the port now, if one does.
-    pub fn connected(&mut self, from: Option<SocketAddr>) {
-        self.from = match from {
-            Some(address) => format!(in self.rt.alloc(); "{address}").ok(),
-            None => None,
-        };
+    pub fn connected(&mut self, from: Option<SocketAddr>)
+        ensures { self.new ≡ record self.old { seen = record self.old.seen { from = from } } }
+    {
+        self.seen.from = from;
     }
 
     /// Notes what went to air, as this number, counted from 0.
     pub fn note(&mut self, number: u64, item: Item)
-        ensures noted { IsNoted item number self.old.aired.items self.new.aired.items }
-        ensures keeps { self.new ≡ record self.old { aired = self.new.aired } }
+        ensures { (at : ℕ) × (self.new ≡ noting (record { number = number; item = item; at = at }) self.old) }
     {
-        if self.aired.len() >= MOST_AIRED {
-            self.aired.remove(0);
-        }
         let at = milliseconds(self.rt);
-        let _ = self.aired.push(Airing { number, item, at });
+        let _ = self.seen.aired.push_back(Airing { number, item, at });
     }
 
     /// Answers requests for the page by the port as it is now.
     pub fn show<C: Catalogue>(&mut self, port: &Port<C>)
-        ensures shown { ShowsPort self.old.rate port.now self.old.aired.items self.old.from self.old.panel.names }
-        ensures keeps { self.new ≡ record self.old { panel = self.new.panel } }
+        ensures shows { Shows port.now self.old self.new }
+        ensures answers { Answers self.old.panel.names self.new.seen }
     {
-        let seen = PortView {
+        self.seen.kept = port.kept();
+        self.seen.state = port.status_byte();
+        let view = PortView {
             page: PAGE,
-            rate: self.rate,
-            kept: port.kept(),
-            state: port.status_byte(),
-            aired: self.aired.as_slice(),
-            from: &self.from,
+            seen: &self.seen,
         };
         let mut calls = Calls::new();
-        self.panel.serve_some(self.rt, &seen, &mut calls);
+        self.panel.serve_some(self.rt, &view, &mut calls);
     }
 }
 
@@ -113,7 +126,7 @@ impl View for PortView<'_> {
 
     #[tactic(auto, using(crate::proofs::Showing::seen_whole))]
     fn state(&self, alloc: Global) -> Result<String, AllocError> {
-        self.value(alloc)?.to_string(alloc)
+        self.seen.value(alloc)?.to_string(alloc)
     }
 
     fn event(&self) -> Option<u64> {
@@ -121,15 +134,15 @@ impl View for PortView<'_> {
     }
 }
 
-impl PortView<'_> {
+impl PortSeen {
     fn value(&self, alloc: Global) -> Result<Value, AllocError>
         ensures { IfOk result (λ v. view v ≡ seen_data self.now) }
     {
         json!(in alloc; {
             "access": access_text(self.kept.access),
-            "aired": rows_of(alloc, self.rate, self.aired)?,
+            "aired": rows_of(alloc, self.rate, &self.aired)?,
             "cued": slot(alloc, self.rate, &self.kept.cued)?,
-            "from": text_or_null(alloc, self.from)?,
+            "from": address_or_null(alloc, self.from)?,
             "number": self.kept.number,
             "playing": slot(alloc, self.rate, &self.kept.playing)?,
             "rate": self.rate.frames_per_second(),
@@ -149,13 +162,14 @@ fn access_text(access: Access) -> &'static str
     }
 }
 
-fn text_or_null(alloc: Global, text: &Option<String>) -> Result<Value, AllocError>
-    ensures { IfOk result (λ v. view v ≡ from_data text.now) }
+fn address_or_null(alloc: Global, address: Option<SocketAddr>) -> Result<Value, AllocError>
+    ensures { IfOk result (λ v. view v ≡ from_data address) }
 {
-    match text {
-        Some(text) => Value::try_from_str(alloc, text.as_str()),
-        None => Ok(Value::Null),
-    }
+    let Some(address) = address else {
+        return Ok(Value::Null);
+    };
+    let text = format!(in alloc; "{address}")?;
+    Value::try_from_str(alloc, text.as_str())
 }
 
 fn slot(alloc: Global, rate: Rate, clip: &Option<Clip>) -> Result<Value, AllocError>
@@ -168,12 +182,17 @@ fn slot(alloc: Global, rate: Rate, clip: &Option<Clip>) -> Result<Value, AllocEr
     json!(in alloc; {"item": item.as_str(), "left": clip.left})
 }
 
-fn rows_of(alloc: Global, rate: Rate, aired: &[Airing]) -> Result<Value, AllocError>
-    ensures { IfOk result (λ v. view v ≡ array (items_of (map (airing_data rate) aired.now))) }
+fn rows_of(
+    alloc: Global,
+    rate: Rate,
+    aired: &HeapCircularBuffer<Airing>,
+) -> Result<Value, AllocError>
+    ensures { IfOk result (λ v. view v ≡ array (items_of (map (airing_data rate) aired.now.items))) }
 {
+    let last = aired.to_vec(alloc)?;
     let mut rows = Vec::new(alloc);
-    for k in 0..aired.len() {
-        let row = row_of(alloc, rate, &aired[k])?;
+    for k in 0..last.len() {
+        let row = row_of(alloc, rate, &last[k])?;
         rows.push(row)?;
     }
     Ok(Value::Array(rows))

@@ -169,7 +169,7 @@ fn serve_each<
         Err(_) => return Err(Failure::Bind),
     };
     let panel = match panel {
-        Some(panel) => Some(PortPanel::new(rt, panel, settings.rate)?),
+        Some(panel) => Some(PortPanel::new(rt, panel, settings.rate, &port)?),
         None => None,
     };
     let mut hooks = Hooks::new(rt, log, settings.rate, panel);

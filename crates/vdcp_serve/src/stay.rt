@@ -16,7 +16,8 @@ pub enum Coming<W> {
     Nobody,
     /// The line of a new connection failed at once.
     Failed,
-    Line(W),
+    /// The line, and the address at its other end.
+    Line(W, SocketAddr),
 }
 
 /// Connections, one after another. Those that come meanwhile wait.
@@ -27,8 +28,6 @@ pub trait Connections<W: Wire> {
     /// Waits for the next line, no longer than a silence or, by the clock, a frame.
     fn wait(&mut self) -> Result<Coming<W>, WireFault>
         ensures { IfOk result (λ coming. IfLine coming (λ line. W.failures line ≡ 0)) };
-
-    fn from(&self) -> Option<SocketAddr>;
 
     /// Is told how the last connection ended, also that it failed or couldn't be a line.
     fn tell_end(&mut self, end: Result<TurnsEnd, DriveFault>);
@@ -67,9 +66,8 @@ pub fn stay<
                 hooks.timing.miss_line();
                 Err(DriveFault::Device)
             }
-            Coming::Line(line) => {
-                let from = connections.from();
-                let (rest, end) = serve_over(port, line, from, settings, left, hooks);
+            Coming::Line(line, from) => {
+                let (rest, end) = serve_over(port, line, Some(from), settings, left, hooks);
                 port = rest;
                 left = left.saturating_sub(hooks.timing.turns());
                 end
@@ -90,7 +88,7 @@ pub fn serve_over<C: Catalogue + Drop, W: Wire + Drop, R: Clock + AllocGlobal, L
     hooks: &mut Hooks<'_, R, L>,
 ) -> (Port<C>, Result<TurnsEnd, DriveFault>)
     requires { W.failures line ≡ 0 }
-    ensures { IsServed W.does W.failures settings turns port line hooks.old result.0 result.1 hooks.new }
+    ensures { IsServed W.does W.failures settings turns port line from hooks.old result.0 result.1 hooks.new }
 {
     hooks.connected(from);
     hooks.timing.begin_line(settings);

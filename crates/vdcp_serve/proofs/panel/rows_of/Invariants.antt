@@ -5,4 +5,4 @@ use Rattle.vdcp_serve.specs.Panel.{airing_data}
 use Rattle.vdcp_serve.proofs.panel.rows_of.Given as goal
 
 abbrev pub invariant-loop-k : goal.invariant-loop-k
-invariant-loop-k l = map view l.rows.items ≡ map (airing_data l.rate) (take l.k l.aired)
+invariant-loop-k l = map view l.rows.items ≡ map (airing_data l.rate) (take l.k l.last.items)

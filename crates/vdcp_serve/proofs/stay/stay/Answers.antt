@@ -1,4 +1,4 @@
-use Rattle.std.proofs.Common.{◌≡◌, ◌∙◌, arith}
+use Rattle.std.proofs.Common.{◌≡◌, ◌∙◌, ap, arith}
 use Rattle.vdcp_serve.proofs.Kept.{line_works, one_more}
 use Rattle.vdcp_serve.proofs.stay.stay.Goals as goal
 use Rattle.vdcp_serve.proofs.stay.stay.Goals.{in-Failed, in-Line}
@@ -9,22 +9,25 @@ turns-init g c = rw c.from-left.ensures at_first
 
 pub turns-preserved-in-Nobody : goal.turns-preserved-in-Nobody
 turns-preserved-in-Nobody g c =
+    let looks = rw c.frame.ensures.next at c.show.ensures.looks in
     rw c.frame.ensures.next
     (nobody_came (one_more c.turns.port c.turns.left c.turns-test.true c.turns.invariant)
-    (c.show.ensures.timing ∙ c.miss_line.ensures))
+    (c.show.ensures.timing ∙ c.miss_line.ensures)
+    record { noted = looks.noted; notes = looks.notes; shows = looks.shows; count = looks.count })
 
 pub turns-preserved : goal.turns-preserved
 turns-preserved g c =
     let more = one_more c.turns.port c.turns.left c.turns-test.true c.turns.invariant in
     elim c.match-branch-2.branch [
       | in-Failed w ↦
-          rw (w.port-is, w.left-is, w.hooks-is) (no_line_came more w.miss_line-in-Failed.ensures)
+          rw (w.port-is, w.left-is, w.hooks-is)
+          (no_line_came more (ap (λ t. record c.turns.hooks { timing = t }) w.miss_line-in-Failed.ensures))
       -- the line works, and so the server over it
       | in-Line w ↦
           rw (w.port-is, w.left-is, w.hooks-is, w.saturating_sub-left.ensures, w.turns-in-Line.ensures)
           (served {h' = w.serve_over-rest.new.hooks} more w.in-Line.line
-          (line_works g.W.Wire.failures c.in_ok-wait.field-0 w.in-Line.line w.in-Line.is c.in_ok-wait.ensures)
-          w.serve_over-rest.result.1 w.serve_over-rest.ensures)
+          (line_works g.W.Wire.failures c.in_ok-wait.field-0 w.in-Line.line w.in-Line.from w.in-Line.is c.in_ok-wait.ensures)
+          w.in-Line.from w.serve_over-rest.result.1 w.serve_over-rest.ensures)
     ]
 
 pub returns : goal.returns
