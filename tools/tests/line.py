@@ -15,31 +15,18 @@ import sys
 import threading
 import time
 
-from selenium import webdriver
 from selenium.webdriver.common.action_chains import ActionChains
 from selenium.webdriver.common.by import By
 from selenium.webdriver.common.keys import Keys
 from selenium.webdriver.support.ui import Select
 
+sys.dont_write_bytecode = True
+from browsing import browser, comes, has_contrast, has_names, must  # noqa: E402
+
 TOP = pathlib.Path(__file__).resolve().parent.parent.parent
 PAGE = (TOP / "docs/line.html").as_uri()
 LIST = (TOP / "examples/playlist.csv").read_text()
 CATALOGUE = (TOP / "examples/catalogue.csv").read_text()
-
-
-def browser():
-    options = webdriver.ChromeOptions()
-    for word in ("--headless=new", "--no-sandbox", "--disable-gpu", "--disable-dev-shm-usage", "--window-size=1400,1000"):
-        options.add_argument(word)
-    options.set_capability("goog:loggingPrefs", {"browser": "ALL"})
-    it = webdriver.Chrome(options=options)
-    it.set_script_timeout(200)
-    return it
-
-
-def must(holds, fault):
-    if not holds:
-        sys.exit(fault)
 
 
 def opens(page, words=""):
@@ -60,16 +47,10 @@ def types(page, keys):
     ActionChains(page).send_keys(keys).perform()
 
 
-def click(page, name):
-    button = page.find_element(By.ID, name) if "-" not in name else page.find_element(By.CSS_SELECTOR, f"[data-do={name}]")
+def click(page, where):
+    button = page.find_element(By.CSS_SELECTOR, where)
     page.execute_script("arguments[0].scrollIntoView({block: 'center'})", button)
-    button.click()
-
-
-def does(page, name):
-    button = page.find_element(By.CSS_SELECTOR, f"[data-do={name}]")
-    page.execute_script("arguments[0].scrollIntoView({block: 'center'})", button)
-    must(button.is_enabled(), f"{name} can't be done")
+    must(button.is_enabled(), f"{where} can't be clicked")
     button.click()
 
 
@@ -77,7 +58,7 @@ def steps_to_the_end(page):
     """Steps on until the script is through: once by the button, and then by the key."""
     while "of" in text(page, "place"):
         before = text(page, "place")
-        click(page, "forward")
+        click(page, "#forward")
         must(text(page, "place") != before, f"it doesn't step on: {before}")
         at, _, most = text(page, "place").removeprefix("event ").partition(" of ")
         if most:
@@ -87,12 +68,8 @@ def steps_to_the_end(page):
 def watches_to_the_end(page):
     """Lets the page play the script by its own clock, which stops there."""
     page.execute_script("document.getElementById('speed').value = 100")
-    click(page, "play")
-    for _ in range(600):
-        if "of" not in text(page, "place") and text(page, "play").endswith("Watch"):
-            return
-        threading.Event().wait(0.1)
-    sys.exit(f"the script doesn't end: {text(page, 'place')!r}")
+    click(page, "#play")
+    comes(lambda: "of" not in text(page, "place") and text(page, "play").endswith("Watch"), lambda: f"the script doesn't end: {text(page, 'place')!r}", 60)
 
 
 def sim(program, folder, script, *words, files=(LIST, CATALOGUE), name="script"):
@@ -164,7 +141,7 @@ def scripts(page, program, folder):
         must(shown(page) == without_counts(wanted), f"{name}: the page shows {shown(page)!r}, and not {wanted!r}")
         # (stepping back to the beginning and on again leads to the same)
         for _ in range(5):
-            click(page, "back")
+            click(page, "#back")
         must(page.find_element(By.ID, "forward").is_enabled(), "it can't go on again")
         steps_to_the_end(page)
         must(shown(page) == without_counts(wanted), f"{name}: after five steps back and on it shows {shown(page)!r}")
@@ -292,7 +269,7 @@ def excluded(page):
             if isinstance(it, tuple):
                 leaves(page, it[0], it[1], "One controller" if it[0] == "break-send" else premise, None)
             else:
-                does(page, it)
+                click(page, f"[data-do={it}]")
         said = f"{text(page, 'verdict-text')} {text(page, 'verdict-why')}"
         must((premise or "Damage shows") in said, f"{name}: the premise isn't named: {said!r}")
         if name in ("break-send", "break-answer", "stray-ack", "break-alter-up"):
@@ -302,7 +279,7 @@ def excluded(page):
 def leaves(page, name, digits, premise, before):
     """Does what is excluded, by its button; before, the page names the premise, and nothing happens if it is left."""
     for answer in ("no", "yes") if before is not None else ("yes",):
-        does(page, name)
+        click(page, f"[data-do={name}]")
         must(page.find_element(By.ID, "ask").is_displayed(), f"{name}: nothing is asked")
         if digits:
             box = page.find_element(By.ID, "ask-bytes")
@@ -331,16 +308,8 @@ def dice(page, count):
         if text(page, "phase").startswith("has ended"):
             break
         must("holds" in text(page, "verdict-text"), text(page, "verdict-text"))
-        threading.Event().wait(0.1)
+        time.sleep(0.1)
     must(text(page, "place") != "event 32", "the dice don't roll")
-
-
-def comes(holds, why):
-    """Waits for what the page does next."""
-    end = time.monotonic() + 10
-    while not holds():
-        must(time.monotonic() < end, why())
-        time.sleep(0.05)
 
 
 def hand(page):
@@ -394,23 +363,6 @@ def hand(page):
     must(text(page, "done").endswith("lose-down\n") and there.endswith("timeout\n"), "two pages share something")
 
 
-CONTRAST = """
-const lit = c => { const [r, g, b] = c.match(/[\\d.]+/g).map(Number).map(x => x / 255).map(x => x <= .03928 ? x / 12.92 : ((x + .055) / 1.055) ** 2.4); return .2126 * r + .7152 * g + .0722 * b; };
-const ground = e => { for (; e; e = e.parentElement) { const c = getComputedStyle(e).backgroundColor; if (!/, 0\\)$/.test(c)) return c; } return 'rgb(255, 255, 255)'; };
-let worst = [99, ''];
-for (const e of document.querySelectorAll('body *')) {
-  if (!e.innerText || !e.checkVisibility() || e.disabled || ['SCRIPT', 'OPTION'].includes(e.tagName) || [...e.childNodes].every(n => n.nodeType !== 3 || !n.data.trim())) continue;
-  const [a, b] = [lit(getComputedStyle(e).color), lit(ground(e))].sort((x, y) => y - x);
-  const ratio = (a + .05) / (b + .05);
-  if (ratio < worst[0]) worst = [ratio, e.outerHTML];
-}
-return worst;
-"""
-NAMELESS = """
-const labelled = e => e.labels?.length || e.getAttribute('aria-label') || (e.getAttribute('aria-labelledby') && document.getElementById(e.getAttribute('aria-labelledby')).textContent) || (e.tagName === 'BUTTON' && e.textContent);
-return [...document.querySelectorAll('section, nav, [role=region], [role=group], [tabindex], button, input, select, textarea, dialog')].filter(e => !labelled(e)).map(e => e.outerHTML)
-  .concat(document.documentElement.lang ? [] : ['no language'], document.title ? [] : ['no title']);
-"""
 SIZES = {"wide": (1400, 1000, 1, False), "projector": (1920, 1080, 1, False), "narrow": (360, 740, 2, True)}
 
 
@@ -424,14 +376,12 @@ def read(page, folder=None):
                 if "lost" not in words:
                     steps_to_the_end(page)
                 must(not page.execute_script("return document.documentElement.scrollWidth > innerWidth"), f"{name}: it is wider than the screen")
-                ratio, where = page.execute_script(CONTRAST)
-                must(ratio >= 4.5, f"{mode} {name} {words}: a contrast of {ratio:.1f}: {where}")
+                has_contrast(page, f"{mode} {name} {words}")
                 if folder:
                     page.save_screenshot(os.path.join(folder, f"{name}-{mode}-{words.split('=')[1]}.png"))
         must(page.execute_script("return document.getAnimations().length") == 0, "it moves though less motion is asked for")
     page.execute_cdp_cmd("Emulation.clearDeviceMetricsOverride", {})
-    nameless = page.execute_script(NAMELESS)
-    must(not nameless, f"no name: {nameless}")
+    has_names(page)
     asked = page.execute_script("return performance.getEntriesByType('resource').map(e => e.name).filter(e => !e.startsWith('data:'))")
     must(not asked, f"it asks for {asked}")
     told = [it["message"] for it in page.get_log("browser")]
@@ -442,7 +392,7 @@ def read(page, folder=None):
     opens(page, "recorded")
     must("no 64-bit memories" in text(page, "no-memories") and not page.find_element(By.CSS_SELECTOR, "[data-do=down]").is_enabled(), "a recorded run can be changed")
     while page.find_element(By.ID, "forward").is_enabled():
-        click(page, "forward")
+        click(page, "#forward")
     must("holds: 1 aired, 1 reported" in text(page, "verdict-text"), f"the recorded run ends with {text(page, 'verdict-text')!r}")
 
 
@@ -556,7 +506,8 @@ def library(page):
 
 
 what, *words = sys.argv[1:]
-opened = browser()
+opened = browser(1400, 1000)
+opened.set_script_timeout(200)
 try:
     {"library": library, "scripts": scripts, "late": late, "random": random_scripts, "refused": refused, "excluded": excluded, "dice": dice, "hand": hand, "read": read, "record": record}[what](opened, *words)
 finally:

@@ -12,19 +12,14 @@ import subprocess
 import sys
 import time
 
-from selenium import webdriver
 from selenium.webdriver.common.by import By
 from selenium.webdriver.common.keys import Keys
 
+sys.dont_write_bytecode = True
+from browsing import browser, comes, has_contrast, has_names, must  # noqa: E402
+
 WHOSE, URL, *WORDS = [word for word in sys.argv[1:] if not word.startswith("--picture=")]
 PICTURES = [word.split("=", 1)[1] for word in sys.argv[3:] if word.startswith("--picture=")]
-
-
-def browser():
-    options = webdriver.ChromeOptions()
-    for word in ("--headless=new", "--no-sandbox", "--disable-gpu", "--disable-dev-shm-usage", "--window-size=1200,800"):
-        options.add_argument(word)
-    return webdriver.Chrome(options=options)
 
 
 def text(page, name):
@@ -37,46 +32,20 @@ def types(page, key):
 
 def awaits(page, what, seconds=15, **wanted):
     """Waits until each part of this name has this text, or one of which this is true."""
-    end = time.monotonic() + seconds
-    while not all(it(text(page, name.replace("_", "-"))) if callable(it) else text(page, name.replace("_", "-")) == it for name, it in wanted.items()):
-        if time.monotonic() > end:
-            sys.exit(f"the page doesn't show {what}: {page.find_element(By.TAG_NAME, 'body').text!r}")
-        time.sleep(0.05)
 
+    def is_shown(name, it):
+        shown = text(page, name.replace("_", "-"))
+        return it(shown) if callable(it) else shown == it
 
-def must(holds, fault):
-    if not holds:
-        sys.exit(fault)
-
-
-CONTRAST = """
-const lit = c => { const [r, g, b] = c.match(/[\\d.]+/g).map(Number).map(x => x / 255).map(x => x <= .03928 ? x / 12.92 : ((x + .055) / 1.055) ** 2.4); return .2126 * r + .7152 * g + .0722 * b; };
-const ground = e => { for (; e; e = e.parentElement) { const c = getComputedStyle(e).backgroundColor; if (!/, 0\\)$/.test(c)) return c; } return 'rgb(255, 255, 255)'; };
-let worst = [99, ''];
-for (const e of document.querySelectorAll('body *')) {
-  if (!e.innerText || e.tagName === 'SCRIPT' || [...e.childNodes].every(n => n.nodeType !== 3 || !n.data.trim())) continue;
-  const [a, b] = [lit(getComputedStyle(e).color), lit(ground(e))].sort((x, y) => y - x);
-  const ratio = (a + .05) / (b + .05);
-  if (ratio < worst[0]) worst = [ratio, e.outerHTML];
-}
-return worst;
-"""
-
-NAMELESS = """
-return [...document.querySelectorAll('section, [role=region], [tabindex]')].filter(e => {
-  const by = e.getAttribute('aria-labelledby'); return !(e.getAttribute('aria-label') || by && document.getElementById(by).innerText);
-}).map(e => e.outerHTML).concat(document.documentElement.lang ? [] : ['no language'], document.title ? [] : ['no title']);
-"""
+    comes(lambda: all(is_shown(*it) for it in wanted.items()), lambda: f"the page doesn't show {what}: {page.find_element(By.TAG_NAME, 'body').text!r}", seconds)
 
 
 def can_be_read(page):
     """In dark and in light, by its names, by the keyboard, and on a telephone."""
     for mode in ("dark", "light"):
         page.execute_cdp_cmd("Emulation.setEmulatedMedia", {"features": [{"name": "prefers-color-scheme", "value": mode}]})
-        ratio, where = page.execute_script(CONTRAST)
-        must(ratio >= 4.5, f"{mode}: a contrast of {ratio:.1f}: {where}")
-    nameless = page.execute_script(NAMELESS)
-    must(not nameless, f"no name: {nameless}")
+        has_contrast(page, mode)
+    has_names(page)
     # (behind the buttons, if there are some)
     reached = []
     while "scroll" not in reached and len(reached) < 3:
@@ -193,10 +162,7 @@ return box.top <= row.top && row.bottom <= box.bottom;""")
 
 
 def follows(page, what):
-    end = time.monotonic() + 15
-    while not row_is_seen(page):
-        must(time.monotonic() < end, f"the list doesn't follow {what}")
-        time.sleep(0.1)
+    comes(lambda: row_is_seen(page), lambda: f"the list doesn't follow {what}", 15)
 
 
 def follow_list(page):
@@ -245,7 +211,7 @@ def lost(page):
     must(class_of(page, "health") == "gone", "that isn't told in red")
 
 
-opened = browser()
+opened = browser(1200, 800)
 try:
     {"port": port, "run": run, "list": follow_list, "start": start, "before": before, "resumed": resumed, "lost": lost}[WHOSE](opened)
 finally:

@@ -2,6 +2,7 @@
 """What stands in place of a server or of a run, or between both: peer.py WHAT WORD.. What listens prints 'listening ADDR' first; bytes are
 in hexadecimal digits."""
 import contextlib
+import csv
 import random
 import select
 import socket
@@ -166,6 +167,27 @@ def full():
     time.sleep(60)
 
 
+def replays(address, how):
+    """Sends a server what the journal on standard input says was sent, so that it is where it was then. A command whose answer the journal has is sent
+    again until the server gives that: it says how far a clip has come. The last one, if it has no answer yet, is sent only if HOW is 'sent'."""
+    text, line = sys.stdin.read(), connected(address)
+    rows = [(row[1], bytes.fromhex(row[3])) for row in csv.reader(text[: text.rfind("\n") + 1].splitlines()) if row[1] in ("sent", "heard", "silence")]
+    line.settimeout(1)
+    for (word, command), answer in zip(rows, [*rows[1:], None]):
+        if word != "sent" or answer is None and how != "sent":
+            continue
+        for _ in range(200):
+            line.sendall(command)
+            heard = line.recv(512)
+            if answer is None or answer[0] != "heard" or heard == answer[1]:
+                break
+            time.sleep(0.02)
+        else:
+            sys.exit(f"{heard.hex()} for {answer[1].hex()}")
+
+
 if __name__ == "__main__":
+    if sys.argv[1] == "replays":
+        sys.exit(replays(*sys.argv[2:]))
     with contextlib.suppress(OSError):
         {"server": server, "client": client, "between": Between, "shuts": shuts, "full": full}[sys.argv[1]](*sys.argv[2:])
