@@ -1,10 +1,11 @@
-/* What the library for C costs: the reader beside one by hand, in ns a byte, and an exchange of the port and of the controller in ns. Each is
- * the least of ROUNDS runs: c_bench [ROUNDS [ROW]], for a count of instructions by a tool. The answers of both readers are compared; the status is 1 if they differ. */
+/* What the library for C costs, in ns: the reader a byte, the port an answer, and the controller an exchange. Each is the least of ROUNDS
+ * runs: c_bench [ROUNDS [ROW]], for a count of instructions by a tool. The status is 1 if a call didn't do what it should. */
 #define _POSIX_C_SOURCE 200809L
-#include "hand_reader.c"
 #include <stdio.h>
 #include <stdlib.h>
+#include <string.h>
 #include <time.h>
+#include "vdcp.h"
 
 static double now(void) {
     struct timespec t;
@@ -51,35 +52,23 @@ static size_t make(int largest) {
     return n;
 }
 
-static uint64_t told(uint64_t sum, int32_t code, size_t taken, const vdcp_message *m) {
-    sum = sum * 1099511628211u + (uint64_t)code * 7 + taken;
-    if (code > VDCP_MESSAGE) return sum + m->count;
-    if (code == VDCP_MESSAGE && m->kind == VDCP_FRAMED) sum += m->code * 3u + m->count + (m->count ? m->data[m->count - 1] : 0u);
-    return sum;
-}
-
-#define READ(NAME, READER, FEED, SILENCE)                                                              \
-    static uint64_t NAME##_sum;                                                                        \
-    static double NAME(size_t most) {                                                                  \
-        static READER r;                                                                               \
-        static vdcp_message m;                                                                         \
-        size_t at = 0, taken = 0;                                                                      \
-        double begun = now();                                                                          \
-        for (size_t b = 0; b < bursts; b++) {                                                          \
-            while (at < ends[b]) {                                                                     \
-                size_t n = ends[b] - at < most ? ends[b] - at : most;                                  \
-                const uint8_t *p = bytes + at;                                                         \
-                for (at += n; n; p += taken, n -= taken) {                                             \
-                    int32_t code = FEED(&r, p, n, &taken, &m);                                         \
-                    NAME##_sum = told(NAME##_sum, code, taken, &m);                                    \
-                }                                                                                      \
-            }                                                                                          \
-            NAME##_sum = NAME##_sum * 31 + (uint64_t)SILENCE(&r);                                      \
-        }                                                                                              \
-        return now() - begun;                                                                          \
+/* Reads all bursts, in pieces of so many bytes at most. */
+static double reading(size_t most) {
+    static vdcp_reader reader;
+    static vdcp_message message;
+    size_t at = 0, taken = 0;
+    double begun = now();
+    for (size_t b = 0; b < bursts; b++) {
+        while (at < ends[b]) {
+            size_t n = ends[b] - at < most ? ends[b] - at : most;
+            const uint8_t *p = bytes + at;
+            for (at += n; n; p += taken, n -= taken)
+                if (vdcp_reader_feed(&reader, p, n, &taken, &message) == VDCP_NULL) return -1;
+        }
+        if (vdcp_reader_silence(&reader) == VDCP_NULL) return -1;
     }
-READ(proved, vdcp_reader, vdcp_reader_feed, vdcp_reader_silence)
-READ(by_hand, hand_reader, hand_feed, hand_silence)
+    return now() - begun;
+}
 
 static vdcp_clip clips[10000];
 static vdcp_item list[1];
@@ -122,24 +111,29 @@ static double turns_of_controller(unsigned turns) {
     return code || command.word != VDCP_STATUS ? -1 : (now() - begun) / turns;
 }
 
+/* The least of so many runs, each of the call with this number; negative if one went wrong. */
+#define LEAST(rounds, call)                                     \
+    do {                                                        \
+        double t;                                               \
+        least = 1e300;                                          \
+        for (int k = 0; k < rounds; k++)                        \
+            if ((t = call) < least) least = t;                  \
+        failed |= least < 0;                                    \
+    } while (0)
+
 int main(int argc, char **argv) {
     static const struct { const char *name; int largest; size_t most; } rows[] = {
         {"mixed bursts", 0, 1 << 20}, {"largest messages", 1, 1 << 20}, {"mixed, by sevens", 0, 7}, {"mixed, byte by byte", 0, 1},
     };
-    int rounds = argc > 1 ? atoi(argv[1]) : 20, differ = 0;
+    int rounds = argc > 1 ? atoi(argv[1]) : 20, failed = 0;
+    double least;
     for (size_t i = 0; i < sizeof rows / sizeof *rows; i++) {
         if (argc > 2 && strcmp(argv[2], rows[i].name)) continue;
         size_t n = make(rows[i].largest);
-        double p = 1e300, h = 1e300, t;
-        proved_sum = by_hand_sum = 0;
-        for (int k = 0; k < rounds; k++) {
-            p = (t = proved(rows[i].most)) < p ? t : p;
-            h = (t = by_hand(rows[i].most)) < h ? t : h;
-        }
-        differ |= proved_sum != by_hand_sum;
-        printf("| %s | %.2f | %.2f | %.2f |\n", rows[i].name, p / (double)n, h / (double)n, p / h);
+        LEAST(rounds, reading(rows[i].most));
+        printf("| %s | %.2f |\n", rows[i].name, least / (double)n);
     }
-    if (argc > 2) return differ;
+    if (argc > 2) return failed;
     for (size_t k = 0; k < 10000; k++) {
         char id[9];
         snprintf(id, sizeof id, "CLIP%04u", (unsigned)k);
@@ -148,13 +142,10 @@ int main(int argc, char **argv) {
     }
     memcpy(list[0].id, "CLIP0001", 8);
     for (size_t count = 10; count <= 10000; count *= 10) {
-        double least = 1e300, t;
-        for (int k = 0; k < rounds; k++) least = (t = exchanges(count, count > 1000 ? 200 : 2000)) < least ? t : least;
-        printf("| port, %zu clips, an answer | %.0f | | |\n", count, least);
-        differ |= least < 0;
+        LEAST(rounds, exchanges(count, count > 1000 ? 200 : 2000));
+        printf("| port, %zu clips, an answer | %.0f |\n", count, least);
     }
-    double least = 1e300, t;
-    for (int k = 0; k < rounds; k++) least = (t = turns_of_controller(20000)) < least ? t : least;
-    printf("| controller, an exchange | %.0f | | |\n", least);
-    return differ || least < 0;
+    LEAST(rounds, turns_of_controller(20000));
+    printf("| controller, an exchange | %.0f |\n", least);
+    return failed;
 }
