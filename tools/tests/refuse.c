@@ -1,15 +1,18 @@
-// Preloaded into a program, refuses what it asks of the system, and tells of each refusal on descriptor 9. With
+// Preloaded into a program, refuses what it asks of the system, and tells of each refusal on descriptor 9; or watches or kills it. With
 // REFUSED_GROWTHS=N it refuses the growth of memory of this number, counted from 1, with N- also all after it, and tells '!'. With
 // REFUSED_WRITE=N it refuses the write to standard output of this number, as a pipe does that is full, and tells '!'; each later one is
 // let through, as by a pipe that was drained, and it tells '+'. With REFUSED_LOCKS it refuses each lock of a file, as a file system does that has
 // none. With REFUSED_TEXT=TEXT it refuses each write to a file that has this text, as a disk does that is full, and each renaming to a
 // name that ends so, and tells 'refused'. With REFUSED_CONNECTIONS it takes no connection. With WATCHED it tells, in a line each and in their order, which files are written to, made
 // safe and renamed, and when something is sent: 'write FILE', 'sync FILE', 'rename FILE TO', without folders, and 'send TYPE', with a
-// message's type and command, in hexadecimal digits. With SLOW_SYNCS=N each sync of data takes so many milliseconds more.
+// message's type and command, in hexadecimal digits. With SLOW_SYNCS=N each sync of data takes so many milliseconds more. With KILL_AT=N it
+// kills the program at the act of this number: what it writes, makes safe, cuts off, sends or receives, and its connecting; KILL_HOW is 'before'
+// the act, 'after' it, or 'torn': half of what was to be written or sent is.
 #define _GNU_SOURCE
 #include <dlfcn.h>
 #include <errno.h>
 #include <limits.h>
+#include <signal.h>
 #include <stdio.h>
 #include <stdlib.h>
 #include <string.h>
@@ -19,6 +22,31 @@
 
 #define NEXT(name) ((__typeof__(name) *)dlsym(RTLD_NEXT, #name))
 #define TELL(...) (getenv("WATCHED") ? dprintf(9, __VA_ARGS__) : 0)
+
+static void die(void) {
+    kill(getpid(), SIGKILL);
+    for (;;) pause();
+}
+
+static int is_killed(const char *how) { return getenv("KILL_HOW") && !strcmp(getenv("KILL_HOW"), how); }
+
+// Whether the program is killed after this act; it ends here if before it.
+static int is_last(void) {
+    static long acts;
+    const char *at = getenv("KILL_AT");
+    if (!at || ++acts != atol(at)) return 0;
+    if (is_killed("before")) die();
+    return 1;
+}
+
+#define ACT(type, call, ...) \
+    do { \
+        int last = is_last(); \
+        type result = NEXT(call)(__VA_ARGS__); \
+        if (last) die(); \
+        return result; \
+    } while (0)
+#define SOME(count) (last && is_killed("torn") ? (count + 1) / 2 : count)
 
 // Whether it's the turn of what is counted: 0 before, 1 if it is to be refused, 2 afterwards.
 static int turn_of(const char *variable, long *count) {
@@ -70,15 +98,21 @@ ssize_t write(int file, const void *bytes, size_t count) {
     if (*path == '/' && text && memmem(bytes, count, text, strlen(text))) return refused(ENOSPC, "refused\n");
     if (*path == '/') TELL("write %s\n", last_part(path));
     if (!strncmp(path, "socket:", 7)) tell_of_sending(bytes, count);
-    return NEXT(write)(file, bytes, count);
+    ACT(ssize_t, write, file, bytes, SOME(count));
 }
 
 ssize_t __write(int file, const void *bytes, size_t count) { return write(file, bytes, count); }
 
 ssize_t send(int socket, const void *bytes, size_t count, int flags) {
     tell_of_sending(bytes, count);
-    return NEXT(send)(socket, bytes, count, flags);
+    ACT(ssize_t, send, socket, bytes, SOME(count), flags);
 }
+
+ssize_t recv(int socket, void *bytes, size_t count, int flags) { ACT(ssize_t, recv, socket, bytes, count, flags); }
+
+int connect(int socket, const struct sockaddr *to, socklen_t length) { ACT(int, connect, socket, to, length); }
+
+int ftruncate(int file, off_t size) { ACT(int, ftruncate, file, size); }
 
 ssize_t sendto(int socket, const void *bytes, size_t count, int flags, const struct sockaddr *to, socklen_t length) {
     tell_of_sending(bytes, count);
@@ -87,14 +121,14 @@ ssize_t sendto(int socket, const void *bytes, size_t count, int flags, const str
 
 int fsync(int file) {
     TELL("sync %s\n", last_part(open_at(file)));
-    return NEXT(fsync)(file);
+    ACT(int, fsync, file);
 }
 
 int fdatasync(int file) {
     const char *slow = getenv("SLOW_SYNCS");
     TELL("sync %s\n", last_part(open_at(file)));
     if (slow) usleep(1000 * atoi(slow));
-    return NEXT(fdatasync)(file);
+    ACT(int, fdatasync, file);
 }
 
 int rename(const char *file, const char *to) {
