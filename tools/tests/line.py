@@ -36,7 +36,7 @@ def opens(page, words=""):
     else:
         page.get("about:blank")
         page.get(PAGE + ("#" + words if words else ""))
-    must(page.find_elements(By.CSS_SELECTOR, "#asrun li"), f"the page doesn't begin: {page.get_log('browser')}")
+    comes(lambda: page.find_elements(By.CSS_SELECTOR, "#asrun li"), lambda: f"the page doesn't begin: {page.get_log('browser')}")
 
 
 def text(page, name):
@@ -289,8 +289,9 @@ def leaves(page, name, digits, premise, before):
         must("This leaves a premise" in said and (premise or "Damage shows") in said, f"{name}: {said!r}")
         page.find_element(By.CSS_SELECTOR, f"#ask button[value={answer}]").click()
         comes(lambda: not page.find_element(By.ID, "ask").is_displayed(), lambda: f"{name}: it is asked on")
+        # (a browser tells a page some time later how what it asked was closed)
+        page.execute_async_script("setTimeout(arguments[0], 100)")
         must(answer == "yes" or text(page, "done") == before, f"{name}: something happened though it was left")
-    # (a browser tells a page some time later how what it asked was closed)
     comes(lambda: "left" in text(page, "verdict-why") or "broken" in text(page, "verdict-text"), lambda: f"{name}: {text(page, 'verdict-why')!r}")
 
 
