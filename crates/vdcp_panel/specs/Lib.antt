@@ -3,4 +3,6 @@ pub mod Asked
 pub mod Wishes
 pub mod Answered
 pub mod Turned
+pub mod Lasting
 pub mod Seen
+pub mod Looks

@@ -1,8 +1,10 @@
 //! How a panel is opened at the address that a text writes.
 ghost use Rattle.std.specs.Net.Addr.{IsLoopbackV4};
-ghost use Rattle.std.specs.Prelude.{IfSome};
+ghost use Rattle.std.specs.Io.KnownBytes.{Appends};
+ghost use Rattle.std.specs.Prelude.{IfOk, IfSome, OnOk};
+ghost use Rattle.vdcp_panel.specs.Looks.{panel_line};
 
-use crate::panel::Panel;
+use crate::panel::{Names, Panel};
 use std::io;
 use std::net::{Net, SocketAddrV4};
 use std::random::RandomSource;
@@ -18,24 +20,30 @@ pub fn open_panel<R: Net + AllocGlobal + RandomSource + Clock, E: io::Write>(
     text: &str,
     takes_calls: bool,
     err: &mut E,
-) -> Result<Panel, u8> {
+) -> Result<Panel, u8>
+    ensures { IfOk result (λ panel. Appends (E.contents err.old) (E.contents err.new) (panel_line takes_calls panel.names)) }
+{
     let Some(address) = loopback_address(text) else {
         return Err(told(writeln!(err, "vdcp: panel address"), 2));
     };
     let Ok(panel) = Panel::bind(rt, address) else {
         return Err(told(writeln!(err, "vdcp: panel: cannot bind"), 3));
     };
-    let address = panel.names.address.as_str();
-    let line = if takes_calls {
-        let token = panel.names.token.as_str();
-        writeln!(err, "panel http://{address}/#{token}")
-    } else {
-        writeln!(err, "panel http://{address}/")
-    };
-    match line {
+    match tell_where(&panel.names, takes_calls, err) {
         Ok(()) => Ok(panel),
         Err(_) => Err(3),
     }
+}
+
+fn tell_where<E: io::Write>(names: &Names, takes_calls: bool, err: &mut E) -> io::Result<()>
+    ensures { OnOk result (Appends (E.contents err.old) (E.contents err.new) (panel_line takes_calls names.now)) }
+{
+    let address = names.address.as_str();
+    if takes_calls {
+        let token = names.token.as_str();
+        return writeln!(err, "panel http://{address}/#{token}");
+    }
+    writeln!(err, "panel http://{address}/")
 }
 
 fn told(line: io::Result<()>, status: u8) -> u8 {

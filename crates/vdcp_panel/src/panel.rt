@@ -1,6 +1,9 @@
 //! The panel: it listens, and serves those that ask, without waiting.
 ghost use Rattle.hex.specs.Hex.{encode_lower};
-ghost use Rattle.std.specs.Prelude.{◌≡◌, IfOk, length, string_bytes};
+ghost use Rattle.std.specs.Prelude.{◌≡◌, ◌/◌, ◌<◌, ◌≤◌, false, IfOk, length, string_bytes};
+ghost use Rattle.std.specs.Bool.{OnFalse};
+ghost use Rattle.std.specs.declared.net.SocketAddr.{SocketAddr};
+ghost use Rattle.vdcp_panel.specs.Looks.{AreNamesOf, IsReady, Looks, rested_after};
 ghost use Rattle.vdcp_panel.specs.Seen.{IsGateOf, ServesSome};
 
 use crate::call::Calls;
@@ -38,7 +41,9 @@ pub struct Panel {
     // Whether the last call did something: then there may be more to do.
     is_busy: bool,
     began: Instant,
-    // Nothing is done before `next`, in nanoseconds since `began`; something is to be done at `due`, in milliseconds.
+    // What the clock showed last, in nanoseconds since `began`; nothing is done before `next`; something is to be done at
+    // `due`, in milliseconds.
+    now: u64,
     next: u64,
     due: u64,
 }
@@ -60,6 +65,8 @@ impl Panel {
         address: SocketAddrV4,
     ) -> io::Result<Panel>
         ensures token { IfOk result (λ panel. length (string_bytes panel.names.token) ≡ 32) }
+        ensures names { IfOk result (λ panel. (bound : SocketAddr) × AreNamesOf bound panel.names) }
+        ensures ready { IfOk result IsReady }
     {
         let began = Instant::now(rt)?;
         let peers = Peers::new(rt.alloc(), RandomState::new(rt)?)?;
@@ -75,6 +82,7 @@ impl Panel {
             names,
             is_busy: true,
             began,
+            now: 0,
             next: 0,
             due: u64::MAX,
         })
@@ -82,11 +90,12 @@ impl Panel {
 
     /// Shows a view as far as that can be done without waiting: takes up to 256 connections, and of each makes a write, a
     /// read, an answer and a write. `calls` gains those that were asked for. Afterwards nothing is done for nineteen times as
-    /// long as this took. (With a clock that can't be read, no time passes.)
+    /// long as this took. (While the clock can't be read, no time passes.)
     pub fn serve_some<R: Clock, V: View>(&mut self, clock: &R, view: &V, calls: &mut Calls)
-        ensures { ServesSome V.page_bytes V.state_bytes V.about self.old.names view.now calls.old.items calls.new.items }
+        ensures serves { ServesSome V.page_bytes V.state_bytes V.about self.old.names view.now calls.old.items calls.new.items }
+        ensures looks { Looks self.old self.new }
     {
-        let began = self.nanoseconds(clock);
+        let began = self.read_clock(clock);
         let now = began / 1_000_000;
         if began < self.next || !self.has_work(now) {
             return;
@@ -97,29 +106,34 @@ impl Panel {
         self.peers.turn_each(&mut desk, now);
         *calls = desk.calls;
         self.peers.drop_gone();
-        self.is_busy = took || self.peers.are_busy();
+        self.is_busy = took | self.peers.are_busy();
         self.due = self.peers.due();
-        let ended = self.nanoseconds(clock);
-        self.next = ended.saturating_add(ended.saturating_sub(began).saturating_mul(REST));
+        let ended = self.read_clock(clock);
+        self.next = rested_after(began, ended);
     }
 
-    // Since it was bound.
-    fn nanoseconds<R: Clock>(&self, clock: &R) -> u64 {
-        match self.began.elapsed(clock) {
-            Ok(time) => u64::try_from(time.as_nanos()).unwrap_or(u64::MAX),
-            Err(_) => 0,
+    fn read_clock<R: Clock>(&mut self, clock: &R) -> u64
+        ensures now { result ≡ self.new.now }
+        ensures later { self.old.now ≤ self.new.now }
+        ensures rest { self.new ≡ record self.old { now = self.new.now } }
+    {
+        if let Ok(time) = self.began.elapsed(clock) {
+            let nanoseconds = u64::try_from(time.as_nanos()).unwrap_or(u64::MAX);
+            self.now = self.now.max(nanoseconds);
         }
+        self.now
     }
 
     fn has_work(&mut self, now: u64) -> bool
-        ensures { self.new.names ≡ self.old.names }
+        ensures none { OnFalse result ((self.old.is_busy ≡ false) × (now < self.old.due)) }
+        ensures rest { self.new ≡ record self.old { poll = self.new.poll; events = self.new.events } }
     {
         self.is_busy || self.due <= now || self.has_news()
     }
 
     // If the system can't say, something may have changed.
     fn has_news(&mut self) -> bool
-        ensures { self.new.names ≡ self.old.names }
+        ensures { self.new ≡ record self.old { poll = self.new.poll; events = self.new.events } }
     {
         match self.poll.poll(&mut self.events, Some(Duration::ZERO)) {
             Ok(()) => !self.events.is_empty(),
@@ -128,7 +142,7 @@ impl Panel {
     }
 
     fn take_some(&mut self, now: u64) -> bool
-        ensures { self.new.names ≡ self.old.names }
+        ensures { self.new ≡ record self.old { poll = self.new.poll; peers = self.new.peers } }
     {
         let mut took = false;
         'news: for _ in 0..MOST_NEW {
@@ -143,7 +157,7 @@ impl Panel {
 
     // A connection that the system refuses to watch is dropped.
     fn take(&mut self, stream: TcpStream, now: u64)
-        ensures { self.new.names ≡ self.old.names }
+        ensures { self.new ≡ record self.old { poll = self.new.poll; peers = self.new.peers } }
     {
         let mut stream = stream;
         let interest = Interest::READABLE | Interest::WRITABLE;
@@ -153,6 +167,12 @@ impl Panel {
             self.peers.add(stream, now);
         }
     }
+}
+
+fn rested_after(began: u64, ended: u64) -> u64
+    ensures { result ≡ rested_after began ended }
+{
+    ended.saturating_add(ended.saturating_sub(began).saturating_mul(REST))
 }
 
 fn listen_at<R: Net>(rt: &R, address: SocketAddrV4) -> io::Result<(TcpListener, Poll)> {
@@ -166,6 +186,7 @@ fn listen_at<R: Net>(rt: &R, address: SocketAddrV4) -> io::Result<(TcpListener, 
 impl Names {
     fn new<R: AllocGlobal + RandomSource>(rt: &R, address: SocketAddr) -> io::Result<Names>
         ensures token { IfOk result (λ names. length (string_bytes names.token) ≡ 32) }
+        ensures texts { IfOk result (AreNamesOf address) }
     {
         let alloc = rt.alloc();
         let port = address.port();

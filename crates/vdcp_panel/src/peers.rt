@@ -1,5 +1,6 @@
 //! The connections of a panel, which take turns.
-ghost use Rattle.std.specs.Prelude.{◌≡◌, ◌⊎◌, ◌<◌, [], IfOk, IfSome, None, Some, length};
+ghost use Rattle.std.specs.Prelude.{◌≡◌, ◌⊎◌, ◌<◌, ◌≤◌, [], IfOk, IfSome, None, Some, filter, length, not};
+ghost use Rattle.vdcp_panel.specs.Lasting.{are_busy, first_due, is_gone};
 ghost use Rattle.vdcp_panel.specs.Seen.{AnswersAtDesk};
 ghost use Rattle.vdcp_panel.specs.Turned.{HaveTurned, IsKnownAt, IsNoneBefore, known_of};
 
@@ -88,31 +89,48 @@ impl<T: Read + Write + Drop> Peers<T> {
         }
     }
 
-    pub fn drop_gone(&mut self) {
+    pub fn drop_gone(&mut self)
+        ensures { self.new.peers.items ≡ filter (λ peer. not (is_gone peer)) self.old.peers.items }
+    {
         self.peers.retain(|peer| !peer.is_gone());
     }
 
-    pub fn are_busy(&self) -> bool {
-        let mut are_busy = false;
-        for place in 0..self.peers.len() {
-            are_busy |= self.peers[place].is_busy();
-        }
-        are_busy
+    pub fn are_busy(&self) -> bool
+        ensures { result ≡ are_busy self.now.peers.items }
+    {
+        are_busy(self.peers.as_slice())
     }
 
     /// When the next one is given up, unless an answer is made before; the end of time if there is none.
-    pub fn due(&self) -> u64 {
-        let mut due = u64::MAX;
-        for place in 0..self.peers.len() {
-            due = due.min(self.peers[place].due());
-        }
-        due
+    pub fn due(&self) -> u64
+        ensures { result ≡ first_due self.now.peers.items }
+    {
+        first_due(self.peers.as_slice())
+    }
+}
+
+fn are_busy<T: Read + Write>(peers: &[Peer<T>]) -> bool
+    ensures { result ≡ are_busy peers.now }
+{
+    match peers {
+        [] => false,
+        [first, rest @ ..] => first.is_busy() || are_busy(rest),
+    }
+}
+
+fn first_due<T: Read + Write>(peers: &[Peer<T>]) -> u64
+    ensures { result ≡ first_due peers.now }
+{
+    match peers {
+        [] => u64::MAX,
+        [first, rest @ ..] => first.due().min(first_due(rest)),
     }
 }
 
 // Each place comes with the time at which bytes moved there last: the earlier one wins.
 fn idler(found: Option<(usize, u64)>, other: (usize, u64)) -> (usize, u64)
-    ensures { (result ≡ other) ⊎ (found ≡ Some result) }
+    ensures one { (result ≡ other) ⊎ (found ≡ Some result) }
+    ensures idler { (result.1 ≤ other.1) × IfSome found (λ found. result.1 ≤ found.1) }
 {
     match found {
         Some(found) if found.1 <= other.1 => found,

@@ -12,4 +12,4 @@ returns g c =
     c.follow-event.new.self.panel.names c.args.self.now.calls.items c.follow-event.new.self.calls.items
     c.serve_some.new.calls.items _ c.follow-event.new.self.rows.items c.follow-event.ensures.names
     c.follow-event.ensures.clips c.snapshot.ensures.seen from c.follow-event.ensures.event c.as_slice.ensures.value
-    c.follow-event.ensures.rows c.follow-event.ensures.records panel calls c.serve_some.ensures
+    c.follow-event.ensures.rows c.follow-event.ensures.records panel calls c.serve_some.ensures.serves

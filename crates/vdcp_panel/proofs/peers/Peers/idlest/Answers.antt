@@ -16,7 +16,7 @@ places-preserved g c =
         there =
             found_there peers c.args.is_known c.places.idlest c.if-peer-is_known.idlest w.idler.result
             (c.places.place, w.active.result) w.idlest-is i.there (p, within, c.index-peer.ensures, alike p.is_known c.args.is_known w.if-peer-is_known.true)
-            w.idler.ensures;
+            w.idler.ensures.one;
         none = λ e. let never : Some w.idler.result ≡ None = sym w.idlest-is ∙ e in cc never;
       }
       | else-peer-is_known w ↦ record {

@@ -17,7 +17,7 @@ turns-preserved g c =
           rw (add-one c.turns.k)
           (one_more answers c.args.desk.now c.turns.desk c.turn.new.desk olds nows c.turns.k
           c.index_mut.result.now c.turn.new.self (omega (arith, c.turns-test.true)) i.waits c.index_mut.ensures.value
-          i.turned c.turn.ensures);
+          i.turned c.turn.ensures.turned);
       waits = wait_still olds nows c.turns.k c.turn.new.self i.waits;
     }
 
