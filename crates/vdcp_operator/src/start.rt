@@ -74,12 +74,17 @@ fn time_of_day<R: Env + Files + AllocGlobal + Clone + Drop>(
     ensures { IfOk result (λ then. IsMeant text.now now then) }
 {
     match Time::from_str(text) {
-        Ok(time) if text.len() == 8 => {
+        Ok(time) if is_clock_time(text) => {
             let then = next_at(rt, now, time)?;
             Ok(then)
         }
         _ => Err(StartFault::NoTime),
     }
+}
+
+// (a time of day that is parsed may lack its seconds, have a zone behind, or a leap second)
+fn is_clock_time(text: &str) -> bool {
+    matches!(text.as_bytes(), [_, _, b':', _, _, b':', b'0'..=b'5', _])
 }
 
 fn next_at<R: Env + Files + AllocGlobal + Clone + Drop>(
