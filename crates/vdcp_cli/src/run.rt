@@ -197,6 +197,7 @@ fn run_settings_of<'a>(matches: &'a ArgMatches<'_>) -> RunSettings<'a>
         asrun: matches.get_str("asrun"),
         journal: journal_of(matches),
         stay: matches.get_flag("stay"),
+        skip: matches.get_flag("skip"),
     }
 }
 

@@ -149,7 +149,7 @@ tried_led {does} law settings plan from e world end turns below aired none (play
     asked_led law settings start e (with_command plan (ends_by plan unit now plays.runs.run.events)) ear' world.wire wire left
     (acts_in (steps_in plays.runs.run)) turns below aired refl none asked
     (side_of plan unit left (AreLed plan unit) (leads_on plan unit) now plays.ran plays.auto plays.runs.run) served c
-tried_led {does} law settings plan from e world end turns below aired none (unbegun ear' wire left line asked is) served c =
+tried_led {does} law settings plan from e world end turns below aired none (unbegun ear' wire left line asked is reports) served c =
     let unit : ℕ = settings.unit in
     let start : Start = record { plan = plan; from = from; state = e.automation.state } in
     let asker : Option Asker = asker_of settings.ask start in
@@ -167,7 +167,7 @@ pub tried_headline : {W F : Type 0} {does : Act → W → W → Type 0} {safe : 
     → EndsHeadline plan port.clips (state_tried tried) (log_now e ++ log_tried tried) (aired_now (record e { downs = downs }))
 tried_headline {does} law settings plan from port asked e world end downs start (played ear' wire left was plays) j =
     of_joined law plan port asked (ends_asked does (record settings { unit = port.state.unit }) e.automation.held ear' world.wire wire left None _ was e) left plays.ran plays.auto downs start plays.runs.run j
-tried_headline {does} law settings plan from port asked e world end downs start (unbegun ear' wire left line was is) j =
+tried_headline {does} law settings plan from port asked e world end downs start (unbegun ear' wire left line was is reports) j =
     subst (λ (l : List Exchange). EndsHeadline plan port.clips e.automation.state l (aired_now (record e { downs = downs })))
     (sym (append-nil (log_now e)))
     (headline.of_ends law plan port asked (record (ends_asked does (record settings { unit = port.state.unit }) e.automation.held ear' world.wire wire left

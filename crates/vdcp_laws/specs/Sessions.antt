@@ -53,7 +53,7 @@ abbrev pub acts_tried : {W F : Type 0} {does : Act → W → W → Type 0} {safe
     → HasTried does safe at_once settings start ear world end → List Act
 acts_tried {does} {settings} {start} {ear} {world} (played ear' wire left asked plays) =
     acts_asked does settings ear ear' world.wire wire left None (asker_of settings.ask start) asked ++ acts_in (steps_in plays.runs.run)
-acts_tried {does} {settings} {start} {ear} {world} (unbegun ear' wire left line asked is) =
+acts_tried {does} {settings} {start} {ear} {world} (unbegun ear' wire left line asked is reports) =
     acts_asked does settings ear ear' world.wire wire left (Some line) (asker_of settings.ask start) asked
 
 -- the list's controller is left so
@@ -61,7 +61,7 @@ abbrev pub state_tried : {W F : Type 0} {does : Act → W → W → Type 0} {saf
     {start : Start} {ear : Held} {world : World W (Option (Recording F))} {end : RunEnd}
     → HasTried does safe at_once settings start ear world end → State
 state_tried (played ear' wire left asked plays) = plays.auto.state
-state_tried {start} (unbegun ear' wire left line asked is) = start.state
+state_tried {start} (unbegun ear' wire left line asked is reports) = start.state
 
 -- and these of its exchanges ended
 abbrev pub log_tried : {W F : Type 0} {does : Act → W → W → Type 0} {safe : F → Option (List ℕ)} {settings : RunSettings}
@@ -69,7 +69,7 @@ abbrev pub log_tried : {W F : Type 0} {does : Act → W → W → Type 0} {safe 
     → HasTried does safe at_once settings start ear world end → List Exchange
 log_tried {settings} {start} (played ear' wire left asked plays) =
     log_of at_once start.plan settings.unit (record { ear = ear'; state = start.state }) plays.runs.run.events
-log_tried (unbegun ear' wire left line asked is) = []
+log_tried (unbegun ear' wire left line asked is reports) = []
 
 -- where this and these turns leave the ends
 abbrev pub ends_tried : {W F : Type 0} {does : Act → W → W → Type 0} {safe : F → Option (List ℕ)} {settings : RunSettings}
@@ -78,5 +78,5 @@ abbrev pub ends_tried : {W F : Type 0} {does : Act → W → W → Type 0} {safe
 ends_tried {does} {settings} {start} {ear} {world} (played ear' wire left asked plays) e downs =
     ends_at start.plan settings.unit
     (ends_asked does settings ear ear' world.wire wire left None (asker_of settings.ask start) asked e) plays.runs.run.events downs
-ends_tried {does} {settings} {start} {ear} {world} (unbegun ear' wire left line asked is) e downs =
+ends_tried {does} {settings} {start} {ear} {world} (unbegun ear' wire left line asked is reports) e downs =
     record (ends_asked does settings ear ear' world.wire wire left (Some line) (asker_of settings.ask start) asked e) { downs = downs }

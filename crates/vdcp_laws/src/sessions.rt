@@ -25,6 +25,7 @@ ghost use Rattle.vdcp_laws.specs.Servers.{IsServed};
 ghost use Rattle.vdcp_laws.specs.Sessions.{acts_asked, acts_tried, ends_asked, ends_tried, log_tried, state_tried};
 ghost use Rattle.vdcp_laws.specs.TwoEnds.{AreJoined, CanJoin, Ends, asked_first, bytes_in, log_now, new_ends};
 ghost use Rattle.vdcp_run.specs.Asking.{AreAsked, HasAsked, Start, asker_of, over};
+ghost use Rattle.vdcp_run.specs.Ends.{Reports};
 ghost use Rattle.vdcp_run.specs.Session.{HasTried, TriesOver};
 ghost use Rattle.vdcp_run.specs.declared.run_end.RunEnd.{RunEnd};
 ghost use Rattle.vdcp_run.specs.declared.settings.RunSettings.{RunSettings};
@@ -58,6 +59,11 @@ pub fn a_session_keeps_the_headline<C: Catalogue, A: Wire, D: Disk, B: Wire, H: 
         IsServed B.does H.can_act H.does e turns below aired →
         AreCarried plan port.state.unit e (acts_tried tried) below →
         AreJoined plan port asked (ends_tried tried e (e.downs ++ turns)) }
+    // What it reports is that of the headline.
+    ensures reported { (plan : Plan) (from : ℕ) (settings : RunSettings) (e : Ends) (wire : A) (recorder : Option (Recording D))
+        (end : RunEnd) → (tried : HasTried A.does D.safe at_once settings
+        (record { plan = plan; from = from; state = e.automation.state }) e.automation.held (over wire recorder) end) →
+        Reports from (state_tried tried) end }
     // Killed while it asked: of its questions a beginning went out, and nothing was kept.
     ensures asking { (plan : Plan) (from : ℕ) (port : ClockedPort) (asked questions : List Command) (e : Ends)
         (acts : List Act) (unsent : List ℕ) (turns : List Turn) (below : List Act) (aired : List Item) →

@@ -67,6 +67,7 @@ enum Argument {
     Resume,
     OpenAgain,
     Stay,
+    Skip,
 }
 
 const LIST: Argument = Argument::Required("LIST", "The playlist's file");
@@ -212,6 +213,7 @@ static RUN: Subcommand = Subcommand {
         Argument::OpenAgain,
         Argument::Number(&FROM),
         Argument::Stay,
+        Argument::Skip,
         Argument::Flag(
             "operator",
             "Reads calls from standard input, a line each: take, stop",
@@ -409,6 +411,7 @@ fn argument_of<'a>(alloc: Global, argument: &Argument) -> Result<Arg<'a>, AllocE
         Argument::Resume => resume(alloc),
         Argument::OpenAgain => open_again(alloc),
         Argument::Stay => stay(alloc),
+        Argument::Skip => skip(alloc),
     }
 }
 
@@ -465,6 +468,16 @@ fn stay<'a>(alloc: Global) -> Result<Arg<'a>, AllocError> {
         "With a journal, doesn't end because the line does: connects again, and goes on from there",
     )
     .requires_arg(KEPT)
+}
+
+fn skip<'a>(alloc: Global) -> Result<Arg<'a>, AllocError> {
+    flag(
+        alloc,
+        "skip",
+        "With --stay, leaves out an event whose clip the server doesn't have, or whose cue it refuses",
+    )
+    .requires_arg("stay")?
+    .conflicts_with("confirm")
 }
 
 fn open_again<'a>(alloc: Global) -> Result<Arg<'a>, AllocError> {

@@ -1,8 +1,7 @@
 -- What a run begins with, and whose end it is.
 use Rattle.std.proofs.Common.{ℕ, ◌≡◌, ◌≤◌, ◌+◌, Bor, List, [], ◌∷◌, arith, subst, sym}
 use Rattle.std.proofs.Math.Nat.{one-le-mul}
-use Rattle.std.specs.declared.fs.File.{File}
-use Rattle.std.specs.Prelude.{◌*◌, Err, IfOk, IfSome, None, Ok, Option, Result, Some, drop, length, option_map}
+use Rattle.std.specs.Prelude.{◌*◌, Err, IfOk, IfSome, None, Ok, Option, Result, Some, drop, length}
 use Rattle.vdcp_auto.specs.Course.{Call, Reached, Receive, begun, called, ended_by_call, logged}
 use Rattle.vdcp_auto.specs.Plan.{Plan, View}
 use Rattle.vdcp_auto.specs.State.{State}
@@ -17,14 +16,11 @@ use Rattle.vdcp_list.specs.Rows.{FileBytes}
 use Rattle.vdcp_journal_file.specs.Recording.{BeganWith, IsTimedOut, Recording}
 use Rattle.vdcp_journal_file.specs.Resuming as resuming
 use Rattle.vdcp_journal_file.specs.Resuming.{IsOpenedAgain, IsReplayed, open_after, plan_of_run, state_after}
-use Rattle.vdcp_run.specs.Run.{BeginsAgain, BeginsBy, ComesTo, HasRecorder, IsBegun, IsRunOf, MayBeUnkept, first_event, heading_for, journal_of, name_of, new_controller, plan_for}
+use Rattle.vdcp_run.specs.Run.{BeginsAgain, BeginsBy, IsBegun, first_event, heading_for, new_controller, plan_for}
 use Rattle.vdcp_run.specs.Asking.{Start, start_of}
-use Rattle.vdcp_run.specs.Session.{HasSession}
-use Rattle.vdcp_run.specs.declared.run_end.RunEnd.{RunEnd}
 use Rattle.vdcp_run.specs.declared.settings.RunJournal.{RunJournal}
 use Rattle.vdcp_run.specs.declared.settings.RunJournal.TheVariants as journals
 use Rattle.vdcp_run.specs.declared.settings.RunSettings.{RunSettings}
-use Rattle.vdcp_run.specs.declared.lack.Lack.{Lack}
 use Rattle.vdcp_value.specs.declared.part.Item.{Item}
 
 -- a call that a row tells of, if it tells of one
@@ -149,31 +145,3 @@ begun_again list settings name heading first recorder some few of opened began =
 pub both : {A E : Type 0} (r : Result A E) (P Q : A → Type 0) → IfOk r P → IfOk r Q → IfOk r (λ x. P x × Q x)
 both (Ok x) P Q p q = (p, q)
 both (Err e) P Q p q = tt
-
--- of a run with these settings
-pub is_run : {S : Type 0} (items : S → List Item) (list : List Item) (settings : RunSettings)
-    (controller : View (FromEvent S)) (recorder : Option (Recording File)) (end : RunEnd)
-    → IsBegun settings list settings.journal (start_of items controller) recorder
-    → HasRecorder settings.unit settings.journal controller.state recorder
-    → HasSession (λ file. None) settings (start_of items controller) recorder end
-    → ComesTo items controller end → IsRunOf settings list settings.journal end
-is_run items list settings controller recorder end starts kept session came = record {
-  start = start_of items controller;
-  recorder = recorder;
-  begun = starts;
-  kept = kept;
-  session = session;
-  ends = came.ends starts.log starts.reached;
-  from_is = came.from_is;
-}
-
--- whose journal isn't whole, if it isn't
-pub unkept_so : {F : Type 0} (unit : ℕ) (journal : Option RunJournal) (state : State) (recorder : Option (Recording F))
-    (unkept : Option Lack) → HasRecorder unit journal state recorder → MayBeUnkept (journal_of recorder) unkept
-    → MayBeUnkept (option_map name_of journal) unkept
-unkept_so unit journal state recorder None has may = tt
-unkept_so unit None state None (Some lack) has may = absurd may
-unkept_so unit None state (Some recorder) (Some lack) has may = cc
-unkept_so unit (Some journal) state None (Some lack) has may = absurd may
-unkept_so unit (Some journal) state (Some recorder) (Some lack) has may =
-    subst (λ (name : Bor (List ℕ)). MayBeUnkept (Some name) (Some lack)) has.0 may

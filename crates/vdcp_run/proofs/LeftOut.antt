@@ -1,5 +1,5 @@
 -- With which event a run that stays begins anew.
-use Rattle.std.proofs.Common.{◌≡◌, ◌∙◌, Bor, List, ℕ, ap, inl, inr, refl, subst, sym}
+use Rattle.std.proofs.Common.{◌≡◌, ◌⊎◌, ◌∙◌, Bor, List, ℕ, ap, inl, inr, refl, subst, sym}
 use Rattle.std.specs.Prelude.{◌+◌, ◌&&◌, Bool, true, false, if◌then◌else◌, length, nat_lt, None, Option, Result, Ok, Err, Some}
 use Rattle.vdcp_auto.specs.Plan.{Plan}
 use Rattle.vdcp_auto.specs.State.{State}
@@ -11,7 +11,7 @@ use Rattle.vdcp_journal_file.specs.Resuming.{IsReplayed, IsUnopenedAgain, IsUnre
 use Rattle.vdcp_journal_file.specs.declared.reading.Refusal.{Refusal}
 use Rattle.vdcp_journal_file.specs.declared.reading.Refusal.TheVariants as refusal
 use Rattle.vdcp_list.specs.Rows.{FileBytes}
-use Rattle.vdcp_run.specs.Run.{BeginsBehind, CameTo, IsJournalRefused, IsPlaceRefused, IsUnkept, IsUntried, going_on, has_lost_port, heading_for, is_by_line, later_after, later_by, leaving_out, may_try, not_kept, occupied, opening_again, told_outcome, turns_left, unconnected, unsure_event}
+use Rattle.vdcp_run.specs.Run.{BeginsBehind, CameTo, IsJournalRefused, IsPlaceRefused, IsUnkept, IsUntried, beginning_anew, going_on, has_lost_port, heading_for, is_by_line, is_unplayable, later_after, later_by, leaving_out, may_try, not_kept, occupied, told_outcome, turns_left, unconnected, unsure_event}
 use Rattle.vdcp_run.specs.declared.run_end.RunEnd.{RunEnd}
 use Rattle.vdcp_run.specs.declared.settings.RunJournal.{RunJournal}
 use Rattle.vdcp_run.specs.declared.settings.RunJournal.TheVariants as journals
@@ -19,28 +19,34 @@ use Rattle.vdcp_run.specs.declared.settings.RunSettings.{RunSettings}
 use Rattle.vdcp_text.specs.declared.failure.Failure.{Failure}
 use Rattle.vdcp_value.specs.declared.part.Item.{Item}
 
--- ---- after an end: with the first that isn't reported
+-- ---- after an end: with the first that isn't reported, or behind it
 
-chosen : (may by lost : Bool) (on anew next : RunSettings) (of name : Bor (List ℕ))
-    → on.journal ≡ Some (journals.Older of) → anew.from ≡ None
-    → (if may then (if by then Some on else (if lost then Some anew else None)) else None) ≡ Some next
-    → next.journal ≡ Some (journals.Again name) → next.from ≡ None
-chosen false by lost on anew next of name older none e again = cc
-chosen true true lost on anew next of name older none e again =
+chosen : (may by lost left_out : Bool) (on anew behind next : RunSettings) (of name : Bor (List ℕ)) (event : ℕ)
+    → on.journal ≡ Some (journals.Older of) → anew.from ≡ None → behind.from ≡ Some event
+    → (if may then (if by then Some on else (if lost then Some anew else (if left_out then Some behind else None))) else None)
+    ≡ Some next
+    → next.journal ≡ Some (journals.Again name) → (next.from ≡ None) ⊎ (next.from ≡ Some event)
+chosen false by lost left_out on anew behind next of name event older none some e again = cc
+chosen true true lost left_out on anew behind next of name event older none some e again =
     let same : on ≡ next = cc e in
     let both : Some (journals.Older of) ≡ Some (journals.Again name) =
     sym older ∙ ap (λ (s : RunSettings). s.journal) same ∙ again in cc
-chosen true false true on anew next of name older none e again =
-    let same : anew ≡ next = cc e in sym (ap (λ (s : RunSettings). s.from) same) ∙ none
-chosen true false false on anew next of name older none e again = cc
+chosen true false true left_out on anew behind next of name event older none some e again =
+    let same : anew ≡ next = cc e in inl (sym (ap (λ (s : RunSettings). s.from) same) ∙ none)
+chosen true false false true on anew behind next of name event older none some e again =
+    let same : behind ≡ next = cc e in inr (sym (ap (λ (s : RunSettings). s.from) same) ∙ some)
+chosen true false false false on anew behind next of name event older none some e again = cc
 
-after_end : (before next : RunSettings) (journal : Option RunJournal) (end : RunEnd) (name : Bor (List ℕ))
-    → later_by before journal end ≡ Some next → next.journal ≡ Some (journals.Again name) → next.from ≡ None
-after_end before next None end name e again = cc
-after_end before next (Some journal) end name e again =
+after_end : (before next : RunSettings) (count : ℕ) (journal : Option RunJournal) (end : RunEnd) (name : Bor (List ℕ))
+    → later_by before count journal end ≡ Some next → next.journal ≡ Some (journals.Again name)
+    → (next.from ≡ None) ⊎ (next.from ≡ Some (end.reported + 1))
+after_end before next count None end name e again = cc
+after_end before next count (Some journal) end name e again =
+    let left : ℕ = turns_left before end in
     chosen (may_try before end) (is_by_line end.line (told_outcome end.line end.outcome)) (has_lost_port journal end)
-    (going_on before journal (turns_left before end)) (opening_again before journal (turns_left before end)) next _ name refl refl
-    e again
+    (before.skip && (is_unplayable end.line end.signs end.outcome && nat_lt end.reported count))
+    (going_on before journal left) (beginning_anew before journal None left)
+    (beginning_anew before journal (Some (end.reported + 1)) left) next _ name (end.reported + 1) refl refl refl e again
 
 -- ---- after a refusal: behind the event that may have aired
 
@@ -131,17 +137,18 @@ left_so false settings next e = cc
 
 after_refusal : (before next : RunSettings) (items : List Item) (failure : Failure) (event : Option ℕ)
     → unsure_event failure ≡ event → IsUntried before items failure → leaving_out before (length items) event ≡ Some next
-    → BeginsBehind items next
+    → BeginsBehind items (Err failure) next
 after_refusal before next items failure None is untried e = cc
 after_refusal before next items failure (Some event) is untried e =
     let (lines, run, ended, end, replayed, event_is) = unsure_untried before items failure event is untried in
-    subst (λ (s : RunSettings). BeginsBehind items s)
+    subst (λ (s : RunSettings). BeginsBehind items (Err failure) s)
     (left_so (before.stay && (nat_lt event (length items) && nat_lt 1 before.listens)) _ next e)
-    (inr (lines, run, ended, end, replayed, ap (λ (k : ℕ). Some (k + 1)) event_is))
+    (lines, run, ended, end, replayed, ap (λ (k : ℕ). Some (k + 1)) event_is)
 
 pub begins_behind : (before next : RunSettings) (items : List Item) (end : Result RunEnd Failure) (name : Bor (List ℕ))
     → CameTo before items end → later_after before (length items) end ≡ Some next → next.journal ≡ Some (journals.Again name)
-    → BeginsBehind items next
-begins_behind before next items (Ok end) name came e again = inl (after_end before next before.journal end name e again)
+    → BeginsBehind items end next
+begins_behind before next items (Ok end) name came e again =
+    after_end before next (length items) before.journal end name e again
 begins_behind before next items (Err failure) name came e again =
     after_refusal before next items failure (unsure_event failure) refl came e

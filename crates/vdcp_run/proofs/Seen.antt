@@ -20,6 +20,7 @@ use Rattle.vdcp_drive.specs.declared.hearing.Hearing.{Hearing}
 use Rattle.vdcp_drive.specs.declared.hearing.Hearing.TheVariants as hears
 use Rattle.vdcp_journal_file.specs.Recording.{Recording}
 use Rattle.vdcp_run.specs.Session.{HasSession, HasTried, Limits, Plays, TriesBy, TriesOver, longest_answer, no_wire, played, tried, unbegun}
+use Rattle.vdcp_run.specs.Ends.{Reports}
 use Rattle.vdcp_run.specs.Asking.{Asker, Comes, HasAsked, Start, asker_of}
 use Rattle.vdcp_run.specs.declared.run_end.LineEnd.{LineEnd}
 use Rattle.vdcp_run.specs.declared.run_end.LineEnd.TheVariants as line_end
@@ -99,9 +100,8 @@ module _ {W W' : Type 0} (does : Act → W → W → Type 0) (does' : Act → W'
       left = below plays.left;
       runs = run_seen _ _ _ fold start.plan unit listens _ plays.auto world plays.left plays.ran plays.runs;
       line_is = plays.line_is;
-      outcome_is = plays.outcome_is;
-      reported_is = plays.reported_is;
-      unopened_is = plays.unopened_is;
+      reports = plays.reports;
+      signs_are = plays.signs_are;
       closed = plays.closed;
     }
 
@@ -111,8 +111,8 @@ module _ {W W' : Type 0} (does : Act → W → W → Type 0) (does' : Act → W'
     tries_seen fold settings start ear world end (played ear' wire left asked plays) = played ear' (w wire) left
         (asked_seen fold (asker_of settings.ask start) settings ear ear' world.wire wire left None asked)
         (plays_seen fold ear' settings.unit left start (record world { wire = wire }) end plays)
-    tries_seen fold settings start ear world end (unbegun ear' wire left line asked is) = unbegun ear' (w wire) left line
-        (asked_seen fold (asker_of settings.ask start) settings ear ear' world.wire wire left (Some line) asked) is
+    tries_seen fold settings start ear world end (unbegun ear' wire left line asked is reports) = unbegun ear' (w wire) left line
+        (asked_seen fold (asker_of settings.ask start) settings ear ear' world.wire wire left (Some line) asked) is reports
 
     pub tries_by_seen : (hearing : Hearing) (settings : RunSettings) (start : Start)
         (world : World W (Option (Recording F))) (end : RunEnd) → TriesBy hearing does safe settings start world end
@@ -133,6 +133,6 @@ pub session_so : {F E : Type 0} (safe : F → Option (List ℕ)) (settings : Run
     (recorder : Option (Recording F)) (end : RunEnd) (wire : Result Streamed E)
     → IfOk wire (λ w. w.connection ≡ connection.Open) → IfOk wire (λ w. Limits w (longest_answer settings))
     → IfOk wire (λ w. TriesOver StreamDoes safe settings start w recorder end)
-    → OnErr wire (end.line ≡ line_end.Failed) → HasSession safe settings start recorder end
+    → OnErr wire ((end.line ≡ line_end.Failed) × Reports start.from start.state end) → HasSession safe settings start recorder end
 session_so safe settings start recorder end (Ok wire) is_open limits tries failed = tried wire is_open limits tries
-session_so safe settings start recorder end (Err e) is_open limits tries failed = no_wire failed
+session_so safe settings start recorder end (Err e) is_open limits tries failed = no_wire failed.0 failed.1

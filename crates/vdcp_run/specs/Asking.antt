@@ -29,6 +29,7 @@ use Rattle.vdcp_run.specs.declared.asking.Purpose.{Purpose}
 use Rattle.vdcp_run.specs.declared.asking.Purpose.TheVariants as purpose
 use Rattle.vdcp_run.specs.declared.run_end.LineEnd.{LineEnd}
 use Rattle.vdcp_run.specs.declared.run_end.LineEnd.TheVariants as line_end
+use Rattle.vdcp_run.specs.declared.run_end.Why.TheVariants as why
 use Rattle.vdcp_run.specs.declared.settings.RunSettings.{RunSettings}
 use Rattle.vdcp_value.specs.declared.part.Item.{Item}
 use Rattle.vdcp_wire.specs.Acts.{Act}
@@ -150,21 +151,20 @@ asking does plan = record { does = does; asks = Asks plan; adds = Adds; loses = 
 -- one that was denied is denied again; a state that is cued or cueing is strange to an empty list
 abbrev pub ended_line : Option Outcome → Option LineEnd
 ended_line (Some Denied) = None
-ended_line (Some (Strange k)) = Some line_end.Occupied
-ended_line _ = Some line_end.Unanswered
+ended_line (Some (Strange k)) = Some (line_end.NotBegun why.Occupied)
+ended_line _ = Some (line_end.NotBegun why.Unanswered)
 
 abbrev pub ran_line : Ran → Option Outcome → Option LineEnd
 ran_line ran.Ended outcome = ended_line outcome
-ran_line ran.Closed outcome = Some line_end.Closed
-ran_line ran.Spent outcome = Some line_end.Spent
+ran_line r outcome = Some (line_end.Ran r)
 
 -- of the six state bytes 01h alone says that nothing is cued and nothing plays
 abbrev pub state_line : Option ℕ → Option LineEnd
-state_line None = Some line_end.Unanswered
-state_line (Some state) = if nat_eq state 1 then None else Some line_end.Occupied
+state_line None = Some (line_end.NotBegun why.Unanswered)
+state_line (Some state) = if nat_eq state 1 then None else Some (line_end.NotBegun why.Occupied)
 
 abbrev pub left_line : Inquiring → Option LineEnd
-left_line i = if is_called_off i.purpose i.held then Some line_end.Stopped else state_line i.state
+left_line i = if is_called_off i.purpose i.held then Some (line_end.NotBegun why.Stopped) else state_line i.state
 
 abbrev pub if_vacancy : Purpose → Option LineEnd → Option LineEnd
 if_vacancy purpose.Vacancy line = line

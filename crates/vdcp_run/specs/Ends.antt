@@ -1,13 +1,16 @@
 -- How the controller of a session ended, by the numbers of the whole list, and how its line did.
-use Rattle.std.specs.Prelude.{ℕ, ◌+◌, ◌-◌, ◌^◌, min, Option, option_map, Result, Ok, Err}
+use Rattle.std.specs.Prelude.{ℕ, ◌≡◌, ◌+◌, ◌-◌, ◌^◌, min, Option, option_map, Result, Ok, Err}
+use Rattle.vdcp_auto.specs.State.{State}
+use Rattle.vdcp_auto.specs.Turn.{outcome_of}
 use Rattle.vdcp_auto.specs.declared.outcome.Outcome.{Outcome}
 use Rattle.vdcp_auto.specs.declared.outcome.Outcome.TheVariants.{Done, Stopped, Lost, Denied, Missing, Refused, Foreign, Strange}
 use Rattle.vdcp_drive.specs.declared.hooks.BrokenOff.{BrokenOff}
 use Rattle.vdcp_drive.specs.declared.hooks.BrokenOff.TheVariants as fault
 use Rattle.vdcp_drive.specs.declared.line.Ran.{Ran}
-use Rattle.vdcp_drive.specs.declared.line.Ran.TheVariants as ran
 use Rattle.vdcp_run.specs.declared.run_end.LineEnd.{LineEnd}
 use Rattle.vdcp_run.specs.declared.run_end.LineEnd.TheVariants as line_end
+use Rattle.vdcp_run.specs.declared.run_end.RunEnd.{RunEnd}
+use Rattle.vdcp_run.specs.declared.run_end.Why.TheVariants as why
 
 -- the event that is this many after the one that the controller began with; no number is above the largest
 abbrev pub event_in_list : (from k : ℕ) → ℕ
@@ -29,9 +32,13 @@ outcome_in_list from outcome = option_map (outcome_with from) outcome
 
 -- how the line ended, by what the driver's run answered
 abbrev pub line_end_of : Result Ran BrokenOff → LineEnd
-line_end_of (Ok ran.Ended) = line_end.Unneeded
-line_end_of (Ok ran.Closed) = line_end.Closed
-line_end_of (Ok ran.Spent) = line_end.Spent
+line_end_of (Ok r) = line_end.Ran r
 line_end_of (Err fault.Device) = line_end.Failed
 line_end_of (Err fault.Unkept) = line_end.Unkept
-line_end_of (Err fault.Left) = line_end.Stopped
+line_end_of (Err fault.Left) = line_end.NotBegun why.Stopped
+
+-- the outcome and the first event that isn't reported are those of this state, whose controller began with this event
+pub record Reports (from : ℕ) (state : State) (end : RunEnd) : Type 0 where
+  pub from_is : end.from ≡ from
+  pub outcome_is : end.outcome ≡ outcome_in_list from (outcome_of state.stage)
+  pub reported_is : end.reported ≡ from + state.settled

@@ -1,38 +1,33 @@
--- How a run ends: what it tells then, and its exit status.
+-- How a run begins, tries again and ends.
 use Rattle.std.specs.Borrow.{Bor}
-use Rattle.std.specs.Io.KnownBytes.{Appends, Keeps}
 use Rattle.std.specs.declared.fs.File.{File as StdFile}
-use Rattle.std.specs.Prelude.{ℕ, ◌≡◌, ◌⊎◌, ◌+◌, ◌-◌, ◌<◌, ◌≤◌, Bool, true, false, not, ◌&&◌, is_some, min, nat_lt, List, [], ◌++◌, codes, decimal, drop, length, take, Option, None, Some, option_map, unwrap_or, Result, Ok, Err, IfSome, IsSome, if◌then◌else◌}
+use Rattle.std.specs.Prelude.{ℕ, ◌≡◌, ◌⊎◌, ◌+◌, ◌-◌, ◌≤◌, Bool, true, false, not, ◌&&◌, is_some, min, nat_lt, List, drop, length, take, Option, None, Some, unwrap_or, Result, Ok, Err, IfSome, IsSome, if◌then◌else◌}
 use Rattle.vdcp_value.specs.declared.part.Item.{Item}
 use Rattle.vdcp_value.specs.declared.rate.Rate.{Rate}
 use Rattle.vdcp_auto.specs.Course.{Reached}
-use Rattle.vdcp_auto.specs.Plan.{Plan, View, plan_of}
+use Rattle.vdcp_auto.specs.Plan.{Plan, View}
 use Rattle.vdcp_auto.specs.Turn as turns
 use Rattle.vdcp_auto.specs.Turn.{outcome_of}
 use Rattle.vdcp_auto.specs.declared.exchange.Exchange.{Exchange}
 use Rattle.vdcp_auto.specs.declared.outcome.Outcome.{Outcome}
 use Rattle.vdcp_auto.specs.declared.outcome.Outcome.TheVariants.{Done, Stopped, Lost, Denied, Missing, Refused, Foreign, Strange}
 use Rattle.vdcp_auto.specs.State.{State}
-use Rattle.vdcp_text.specs.Failure.{failure_line, failure_text, status_of}
-use Rattle.vdcp_text.specs.Text.{line, shown_name}
+use Rattle.vdcp_drive.specs.declared.line.Ran.TheVariants as ran
+use Rattle.vdcp_text.specs.Text.{line}
 use Rattle.vdcp_text.specs.declared.failure.Failure.{Failure}
 use Rattle.vdcp_text.specs.declared.failure.Failure.TheVariants as failures
-use Rattle.vdcp_text.specs.declared.failure.JournalFault.TheVariants as wrong
-use Rattle.vdcp_files.specs.Files.{File, IsWholeList, RefusesList, bytes_of, file}
+use Rattle.vdcp_files.specs.Files.{File, bytes_of, file}
 use Rattle.vdcp_journal.specs.declared.row.Heading.{Heading}
 use Rattle.vdcp_journal.specs.Runs.{Run}
 use Rattle.vdcp_list.specs.Asrun.{events_text, has_part}
 use Rattle.vdcp_list.specs.Playlists.{IsListOf}
-use Rattle.vdcp_list.specs.Rests.{FromEvent, items_left}
+use Rattle.vdcp_list.specs.Rests.{FromEvent}
 use Rattle.vdcp_list.specs.Rows.{FileBytes}
 use Rattle.vdcp_journal_file.specs.Recording.{BeganWith, IsTimedOut, IsUnbegun, Recording}
 use Rattle.vdcp_journal_file.specs.Resuming.{IsOpenedAgain, IsReplayed, IsUnopenedAgain, IsUnresumed, next_event, open_after, plan_of_run}
 use Rattle.vdcp_journal_file.specs.Showing.{IsAsrunOf, digest_of}
 use Rattle.vdcp_journal_file.specs.declared.pending.RecordFault.{RecordFault}
 use Rattle.vdcp_journal_file.specs.declared.pending.RecordFault.TheVariants as records
-use Rattle.vdcp_text.specs.Outcome.{outcome_text}
-use Rattle.vdcp_wire.specs.Address.{IsAddress}
-use Rattle.vdcp_run.specs.Ends.{outcome_in_list}
 use Rattle.vdcp_run.specs.Asking.{Start}
 use Rattle.vdcp_run.specs.Session.{HasSession}
 use Rattle.vdcp_run.specs.declared.lack.Lack.{Lack}
@@ -42,6 +37,8 @@ use Rattle.vdcp_run.specs.declared.settings.RunJournal.TheVariants as journals
 use Rattle.vdcp_run.specs.declared.run_end.LineEnd.{LineEnd}
 use Rattle.vdcp_run.specs.declared.run_end.LineEnd.TheVariants as line_end
 use Rattle.vdcp_run.specs.declared.run_end.RunEnd.{RunEnd}
+use Rattle.vdcp_run.specs.declared.run_end.Signs.{Signs}
+use Rattle.vdcp_run.specs.declared.run_end.Why.TheVariants as why
 use Rattle.vdcp_run.specs.declared.saved.SavedText.{SavedText}
 use Rattle.vdcp_run.specs.declared.settings.RunSettings.{RunSettings}
 
@@ -67,26 +64,21 @@ new_controller settings source = turns.new_controller (record { source = source;
 
 -- the failure to report of the line itself; a journal that failed is reported by its own
 abbrev pub line_failure : LineEnd → Option Failure
-line_failure line_end.Unneeded = None
-line_failure line_end.Closed = Some failures.LineClosed
-line_failure line_end.Spent = Some failures.Spent
+line_failure (line_end.Ran ran.Ended) = None
+line_failure (line_end.Ran ran.Closed) = Some failures.LineClosed
+line_failure (line_end.Ran ran.Spent) = Some failures.Spent
 line_failure line_end.Failed = Some failures.LineFailed
 line_failure line_end.Unkept = None
-line_failure line_end.Occupied = Some failures.NotEmpty
-line_failure line_end.Unanswered = None
-line_failure line_end.Stopped = None
+line_failure (line_end.NotBegun why.Occupied) = Some failures.NotEmpty
+line_failure (line_end.NotBegun why.Unanswered) = None
+line_failure (line_end.NotBegun why.Stopped) = None
 
 -- how the run ended, as it is told: a port that didn't answer its questions is lost, and a run that the operator stopped without
 -- a command is stopped
 abbrev pub told_outcome : LineEnd → Option Outcome → Option Outcome
-told_outcome line_end.Unanswered outcome = Some Lost
-told_outcome line_end.Stopped outcome = Some Stopped
-told_outcome line_end.Unneeded outcome = outcome
-told_outcome line_end.Closed outcome = outcome
-told_outcome line_end.Spent outcome = outcome
-told_outcome line_end.Failed outcome = outcome
-told_outcome line_end.Unkept outcome = outcome
-told_outcome line_end.Occupied outcome = outcome
+told_outcome (line_end.NotBegun why.Unanswered) outcome = Some Lost
+told_outcome (line_end.NotBegun why.Stopped) outcome = Some Stopped
+told_outcome line outcome = outcome
 
 -- ---- a run that stays
 
@@ -99,7 +91,7 @@ name_of (journals.Again name) = name
 -- it ended by its line: the controller was lost, or else the line closed or failed before that had ended
 abbrev pub is_by_line : LineEnd → Option Outcome → Bool
 is_by_line line (Some Lost) = true
-is_by_line line_end.Closed None = true
+is_by_line (line_end.Ran ran.Closed) None = true
 is_by_line line_end.Failed None = true
 is_by_line line outcome = false
 
@@ -109,43 +101,53 @@ turns_left settings end = min end.left (settings.listens - 1)
 
 -- the controller was refused: by NAK 01, or by a port that is denied
 abbrev pub is_refused : LineEnd → Option Outcome → Bool
-is_refused line_end.Unneeded (Some Denied) = true
-is_refused line_end.Unneeded (Some (Refused k)) = true
+is_refused (line_end.Ran ran.Ended) (Some Denied) = true
+is_refused (line_end.Ran ran.Ended) (Some (Refused k)) = true
 is_refused line outcome = false
+
+-- the server doesn't have the clip of the next event, or refused its cue
+abbrev pub is_unplayable : LineEnd → Signs → Option Outcome → Bool
+is_unplayable (line_end.Ran ran.Ended) signs (Some (Missing k)) = true
+is_unplayable (line_end.Ran ran.Ended) signs (Some (Refused k)) = signs.cueing
+is_unplayable line signs outcome = false
 
 -- The server lost the port since the journal's last rows: the run that goes on from them was refused, and over its
 -- connection came only what a port answers that isn't open.
 abbrev pub has_lost_port : RunJournal → RunEnd → Bool
 has_lost_port (journals.New name) end = false
-has_lost_port (journals.Older name) end = end.unopened && is_refused end.line end.outcome
+has_lost_port (journals.Older name) end = end.signs.unopened && is_refused end.line end.outcome
 has_lost_port (journals.Again name) end = false
 
--- a run with these settings may try again after this end: it stays, its journal is whole, and a turn is left
+-- a run with these settings may try again after this end: it stays, nobody stopped it, its journal is whole, and a turn is left
 abbrev pub may_try : RunSettings → RunEnd → Bool
-may_try settings end = settings.stay && (not (is_some end.unkept) && nat_lt 0 (turns_left settings end))
+may_try settings end =
+    settings.stay && (not end.signs.stopped && (not (is_some end.unkept) && nat_lt 0 (turns_left settings end)))
 
 -- the settings of a run that goes on from the journal that it has, with so many turns
 abbrev pub going_on : RunSettings → RunJournal → ℕ → RunSettings
 going_on settings journal left = record settings { journal = Some (journals.Older (name_of journal)); listens = left }
 
--- and of one that begins anew after the journal's last run, with the first event that this doesn't report
-abbrev pub opening_again : RunSettings → RunJournal → ℕ → RunSettings
-opening_again settings journal left =
-    record settings { journal = Some (journals.Again (name_of journal)); from = None; listens = left }
+-- and of one that begins anew after the journal's last run, with a named event, or else the first that this doesn't report
+abbrev pub beginning_anew : RunSettings → RunJournal → Option ℕ → ℕ → RunSettings
+beginning_anew settings journal from left =
+    record settings { journal = Some (journals.Again (name_of journal)); from = from; listens = left }
 
--- the first goes on after an end by the line, the second after the loss of the port
-abbrev pub next_by : RunSettings → RunJournal → RunEnd → Option RunSettings
-next_by settings journal end =
+-- the first goes on after an end by the line; the second begins with the next event after the loss of the port, or behind it
+-- if it can't be played
+abbrev pub next_by : RunSettings → ℕ → RunJournal → RunEnd → Option RunSettings
+next_by settings count journal end =
     if is_by_line end.line (told_outcome end.line end.outcome) then Some (going_on settings journal (turns_left settings end))
-    else (if has_lost_port journal end then Some (opening_again settings journal (turns_left settings end)) else None)
+    else (if has_lost_port journal end then Some (beginning_anew settings journal None (turns_left settings end))
+    else (if settings.skip && (is_unplayable end.line end.signs end.outcome && nat_lt end.reported count)
+    then Some (beginning_anew settings journal (Some (end.reported + 1)) (turns_left settings end)) else None))
 
-abbrev pub later_by : RunSettings → Option RunJournal → RunEnd → Option RunSettings
-later_by settings None end = None
-later_by settings (Some journal) end = if may_try settings end then next_by settings journal end else None
+abbrev pub later_by : RunSettings → ℕ → Option RunJournal → RunEnd → Option RunSettings
+later_by settings count None end = None
+later_by settings count (Some journal) end = if may_try settings end then next_by settings count journal end else None
 
--- the settings with which it tries again, if it does
-abbrev pub later_of : RunSettings → RunEnd → Option RunSettings
-later_of settings end = later_by settings settings.journal end
+-- the settings with which it tries again, if it does, to play a list of so many events
+abbrev pub later_of : RunSettings → ℕ → RunEnd → Option RunSettings
+later_of settings count end = later_by settings count settings.journal end
 
 -- the event with which no run begins, since it may have aired
 abbrev pub unsure_event : Failure → Option ℕ
@@ -161,7 +163,7 @@ leaving_out settings count (Some event) =
 
 -- the settings of the next try of a list of so many events
 abbrev pub later_after : RunSettings → ℕ → Result RunEnd Failure → Option RunSettings
-later_after settings count (Ok end) = later_of settings end
+later_after settings count (Ok end) = later_of settings count end
 later_after settings count (Err failure) = leaving_out settings count (unsure_event failure)
 
 -- ---- the as-run file
@@ -181,11 +183,6 @@ IsUnlisted (Some (journals.Again name)) failure = Unit {0}
 -- this value shows that the file of this name, if there is one, isn't this other file
 abbrev pub IsApart : Option (Bor (List ℕ)) → Bor (List ℕ) → Apart → Type 0
 IsApart name other apart = (apart.name ≡ name) × (apart.other ≡ other)
-
--- the file that is named for the as-run list, if one is, is the list
-abbrev pub IsOverList : Option (Bor (List ℕ)) → Failure → Type 0
-IsOverList None failure = ⊥
-IsOverList (Some name) failure = failure ≡ failures.IsList name
 
 -- it is a file that has to stay, or can't have its list
 abbrev pub IsPlaceRefused : Option (Bor (List ℕ)) → Failure → Type 0
@@ -220,14 +217,8 @@ IsAsrunMade rate journal items from reported (Some name) (Some (Err failure)) =
 
 -- the name of the file that is wanted once the line ended so: none if the port isn't empty
 abbrev pub wanted_after : LineEnd → Option (Bor (List ℕ)) → Option (Bor (List ℕ))
-wanted_after line_end.Unneeded name = name
-wanted_after line_end.Closed name = name
-wanted_after line_end.Spent name = name
-wanted_after line_end.Failed name = name
-wanted_after line_end.Unkept name = name
-wanted_after line_end.Occupied name = None
-wanted_after line_end.Unanswered name = name
-wanted_after line_end.Stopped name = name
+wanted_after (line_end.NotBegun why.Occupied) name = None
+wanted_after line name = name
 
 -- none before a run tries again
 abbrev pub wanted_unless : Option RunSettings → Option (Bor (List ℕ)) → Option (Bor (List ℕ))
@@ -237,7 +228,7 @@ wanted_unless (Some later) name = None
 -- so it is after a run of these items
 abbrev pub HasAsrun : RunSettings → List Item → RunEnd → Type 0
 HasAsrun settings items end = IsAsrunMade settings.rate settings.journal items end.from end.reported
-    (wanted_unless (later_of settings end) (wanted_after end.line settings.asrun)) end.asrun
+    (wanted_unless (later_of settings (length items) end) (wanted_after end.line settings.asrun)) end.asrun
 
 abbrev pub asrun_failure : Option (Result SavedText Failure) → Option Failure
 asrun_failure None = None
@@ -245,13 +236,6 @@ asrun_failure (Some (Ok saved)) = None
 asrun_failure (Some (Err failure)) = Some failure
 
 -- ---- the journal
-
-abbrev pub name_of_file : File → Bor (List ℕ)
-name_of_file (file name bytes) = name
-
--- that of the journal that a recorder writes, if there is one
-abbrev pub journal_of : {F : Type 0} → Option (Recording F) → Option (Bor (List ℕ))
-journal_of recorder = option_map (λ r. r.name) recorder
 
 -- what a journal of these items is of
 abbrev pub heading_for : RunSettings → List Item → Heading
@@ -286,18 +270,6 @@ unbegun_journal (Err failure) (Some (journals.New name)) = Some name
 unbegun_journal (Err failure) (Some (journals.Older name)) = None
 unbegun_journal (Err failure) (Some (journals.Again name)) = None
 
--- why the journal of this name isn't whole, if it isn't
-abbrev pub MayBeUnkept : Option (Bor (List ℕ)) → Option Lack → Type 0
-MayBeUnkept name None = Unit {0}
-MayBeUnkept None (Some lack) = ⊥
-MayBeUnkept (Some name) (Some lack) = lack.journal ≡ name
-
--- what befell the journal of this name
-abbrev pub befallen_text : Bor (List ℕ) → RecordFault → List ℕ
-befallen_text name records.Device = failure_text (failures.Write name)
-befallen_text name records.Memory = failure_text failures.Memory
-befallen_text name records.Replaced = shown_name name.now ++ codes ": not the file that was opened"
-
 -- the journal that a run goes on from: that which it had, unless that isn't where it was
 abbrev pub journal_after : RecordFault → Option RunJournal → Option RunJournal
 journal_after records.Device journal = journal
@@ -307,27 +279,6 @@ journal_after records.Replaced journal = None
 abbrev pub journal_left : Option Lack → Option RunJournal → Option RunJournal
 journal_left None journal = journal
 journal_left (Some lack) journal = journal_after lack.fault journal
-
--- ---- what is printed and reported
-
--- the lines of how many events are reported, and how the controller ended
-abbrev pub end_text : RunEnd → List ℕ
-end_text end =
-    line (codes "reported " ++ decimal end.reported) ++ line (codes "outcome " ++ outcome_text (told_outcome end.line end.outcome))
-
-abbrev pub fault_text : Option Failure → List ℕ
-fault_text None = []
-fault_text (Some failure) = failure_line failure
-
--- why the journal isn't whole, if it isn't, and what that may come to
-abbrev pub lack_text : Option Lack → List ℕ
-lack_text None = []
-lack_text (Some lack) = line (codes "vdcp: " ++ befallen_text lack.journal lack.fault)
-    ++ line (codes "  the number reported holds: asrun may list one event less, and say that it may have aired")
-
--- the fault lines of the as-run file, the journal and the line, of which there are any
-abbrev pub faults_text : RunEnd → List ℕ
-faults_text end = fault_text (asrun_failure end.asrun) ++ lack_text end.unkept ++ fault_text (line_failure end.line)
 
 -- ---- the exit status
 
@@ -353,41 +304,6 @@ run_status end =
     (status_unless end.unkept (status_unless (line_failure end.line) (outcome_status (told_outcome end.line end.outcome))))
 
 -- ---- the whole
-
--- this is the end of a controller that was made with this plan: some calls led it to this state, and its log has the
--- exchanges that they ended. The outcome and the first event that isn't reported are the state's, with the numbers of the
--- whole list. The line was unneeded only if the controller has ended, and if it has, the line was unneeded or it
--- failed
-pub record IsEndOf (plan : Plan) (end : RunEnd) : Type 0 where
-  pub log : List Exchange
-  pub state : State
-  pub reached : Reached plan state log
-  pub outcome_is : end.outcome ≡ outcome_in_list end.from (outcome_of state.stage)
-  pub reported_is : end.reported ≡ end.from + state.settled
-  pub unneeded : end.line ≡ line_end.Unneeded → IsSome end.outcome
-  pub ended : IsSome end.outcome → (end.line ≡ line_end.Unneeded) ⊎ (end.line ≡ line_end.Failed)
-  -- a command that couldn't be kept is told
-  pub told : end.line ≡ line_end.Unkept → IsSome end.unkept
-
--- the event that a run began with, its outcome and the first event that isn't reported are this controller's, with the
--- numbers of the whole list
-pub record IsEndBy {S : Type 0} (controller : View (FromEvent S)) (end : RunEnd) : Type 0 where
-  pub from_is : end.from ≡ controller.source.from
-  pub outcome_is : end.outcome ≡ outcome_in_list end.from (outcome_of controller.state.stage)
-  pub reported_is : end.reported ≡ end.from + controller.state.settled
-
--- this is the end of a controller that plays the rest of a list: whatever its log is, from there it came to this end
-pub record ComesTo {S : Type 0} (items : S → List Item) (controller : View (FromEvent S)) (end : RunEnd) : Type 0 where
-  pub from_is : end.from ≡ controller.source.from
-  pub ends : (log : List Exchange) → Reached (plan_of (items_left items) controller) controller.state log
-      → IsEndOf (plan_of (items_left items) controller) end
-
--- so ends a run, with these settings and the journal of this name, if it has one, of this controller
-pub record EndsRun {S : Type 0} (settings : RunSettings) (kept : Option (Bor (List ℕ))) (items : S → List Item)
-    (controller : View (FromEvent S)) (end : RunEnd) : Type 0 where
-  pub comes : ComesTo items controller end
-  pub asrun : HasAsrun settings (items controller.source.source) end
-  pub unkept : MayBeUnkept kept end.unkept
 
 -- A run begins so, with this recorder, if its controller hasn't ended: if the last run of some journal of these items
 -- goes on, which is made with these settings, that nothing came is still to be written, if an exchange was open
@@ -434,23 +350,15 @@ HasRecorder unit None state recorder = recorder ≡ None
 HasRecorder unit (Some journal) state None = IsSome (outcome_of state.stage)
 HasRecorder unit (Some journal) state (Some recorder) = (recorder.name ≡ name_of journal) × (recorder.unit ≡ unit)
 
--- this is the end of a controller that plays these items from one on, by the journal that the run has, if it has one: a
--- session played it, and kept its exchanges in that journal
-pub record IsRunOf (settings : RunSettings) (items : List Item) (journal : Option RunJournal) (end : RunEnd)
-    : Type 0 where
+-- So a try of these items ended, which was made with these settings: a session played them from one on with a controller that
+-- begins by its journal, if it has one, in which its exchanges were kept.
+pub record IsTried (settings : RunSettings) (items : List Item) (end : RunEnd) : Type 0 where
   pub start : Start
   pub recorder : Option (Recording StdFile)
-  pub begun : IsBegun settings items journal start recorder
-  pub kept : HasRecorder settings.unit journal start.state recorder
+  pub begun : IsBegun settings items settings.journal start recorder
+  pub kept : HasRecorder settings.unit settings.journal start.state recorder
   pub session : HasSession (λ file. None) settings start recorder end
-  pub ends : IsEndOf start.plan end
-  pub from_is : end.from ≡ start.from
-
--- so a try of these items ended, which was made with these settings
-pub record IsTried (settings : RunSettings) (items : List Item) (end : RunEnd) : Type 0 where
-  pub runs : IsRunOf settings items settings.journal end
   pub asrun : HasAsrun settings items end
-  pub unkept : MayBeUnkept (option_map name_of settings.journal) end.unkept
 
 -- why a try of these items with these settings came to nothing: the journal can't be kept, or else nobody takes the
 -- connection, or else the port isn't empty
@@ -464,12 +372,14 @@ abbrev pub CameTo : RunSettings → List Item → Result RunEnd Failure → Type
 CameTo settings items (Ok end) = IsTried settings items end
 CameTo settings items (Err failure) = IsUntried settings items failure
 
--- A run that begins anew in its journal begins with the first event that the run before doesn't report, which can't have aired
--- (`BeginsAfter`), or else behind the first that the last run of a journal of these items doesn't report.
-abbrev pub BeginsBehind : List Item → RunSettings → Type 0
-BeginsBehind items next = (next.from ≡ None) ⊎ ((lines : FileBytes) × (run : Run) × (ended : Plan) × (end : State)
+-- So begins a run that begins anew in its journal after what a try came to: with the first event that this doesn't report, which
+-- can't have aired (`BeginsAfter`), or behind it; after a refusal behind the first that the last run of a journal of these
+-- items doesn't report.
+abbrev pub BeginsBehind : List Item → Result RunEnd Failure → RunSettings → Type 0
+BeginsBehind items (Ok end) next = (next.from ≡ None) ⊎ (next.from ≡ Some (end.reported + 1))
+BeginsBehind items (Err failure) next = (lines : FileBytes) × (run : Run) × (ended : Plan) × (end : State)
     × IsReplayed items (heading_for next items) lines run ended end
-    × (next.from ≡ Some (next_event (heading_for next items) run + 1)))
+    × (next.from ≡ Some (next_event (heading_for next items) run + 1))
 
 -- with which settings a run tries: with its own first, and then with those that follow from what the last try came to
 pub data IsTry (settings : RunSettings) (items : List Item) : RunSettings → Type 0 where
@@ -482,7 +392,7 @@ pub record IsLastTry (settings : RunSettings) (items : List Item) (end : RunEnd)
   pub last : RunSettings
   pub tries : IsTry settings items last
   pub tried : IsTried last items end
-  pub over : later_of last end ≡ None
+  pub over : later_of last (length items) end ≡ None
 
 -- the file is a playlist, and this is the end of a controller that plays it, from an event on
 pub record IsPlayed (settings : RunSettings) (list : File) (end : RunEnd) : Type 0 where
@@ -490,86 +400,8 @@ pub record IsPlayed (settings : RunSettings) (list : File) (end : RunEnd) : Type
   pub lists : IsListOf settings.rate (bytes_of list) items
   pub plays : IsLastTry settings items end
 
--- the list was played to this end: a writer gained the lines of that, and this is the status
-pub record IsRun (settings : RunSettings) (list : File) (out out' : Option (List ℕ)) (status : ℕ) : Type 0 where
+-- the list was played to its end, or until the operator stopped, and nothing failed
+pub record IsRun (settings : RunSettings) (list : File) : Type 0 where
   pub end : RunEnd
   pub played : IsPlayed settings list end
-  pub gained : Appends out out' (end_text end)
-  pub status_is : status ≡ run_status end
-
--- the number of the event to begin with, if one is named, is above the list's length
-abbrev pub IsNoEvent : Option ℕ → List Item → Failure → Type 0
-IsNoEvent None items failure = ⊥
-IsNoEvent (Some event) items failure = (length items < event) × (failure ≡ failures.NoEvent event)
-
--- a journal is refused since it is of another list
-abbrev pub is_of_other_list : Failure → Bool
-is_of_other_list (failures.JournalRow name row wrong.List) = true
-is_of_other_list _ = false
-
--- what is told of that, and of any other failure: that the list of this name isn't the journal's
-abbrev pub told_of_list : Bor (List ℕ) → Failure → Failure
-told_of_list list failure = if is_of_other_list failure then failures.NotTheList list else failure
-
--- why the last of the tries of a run came to nothing
-pub record IsUntriedIn (settings : RunSettings) (items : List Item) (failure : Failure) : Type 0 where
-  pub last : RunSettings
-  pub tries : IsTry settings items last
-  pub untried : IsUntried last items failure
-  pub over : later_after last (length items) (Err failure) ≡ None
-
--- why a list isn't played: the text is no address, or else the list isn't read, or else it has no event to begin with, or
--- else the as-run file is the list, or else the journal can't be kept, or else nobody takes the connection, or else
--- the port isn't empty
-pub data IsUnplayed (settings : RunSettings) (text : List ℕ) (list : File) (failure : Failure) : Type 0 where
-  no_address : ¬ IsAddress text → failure ≡ failures.Address → IsUnplayed settings text list failure
-  no_list : IsAddress text → RefusesList settings.rate list failure → IsUnplayed settings text list failure
-  no_event : IsAddress text → (items : List Item) → IsListOf settings.rate (bytes_of list) items →
-      IsNoEvent settings.from items failure → IsUnplayed settings text list failure
-  no_place : IsAddress text → IsWholeList settings.rate list → IsOverList settings.asrun failure →
-      IsUnplayed settings text list failure
-  no_journal : IsAddress text → (items : List Item) → IsListOf settings.rate (bytes_of list) items →
-      (last : RunSettings) → IsTry settings items last → (unkept : Failure) → IsUnkept last items last.journal unkept →
-      failure ≡ told_of_list (name_of_file list) unkept → IsUnplayed settings text list failure
-  not_connected : IsAddress text → IsWholeList settings.rate list → failure ≡ failures.Connect →
-      IsUnplayed settings text list failure
-  not_empty : IsAddress text → IsWholeList settings.rate list → failure ≡ failures.NotEmpty →
-      IsUnplayed settings text list failure
-
--- a list isn't begun, since the port isn't empty: one writer gained the line that tells it, and the other nothing
-pub record IsNotBegun (rate : Rate) (list : File) (out out' err err' : Option (List ℕ)) : Type 0 where
-  pub whole : IsWholeList rate list
-  pub told : Appends err err' (failure_line failures.NotEmpty)
-  pub silent : Keeps out out'
-
--- the list has no event to begin with: one writer gained the line that tells it, and the other nothing
-pub record IsEventRefused (settings : RunSettings) (list : File) (out out' err err' : Option (List ℕ)) : Type 0 where
-  pub failure : Failure
-  pub items : List Item
-  pub lists : IsListOf settings.rate (bytes_of list) items
-  pub missing : IsNoEvent settings.from items failure
-  pub told : Appends err err' (failure_line failure)
-  pub silent : Keeps out out'
-
--- a row of the journal is refused, or the list isn't the journal's, or the event to go on with may have aired: one writer
--- gained the line that tells it, and the other nothing
-pub record IsRunRefused (settings : RunSettings) (list : File) (out out' err err' : Option (List ℕ)) : Type 0 where
-  pub failure : Failure
-  pub items : List Item
-  pub lists : IsListOf settings.rate (bytes_of list) items
-  pub last : RunSettings
-  pub tries : IsTry settings items last
-  pub unkept : Failure
-  pub refused : IsUnkept last items last.journal unkept
-  pub failure_is : failure ≡ told_of_list (name_of_file list) unkept
-  pub of_row : status_of failure ≡ 1
-  pub told : Appends err err' (failure_line failure)
-  pub silent : Keeps out out'
-
--- a row of the list is refused: one writer gained the line that tells it, and the other nothing
-pub record IsListRefused (rate : Rate) (list : File) (out out' err err' : Option (List ℕ)) : Type 0 where
-  pub failure : Failure
-  pub refused : RefusesList rate list failure
-  pub of_row : status_of failure ≡ 1
-  pub told : Appends err err' (failure_line failure)
-  pub silent : Keeps out out'
+  pub whole : run_status end ≡ 0

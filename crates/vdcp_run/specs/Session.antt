@@ -1,6 +1,7 @@
 -- What a session did: it asked the port, if it was to, and ran a driver, with the journal that it has, if it has one.
 use Rattle.std.specs.Option.{option_map}
-use Rattle.std.specs.Prelude.{ℕ, ◌≡◌, ◌+◌, ◌*◌, Bool, true, false, ◌&&◌, List, [], ◌∷◌, Option, None, Some, IsSome, Result}
+use Rattle.std.specs.Prelude.{ℕ, ◌≡◌, ◌≢◌, ◌*◌, Bool, true, false, ◌&&◌, List, [], ◌∷◌, Option, None, Some, IsSome, Result}
+use Rattle.vdcp_auto.specs.Commands.{is_cue_command}
 use Rattle.vdcp_auto.specs.State.{Stage}
 use Rattle.vdcp_auto.specs.Turn.{is_awaiting, outcome_of}
 use Rattle.vdcp_auto.specs.declared.exchange.Heard.{Heard}
@@ -14,20 +15,24 @@ use Rattle.vdcp_drive.specs.Reading.{holds}
 use Rattle.vdcp_drive.specs.Steps.{Rules, World}
 use Rattle.vdcp_drive.specs.Traces.{kept_in}
 use Rattle.vdcp_drive.specs.declared.hooks.BrokenOff.{BrokenOff}
+use Rattle.vdcp_drive.specs.declared.hooks.Call.TheVariants.{Take, Stop}
 use Rattle.vdcp_drive.specs.declared.hooks.Kept.{Kept}
 use Rattle.vdcp_drive.specs.declared.hooks.Kept.TheVariants as kept
 use Rattle.vdcp_drive.specs.declared.line.Ran.{Ran}
+use Rattle.vdcp_drive.specs.declared.line.Ran.TheVariants as ran
 use Rattle.vdcp_journal.specs.declared.moment.Moment.{Moment}
 use Rattle.vdcp_drive.specs.declared.hearing.Hearing.{Hearing}
 use Rattle.vdcp_drive.specs.declared.hearing.Hearing.TheVariants as hears
 use Rattle.vdcp_journal_file.specs.Recorded.{Loses, Notes, NotesEnd, recorder_rules}
 use Rattle.vdcp_journal_file.specs.Recording.{Adds, Recording, outcome_rows}
-use Rattle.vdcp_run.specs.Ends.{line_end_of, outcome_in_list}
+use Rattle.vdcp_run.specs.Ends.{Reports, line_end_of}
 use Rattle.vdcp_run.specs.Asking.{HasAsked, Start, asker_of, over}
 use Rattle.vdcp_run.specs.declared.lack.Lack.{Lack}
 use Rattle.vdcp_run.specs.declared.run_end.LineEnd.{LineEnd}
 use Rattle.vdcp_run.specs.declared.run_end.LineEnd.TheVariants as line_end
 use Rattle.vdcp_run.specs.declared.run_end.RunEnd.{RunEnd}
+use Rattle.vdcp_run.specs.declared.run_end.Signs.{Signs}
+use Rattle.vdcp_run.specs.declared.run_end.Why.TheVariants as why
 use Rattle.vdcp_run.specs.declared.settings.RunSettings.{RunSettings}
 use Rattle.vdcp_wire.specs.Acts.{Act}
 use Rattle.vdcp_wire.specs.Streams.{StreamDoes, Streamed}
@@ -36,10 +41,10 @@ use Rattle.vdcp_words.specs.declared.reply.Reply.TheVariants as reply
 
 -- ---- what is kept over a connection
 
--- its journal, if there is one, and whether only such answers came as a port gives that isn't open
+-- its journal, if there is one, and the signs
 pub record Keeping (F : Type 0) : Type 0 where
   pub recorder : Option (Recording F)
-  pub unopened : Bool
+  pub signs : Signs
 
 -- NAK, or whether the catalogue has a clip
 abbrev pub is_unopened : Heard → Bool
@@ -47,24 +52,31 @@ is_unopened (heard.Reply (reply.Nak e)) = true
 is_unopened (heard.Reply (reply.Present present)) = true
 is_unopened _ = false
 
--- that, once this is kept
-abbrev pub unopened_after : Kept → Bool → Bool
-unopened_after (kept.Sent c) before = before
-unopened_after (kept.Heard h) before = before && is_unopened h
-unopened_after kept.Silence before = before
-unopened_after (kept.Called c) before = before
+-- the signs before a run; where none took place; and once this is kept
+abbrev pub signs_at_first : Signs
+signs_at_first = record { heard = false; unopened = true; cueing = false; stopped = false }
 
-abbrev pub unopened_by : List Kept → Bool → Bool
-unopened_by [] before = before
-unopened_by (one ∷ later) before = unopened_by later (unopened_after one before)
+abbrev pub no_signs : Signs
+no_signs = record { heard = false; unopened = false; cueing = false; stopped = false }
+
+abbrev pub signs_after : Kept → Signs → Signs
+signs_after (kept.Sent c) signs = record signs { cueing = is_cue_command c }
+signs_after (kept.Heard h) signs = record signs { heard = true; unopened = signs.unopened && is_unopened h }
+signs_after kept.Silence signs = signs
+signs_after (kept.Called Take) signs = signs
+signs_after (kept.Called Stop) signs = record signs { stopped = true }
+
+abbrev pub signs_by : List Kept → Signs → Signs
+signs_by [] signs = signs
+signs_by (one ∷ later) signs = signs_by later (signs_after one signs)
 
 -- what a run does over a connection to its wire, and to this
 abbrev pub KeepsOn : {F : Type 0} → (F → Option (List ℕ)) → Kept → Keeping F → Keeping F → Type 0
 KeepsOn safe one old new = MayKeep (Notes safe) one old.recorder new.recorder
-    × (new.unopened ≡ unopened_after one old.unopened)
+    × (new.signs ≡ signs_after one old.signs)
 
 abbrev pub LosesIn : {F : Type 0} → (F → Option (List ℕ)) → Kept → Keeping F → Keeping F → Type 0
-LosesIn safe one old new = MayLose (Loses safe) one old.recorder new.recorder × (new.unopened ≡ old.unopened)
+LosesIn safe one old new = MayLose (Loses safe) one old.recorder new.recorder × (new.signs ≡ old.signs)
 
 abbrev pub playing_rules : {W F : Type 0} → (Act → W → W → Type 0) → (F → Option (List ℕ)) → Rules W (Keeping F)
 playing_rules does safe = record {
@@ -82,12 +94,13 @@ EndsOpen true old new = NotesEnd None old new
 EndsOpen false old new = new ≡ old
 
 -- its journal was ended, if it has one: first an exchange that is still open, and then with the outcome, if there is one; or why
--- it isn't whole is told
-abbrev pub IsClosed : {F : Type 0} → (F → Option (List ℕ)) → Stage → Option Lack → Option (Recording F) → Type 0
-IsClosed safe stage lack None = lack ≡ None
-IsClosed {F} safe stage None (Some recorder) = (last : Recording F) × EndsOpen (is_awaiting stage) recorder last
+-- it isn't whole is told, as if a command couldn't be kept
+abbrev pub IsClosed : {F : Type 0} → (F → Option (List ℕ)) → Stage → LineEnd → Option Lack → Option (Recording F) → Type 0
+IsClosed safe stage line lack None = lack ≡ None
+IsClosed {F} safe stage line None (Some recorder) = (line ≢ line_end.Unkept) × (last : Recording F)
+    × EndsOpen (is_awaiting stage) recorder last
     × (time : Moment) × (then : Recording F) × Adds safe last then (outcome_rows time (outcome_of stage))
-IsClosed safe stage (Some lack) (Some recorder) = Unit {0}
+IsClosed safe stage line (Some lack) (Some recorder) = lack.journal ≡ recorder.name
 
 -- with this ear a driver ran, and came to this end: before each command went out and each call was given its journal,
 -- if it has one, had the rows safe that were due. Then the journal was ended
@@ -99,10 +112,9 @@ pub record Plays {E W F : Type 0} (does : Act → W → W → Type 0) (safe : F 
   pub runs : HasRun (recorder_rules does safe) fold start.plan unit listens (record { ear = ear; state = start.state }) auto world
       left ran
   pub line_is : end.line ≡ line_end_of ran
-  pub outcome_is : end.outcome ≡ outcome_in_list start.from (outcome_of auto.state.stage)
-  pub reported_is : end.reported ≡ start.from + auto.state.settled
-  pub unopened_is : end.unopened ≡ unopened_by (kept_in (steps_in runs.run)) true
-  pub closed : IsClosed safe auto.state.stage end.unkept left.keep
+  pub reports : Reports start.from auto.state end
+  pub signs_are : end.signs ≡ signs_by (kept_in (steps_in runs.run)) signs_at_first
+  pub closed : IsClosed safe auto.state.stage end.line end.unkept left.keep
 
 -- ---- over a connection
 
@@ -116,7 +128,7 @@ pub data HasTried {E W F : Type 0} (does : Act → W → W → Type 0) (safe : F
       → HasTried does safe fold settings start ear world end
   unbegun : (ear' : E) (wire : W) (left : ℕ) (line : LineEnd)
       → HasAsked (asker_of settings.ask start) does fold settings ear ear' world.wire wire left (Some line) → end.line ≡ line
-      → HasTried does safe fold settings start ear world end
+      → Reports start.from start.state end → HasTried does safe fold settings start ear world end
 
 -- so with a new ear
 abbrev pub TriesBy : {W F : Type 0} → Hearing → (Act → W → W → Type 0) → (F → Option (List ℕ)) → RunSettings → Start
@@ -148,10 +160,11 @@ Limits wire time = option_map (λ l. l.most) wire.answer ≡ Some time
 -- of a run that stays stopped before there was one
 pub data HasSession {F : Type 0} (safe : F → Option (List ℕ)) (settings : RunSettings) (start : Start)
     (recorder : Option (Recording F)) (end : RunEnd) : Type 0 where
-  had_ended : IsSome (outcome_of start.state.stage) → end.line ≡ line_end.Unneeded → end.unopened ≡ false
+  had_ended : IsSome (outcome_of start.state.stage) → end.line ≡ line_end.Ran ran.Ended → end.signs ≡ no_signs
+      → Reports start.from start.state end → HasSession safe settings start recorder end
+  no_wire : end.line ≡ line_end.Failed → Reports start.from start.state end → HasSession safe settings start recorder end
+  unconnected : settings.stay ≡ true → end.line ≡ line_end.NotBegun why.Stopped → Reports start.from start.state end
       → HasSession safe settings start recorder end
-  no_wire : end.line ≡ line_end.Failed → HasSession safe settings start recorder end
-  unconnected : settings.stay ≡ true → end.line ≡ line_end.Stopped → HasSession safe settings start recorder end
   tried : (wire : Streamed) → wire.connection ≡ connection.Open → Limits wire (longest_answer settings)
       → TriesOver StreamDoes safe settings start wire recorder end
       → HasSession safe settings start recorder end

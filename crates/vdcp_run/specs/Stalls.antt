@@ -1,7 +1,5 @@
--- How long the first event is cued until that is told, and what the last command was for.
-use Rattle.std.specs.Prelude.{ℕ, ◌-◌, Bool, true, false, Option, None, Some, nat_lt, if◌then◌else◌}
-use Rattle.vdcp_auto.specs.State.{Awaiting, Ended, Ready, Stage}
-use Rattle.vdcp_auto.specs.declared.phase.Phase.{Phase}
+-- How long the first event is cued until that is told.
+use Rattle.std.specs.Prelude.{ℕ, ◌-◌, Bool, true, false, nat_lt, if◌then◌else◌}
 use Rattle.vdcp_drive.specs.declared.hearing.Hearing.{Hearing}
 use Rattle.vdcp_drive.specs.declared.hearing.Hearing.TheVariants as hears
 use Rattle.vdcp_run.specs.declared.stalling.Stall.{Stall}
@@ -19,8 +17,3 @@ stall_after false Nothing now = Nothing
 stall_after false (Since begun) now = Nothing
 stall_after true Nothing now = Since now
 stall_after true (Since begun) now = if nat_lt (now - begun) 5000000000 then Since begun else Told
-
-abbrev pub awaited_phase : Stage → Option Phase
-awaited_phase (Ready p) = None
-awaited_phase (Awaiting p) = Some p
-awaited_phase (Ended outcome) = None

@@ -1,14 +1,13 @@
 //! What an operator is told of a run that didn't end as it was to: how it came to that, and what to type next.
-ghost use Rattle.std.specs.Prelude.{◌≡◌, false, None, Some, ℕ};
-ghost use Rattle.vdcp_run.specs.Advice.{advice_after, is_before_play, next_after, reason_of};
-ghost use Rattle.vdcp_run.specs.Run.{journal_left, told_outcome};
+ghost use Rattle.std.specs.Prelude.{◌≡◌, None, Some, ℕ};
+ghost use Rattle.vdcp_run.specs.Advice.{advice_after, next_after, reason_of};
 ghost use Rattle.vdcp_run.specs.declared.advice.Next.TheVariants as next;
 
 use crate::lack::journal_left;
 use crate::run_end::RunEnd;
-use crate::settings::RunJournal;
+use crate::settings::{RunJournal, RunSettings};
 use std::fmt;
-use vdcp_auto::{Outcome, Phase};
+use vdcp_auto::{Mode, Outcome};
 use vdcp_text::{Failure, ItemText, NameText};
 use vdcp_value::{ClipId, Item, Rate};
 
@@ -18,34 +17,11 @@ pub struct Advice<'a> {
     pub next: Next<'a>,
 }
 
-/// What was seen of a run, beside how it ended.
-#[derive(Clone, Copy)]
-pub struct Seen {
-    /// The clip that the server doesn't have, if that ended the run.
-    pub missing: Option<ClipId>,
-    /// What the last command was for.
-    pub last: Option<Phase>,
-    /// Bytes came over the connection.
-    pub came: bool,
-}
-
-impl Seen {
-    pub fn new() -> Seen
-        ensures { result ≡ record { missing = None; last = None; came = false } }
-    {
-        Seen {
-            missing: None,
-            last: None,
-            came: false,
-        }
-    }
-}
-
 /// Events have their numbers in the whole list.
 #[derive(Clone, Copy)]
 pub enum Reason {
     Missing(usize, ClipId),
-    /// No PLAY went out for this event: the server refused a command before, or lost the cue again and again.
+    /// No PLAY went out for this event: the server refused its cue, or lost it again and again.
     RefusedCue(usize),
     /// NAK 01h came for a command of this event.
     Refused(usize),
@@ -75,19 +51,13 @@ pub enum Next<'a> {
 
 impl<'a> Advice<'a> {
     /// None if the run ended as it was to.
-    pub fn of_end(
-        end: &RunEnd<'_>,
-        journal: Option<RunJournal<'a>>,
-        seen: Seen,
-    ) -> Option<Advice<'a>>
-        ensures { result ≡ advice_after (told_outcome end.now.line end.now.outcome)
-            (journal_left end.now.unkept journal.entry) end.now.reported seen }
+    pub fn of_end(end: &RunEnd<'_>, settings: RunSettings<'a>) -> Option<Advice<'a>>
+        ensures { result ≡ advice_after settings.entry end.now }
     {
-        let journal = journal_left(end.unkept, journal);
-        let outcome = end.told_outcome();
-        match Next::after(outcome, journal, end.reported) {
+        let journal = journal_left(end.unkept, settings.journal);
+        match Next::after(end.told_outcome(), journal, end.reported) {
             Some(next) => Some(Advice {
-                reason: Reason::of(outcome, seen),
+                reason: Reason::of(end, settings.mode),
                 next,
             }),
             None => None,
@@ -131,32 +101,26 @@ impl<'a> Next<'a> {
 }
 
 impl Reason {
-    fn of(outcome: Option<Outcome>, seen: Seen) -> Option<Reason>
-        ensures { result ≡ reason_of outcome seen }
+    // (in confirm mode no command is refused)
+    fn of(end: &RunEnd<'_>, mode: Mode) -> Option<Reason>
+        ensures { result ≡ reason_of mode end.now }
     {
-        match (outcome?, seen.missing) {
-            (Outcome::Missing(k), Some(clip)) => Some(Reason::Missing(k, clip)),
-            (Outcome::Missing(_), None) => None,
-            (Outcome::Refused(k), _) if is_before_play(seen.last) => Some(Reason::RefusedCue(k)),
-            (Outcome::Refused(k), _) => Some(Reason::Refused(k)),
-            (Outcome::Foreign(k), _) => Some(Reason::Foreign(k)),
-            (Outcome::Strange(k), _) => Some(Reason::Strange(k)),
-            (Outcome::Denied, _) => Some(Reason::Denied),
-            (Outcome::Lost, _) if seen.came => Some(Reason::Lost),
-            (Outcome::Lost, _) => Some(Reason::Unheard),
-            (Outcome::Done | Outcome::Stopped, _) => None,
+        let loses_cues = end.signs.cueing || mode == Mode::Confirming;
+        match end.told_outcome()? {
+            Outcome::Missing(k) => match end.missing {
+                Some(clip) => Some(Reason::Missing(k, clip)),
+                None => None,
+            },
+            Outcome::Refused(k) if loses_cues => Some(Reason::RefusedCue(k)),
+            Outcome::Refused(k) => Some(Reason::Refused(k)),
+            Outcome::Foreign(k) => Some(Reason::Foreign(k)),
+            Outcome::Strange(k) => Some(Reason::Strange(k)),
+            Outcome::Denied => Some(Reason::Denied),
+            Outcome::Lost if end.signs.heard => Some(Reason::Lost),
+            Outcome::Lost => Some(Reason::Unheard),
+            Outcome::Done | Outcome::Stopped => None,
         }
     }
-}
-
-// After the PLAY of an event none of these comes for it.
-fn is_before_play(last: Option<Phase>) -> bool
-    ensures { result ≡ is_before_play last }
-{
-    matches!(
-        last,
-        Some(Phase::Exists(_) | Phase::Cue(_) | Phase::Wait(_))
-    )
 }
 
 impl fmt::Display for Advice<'_> {

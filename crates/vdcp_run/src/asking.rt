@@ -7,7 +7,7 @@ ghost use Rattle.vdcp_list.specs.Rests.{FromEvent, items_left};
 ghost use Rattle.vdcp_run.specs.Asking.{Comes, HasAsked, asker_of, asking, is_answered, is_called_off, is_opening, is_question, left_line, line_of, may_ask, over, ran_line, start_of};
 
 use crate::console::Console;
-use crate::run_end::LineEnd;
+use crate::run_end::{LineEnd, Why};
 use crate::settings::RunSettings;
 use std::io;
 use std::rt::{Clock, Files};
@@ -256,12 +256,12 @@ impl<
         }) }
     {
         if self.is_called_off() {
-            return Some(LineEnd::Stopped);
+            return Some(LineEnd::NotBegun(Why::Stopped));
         }
         match self.state {
-            None => Some(LineEnd::Unanswered),
+            None => Some(LineEnd::NotBegun(Why::Unanswered)),
             Some(0x01) => None,
-            Some(_) => Some(LineEnd::Occupied),
+            Some(_) => Some(LineEnd::NotBegun(Why::Occupied)),
         }
     }
 }
@@ -271,11 +271,10 @@ fn ran_line(ran: Ran, outcome: Option<Outcome>) -> Option<LineEnd>
     ensures { result ≡ ran_line ran outcome }
 {
     match (ran, outcome) {
-        (Ran::Closed, _) => Some(LineEnd::Closed),
-        (Ran::Spent, _) => Some(LineEnd::Spent),
+        (Ran::Closed | Ran::Spent, _) => Some(LineEnd::Ran(ran)),
         (Ran::Ended, Some(Outcome::Denied)) => None,
-        (Ran::Ended, Some(Outcome::Strange(_))) => Some(LineEnd::Occupied),
-        (Ran::Ended, _) => Some(LineEnd::Unanswered),
+        (Ran::Ended, Some(Outcome::Strange(_))) => Some(LineEnd::NotBegun(Why::Occupied)),
+        (Ran::Ended, _) => Some(LineEnd::NotBegun(Why::Unanswered)),
     }
 }
 

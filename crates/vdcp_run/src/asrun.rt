@@ -4,7 +4,7 @@ ghost use Rattle.std.specs.Prelude.{◌≡◌, ◌+◌, IfErr, IfOk, OnOk};
 ghost use Rattle.vdcp_run.specs.Run.{IsAsrunMade, IsListed, IsSaved, IsUnlisted, IsUnwritten, reported_text, wanted_after};
 
 use crate::place::{Place, make_beside, not_made};
-use crate::run_end::LineEnd;
+use crate::run_end::{LineEnd, Why};
 use crate::saved::SavedText;
 use crate::settings::{RunJournal, RunSettings};
 use std::fs::{self, OpenFile};
@@ -29,7 +29,7 @@ pub fn save_asrun<'a, R: Files + AllocGlobal, S: Source>(
         controller.now.source.from (controller.now.source.from + controller.now.state.settled)
         (wanted_after line settings.entry.asrun) result }
 {
-    if line == LineEnd::Occupied {
+    if line == LineEnd::NotBegun(Why::Occupied) {
         return None;
     }
     let name = settings.asrun?;

@@ -1,9 +1,10 @@
 //! The operator's side of a run: calls, page, progress line and what is told.
 ghost use Rattle.std.specs.Prelude.{◌≡◌};
-ghost use Rattle.vdcp_run.specs.Run.{HasAsrun, IsEndBy};
+ghost use Rattle.vdcp_run.specs.Ends.{Reports};
+ghost use Rattle.vdcp_run.specs.Run.{HasAsrun};
 
 use crate::lack::Lack;
-use crate::run_end::{LineEnd, RunEnd, ended};
+use crate::run_end::{LineEnd, RunEnd, Signs, ended};
 use crate::settings::RunSettings;
 use crate::stalling::Stalling;
 use crate::staying::later_of;
@@ -13,7 +14,7 @@ use vdcp_auto::{Controller, Heard, Phase, Source};
 use vdcp_list::Rest;
 use vdcp_log::Log;
 use vdcp_operator::{Hand, Progress};
-use vdcp_text::Failure;
+use vdcp_text::{Failure, OutcomeText};
 
 const ERASE: &'static str = "\r\x1b[K";
 
@@ -54,11 +55,6 @@ impl<
         }
     }
 
-    /// What the last command was for whose answer was awaited.
-    pub fn last(&self) -> Option<Phase> {
-        self.stalling.last()
-    }
-
     pub fn note_sent(&mut self)
         ensures { self.new.hand ≡ self.old.hand }
     {
@@ -91,7 +87,7 @@ impl<
     }
 
     /// Tells how the run goes on after this try.
-    pub fn tell_again(&self, end: &Result<RunEnd<'_>, Failure<'_>>) {
+    pub fn tell_again(&self, end: &Result<RunEnd<'_>, Failure<'_>>, later: RunSettings<'_>) {
         let end = match end {
             Ok(end) => end,
             Err(failure) => {
@@ -99,10 +95,11 @@ impl<
                 return;
             }
         };
-        let event = end.reported;
+        let (event, outcome) = (end.reported, OutcomeText(end.told_outcome()));
         match end.line.failure() {
             Some(failure) => self.tell(&format_args!("{failure}: connecting again")),
             None if end.is_by_line() => self.tell(&"lost: connecting again"),
+            None if later.from.is_some() => self.tell(&format_args!("{outcome}: it is left out")),
             None => self.tell(&format_args!(
                 "the server lost the port: going on with event {event}"
             )),
@@ -128,19 +125,19 @@ impl<
         &mut self,
         controller: &Controller<Rest<S>>,
         line: LineEnd,
-        unopened: bool,
+        signs: Signs,
         unkept: Option<Lack<'a>>,
         left: u32,
         settings: RunSettings<'a>,
     ) -> RunEnd<'a>
-        ensures of_controller { IsEndBy controller.now result }
+        ensures reports { Reports controller.now.source.from controller.now.state result }
         ensures line { result.line ≡ line }
-        ensures unopened { result.unopened ≡ unopened }
+        ensures signs { result.signs ≡ signs }
         ensures asrun { HasAsrun settings.entry (S.items controller.now.source.source) result }
         ensures kept { result.unkept ≡ unkept.entry }
     {
-        let end = ended(self.rt, controller, line, unopened, unkept, left, settings);
-        if later_of(&end, settings).is_none() {
+        let end = ended(self.rt, controller, line, signs, unkept, left, settings);
+        if later_of(&end, controller.source().whole().len(), settings).is_none() {
             if let Some(progress) = &mut self.progress {
                 progress.clear();
             }

@@ -14,11 +14,6 @@ pub struct Lack<'a> {
 }
 
 impl fmt::Display for Lack<'_> {
-    ghost use Rattle.std.specs.Prelude.{Some};
-    ghost use Rattle.vdcp_run.specs.Run.{befallen_text};
-
-    ghost output = { λ lack. Some (befallen_text lack.journal lack.fault) };
-
     fn fmt<W: fmt::Write>(&self, f: &mut fmt::Formatter<W>) -> fmt::Result {
         let journal = NameText(self.journal);
         match self.fault {

@@ -28,11 +28,11 @@ pub fn only_questions_are_asked<E: Ear, W: Wire>()
 {}
 
 /// A run that stays and begins anew in its journal begins behind all that aired or may have aired before: with the first
-/// event that isn't reported, if that can't have aired, and else behind it.
+/// event that isn't reported, if that can't have aired, and else, or if it can't be played, behind it.
 pub fn a_new_run_begins_behind()
     ensures { (before next : RunSettings) (items : List Item) (end : Result RunEnd Failure) (name : Bor (List ℕ))
         → CameTo before items end → later_after before (length items) end ≡ Some next
-        → next.journal ≡ Some (journals.Again name) → BeginsBehind items next }
+        → next.journal ≡ Some (journals.Again name) → BeginsBehind items end next }
 {}
 
 /// A run that doesn't stay makes one try: with the settings that it has.

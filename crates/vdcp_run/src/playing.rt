@@ -1,15 +1,13 @@
 //! What takes part in a run beside its wire: the journal's recorder and the console.
-ghost use Rattle.std.specs.Prelude.{◌≡◌};
-ghost use Rattle.vdcp_run.specs.Session.{is_unopened};
-
 use crate::console::Console;
+use crate::run_end::Signs;
 use std::io;
 use std::rt::{Clock, Files};
 use vdcp_auto::{Controller, Heard, Source};
 use vdcp_drive::{Call, Hooks, KeepFault, Next};
 use vdcp_journal_file::{Disk, Recorder};
 use vdcp_list::Rest;
-use vdcp_words::{Command, Reply};
+use vdcp_words::Command;
 
 #[derive(Drop)]
 pub struct Playing<'a, 'r, 'l, R: Clock, F: Disk, I: io::Read, O: io::Write, V: io::Write> {
@@ -17,14 +15,7 @@ pub struct Playing<'a, 'r, 'l, R: Clock, F: Disk, I: io::Read, O: io::Write, V: 
     pub console: Console<'r, 'l, R, I, O, V>,
     /// The turns that may still be made.
     pub left: u32,
-    /// Only such answers came as a port gives that isn't open.
-    pub unopened: bool,
-}
-
-fn is_unopened(heard: Heard) -> bool
-    ensures { result ≡ is_unopened heard }
-{
-    matches!(heard, Heard::Reply(Reply::Nak(_) | Reply::Present(_)))
+    pub signs: Signs,
 }
 
 impl<
@@ -40,7 +31,7 @@ impl<
 
     ghost Journal = { Keeping F };
 
-    ghost journal = { λ p. record { recorder = p.recorder; unopened = p.unopened } };
+    ghost journal = { λ p. record { recorder = p.recorder; signs = p.signs } };
 
     ghost asks = { λ _ _ _ old new. new ≡ old };
 
@@ -57,18 +48,22 @@ impl<
     }
 
     fn keep_call(&mut self, call: Call) -> Result<(), KeepFault> {
-        Hooks::<Rest<S>>::keep_call(&mut self.recorder, call)
+        Hooks::<Rest<S>>::keep_call(&mut self.recorder, call)?;
+        self.signs.note_call(call);
+        Ok(())
     }
 
     fn keep_sent(&mut self, unit: u8, command: &Command, bytes: &[u8]) -> Result<(), KeepFault> {
         self.console.note_sent();
-        Hooks::<Rest<S>>::keep_sent(&mut self.recorder, unit, command, bytes)
+        Hooks::<Rest<S>>::keep_sent(&mut self.recorder, unit, command, bytes)?;
+        self.signs.note_sent(*command);
+        Ok(())
     }
 
     fn note_end(&mut self, heard: Option<Heard>) {
         self.console.note_end(heard);
         if let Some(heard) = heard {
-            self.unopened = self.unopened && is_unopened(heard);
+            self.signs.note_heard(heard);
         }
         Hooks::<Rest<S>>::note_end(&mut self.recorder, heard);
     }

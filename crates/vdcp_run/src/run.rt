@@ -1,15 +1,11 @@
 //! The subcommand `run`: its files, one session, and the report.
-ghost use Rattle.std.specs.Io.KnownBytes.{Appends, Keeps};
-ghost use Rattle.std.specs.Prelude.{◌≡◌, ◌⊎◌, ◌<◌, ◌≤◌, IfErr, IfOk, IfSome, List, OnOk, length, ℕ};
-ghost use Rattle.vdcp_files.specs.Files.{IsWholeList, file};
+ghost use Rattle.std.specs.Prelude.{◌≡◌, ◌<◌, ◌≤◌, IfErr, IfOk, IfSome, OnOk, length};
+ghost use Rattle.vdcp_files.specs.Files.{file};
 ghost use Rattle.vdcp_list.specs.List.{items_of};
 ghost use Rattle.vdcp_list.specs.Playlists.{IsListOf};
-ghost use Rattle.vdcp_run.specs.Advice.{IsMissing};
-ghost use Rattle.vdcp_run.specs.Run.{IsApart, IsEventRefused, IsLastTry, IsListRefused, IsNoEvent, IsNotBegun, IsOverList, IsPlayed, IsRun, IsRunRefused, IsTried, IsUnplayed, IsUntried, IsUntriedIn, first_event, later_after, told_of_list, unbegun_journal};
-ghost use Rattle.vdcp_text.specs.Failure.{failure_line};
-ghost use Rattle.vdcp_wire.specs.Address.{IsAddress};
+ghost use Rattle.vdcp_run.specs.Run.{IsApart, IsLastTry, IsPlayed, IsRun, IsTried, IsUntried, first_event, later_after, unbegun_journal};
 
-use crate::advice::{Advice, Seen};
+use crate::advice::Advice;
 use crate::begin::begin;
 use crate::console::Console;
 use crate::place::{Apart, tell_place};
@@ -21,12 +17,11 @@ use std::fs::{self, File};
 use std::io;
 use std::net::{Net, SocketAddrV4};
 use std::rt::{Clock, Files};
-use vdcp_auto::{Outcome, Source};
+use vdcp_auto::Source;
 use vdcp_files::NamedFile;
 use vdcp_log::{Log, Side};
 use vdcp_operator::Hand;
 use vdcp_text::{Failure, JournalFault};
-use vdcp_value::ClipId;
 use vdcp_wire::address_of;
 
 /// Plays a list through the port of a server at `address`: an IPv4 address, a colon and a TCP port. However the run ends,
@@ -74,33 +69,11 @@ pub fn do_run<
     requires unit { settings.unit ≤ 15 }
     requires some { 1 ≤ settings.limit }
     requires few { settings.limit ≤ 1000 }
-    ensures run { result ≡ 0 → IsRun settings.entry (file list.entry.name (L.remaining list.entry.reader))
-        (W.contents out.old) (W.contents out.new) 0 }
-    ensures untold { result ≡ 0 → Keeps (E.contents err.old) (E.contents err.new) }
-    ensures others { result ≡ 1 →
-        (IsRun settings.entry (file list.entry.name (L.remaining list.entry.reader)) (W.contents out.old)
-        (W.contents out.new) 1
-        × Keeps (E.contents err.old) (E.contents err.new))
-        ⊎ IsListRefused settings.entry.rate (file list.entry.name (L.remaining list.entry.reader))
-        (W.contents out.old) (W.contents out.new) (E.contents err.old) (E.contents err.new)
-        ⊎ IsRunRefused settings.entry (file list.entry.name (L.remaining list.entry.reader))
-        (W.contents out.old) (W.contents out.new) (E.contents err.old) (E.contents err.new)
-        ⊎ IsNotBegun settings.entry.rate (file list.entry.name (L.remaining list.entry.reader))
-        (W.contents out.old) (W.contents out.new) (E.contents err.old) (E.contents err.new)
-        ⊎ IsEventRefused settings.entry (file list.entry.name (L.remaining list.entry.reader))
-        (W.contents out.old) (W.contents out.new) (E.contents err.old) (E.contents err.new) }
-    ensures no_address { result ≡ 2 → ¬ IsAddress address.now
-        × Appends (E.contents err.old) (E.contents err.new) (failure_line Failure.Address) }
-    ensures address { ¬ IsAddress address.now → ((result ≡ 2) ⊎ (result ≡ 3))
-        × Keeps (W.contents out.old) (W.contents out.new) }
-    ensures silent { Keeps (W.contents out.old) (W.contents out.new)
-        ⊎ IsWholeList settings.entry.rate (file list.entry.name (L.remaining list.entry.reader)) }
-    ensures statuses { result ≤ 3 }
+    ensures { result ≡ 0 → IsRun settings.entry (file list.entry.name (L.remaining list.entry.reader)) }
 {
-    let mut seen = Seen::new();
-    match run_shown(rt, address, list, settings, showing, hand, &mut seen) {
+    match run_shown(rt, address, list, settings, showing, hand) {
         Ok(end) => {
-            *advice = Advice::of_end(&end, settings.journal, seen);
+            *advice = Advice::of_end(&end, settings);
             end.tell(out, err).unwrap_or(3)
         }
         Err(failure) => {
@@ -125,16 +98,11 @@ fn run_shown<
     settings: RunSettings<'a>,
     showing: Showing<V>,
     hand: Hand<'r, R, I, O>,
-    seen: &mut Seen,
 ) -> Result<RunEnd<'a>, Failure<'a>>
     requires unit { settings.unit ≤ 15 }
     requires some { 1 ≤ settings.limit }
     requires few { settings.limit ≤ 1000 }
-    ensures address { OnOk result (IsAddress address.now) }
-    ensures whole { OnOk result (IsWholeList settings.entry.rate (file list.entry.name (L.remaining list.entry.reader))) }
-    ensures played { IfOk result (IsPlayed settings.entry (file list.entry.name (L.remaining list.entry.reader))) }
-    ensures unplayed { IfErr result (IsUnplayed settings.entry address.now
-        (file list.entry.name (L.remaining list.entry.reader))) }
+    ensures { IfOk result (IsPlayed settings.entry (file list.entry.name (L.remaining list.entry.reader))) }
 {
     let Showing {
         terminal,
@@ -146,7 +114,7 @@ fn run_shown<
         console: Console::new(rt, hand, terminal, &log, settings),
         pace: Pace::new(rt),
     };
-    session.run_list(address, list, settings, seen)
+    session.run_list(address, list, settings)
 }
 
 impl<
@@ -162,18 +130,11 @@ impl<
         address: &str,
         list: NamedFile<'a, L>,
         settings: RunSettings<'a>,
-        seen: &mut Seen,
     ) -> Result<RunEnd<'a>, Failure<'a>>
         requires unit { settings.unit ≤ 15 }
         requires some { 1 ≤ settings.limit }
         requires few { settings.limit ≤ 1000 }
-        ensures address { OnOk result (IsAddress address.now) }
-        ensures whole { OnOk result (IsWholeList settings.entry.rate
-            (file list.entry.name (L.remaining list.entry.reader))) }
-        ensures played { IfOk result (IsPlayed settings.entry
-            (file list.entry.name (L.remaining list.entry.reader))) }
-        ensures unplayed { IfErr result (IsUnplayed settings.entry address.now
-            (file list.entry.name (L.remaining list.entry.reader))) }
+        ensures { IfOk result (IsPlayed settings.entry (file list.entry.name (L.remaining list.entry.reader))) }
     {
         let Ok(address) = address_of(address) else {
             return Err(Failure::Address);
@@ -181,11 +142,8 @@ impl<
         let (rt, name) = (self.console.rt, list.name);
         let (events, _) = read_events(rt, list, settings)?;
         tell_place(rt, settings, self.console.log);
-        match self.play_events(address, &events, settings, seen) {
-            Ok(end) => {
-                seen.missing = missing_clip(&events, end.told_outcome());
-                Ok(end)
-            }
+        match self.play_events(address, &events, settings) {
+            Ok(end) => Ok(end),
             Err(failure) => Err(told_of_list(name, failure)),
         }
     }
@@ -195,21 +153,19 @@ impl<
         address: SocketAddrV4,
         events: &vdcp_list::List,
         settings: RunSettings<'a>,
-        seen: &mut Seen,
     ) -> Result<RunEnd<'a>, Failure<'a>>
         requires unit { settings.unit ≤ 15 }
         requires some { 1 ≤ settings.limit }
         requires few { settings.limit ≤ 1000 }
         requires listed { first_event settings.from ≤ length (items_of events.now) }
-        ensures played { IfOk result (IsLastTry settings.entry (items_of events.now)) }
-        ensures untried { IfErr result (IsUntriedIn settings.entry (items_of events.now)) }
+        ensures { IfOk result (IsLastTry settings.entry (items_of events.now)) }
     {
         let mut settings = settings;
-        let (mut end, mut session) = self.try_events(address, events, settings, seen);
+        let (mut end, mut session) = self.try_events(address, events, settings);
         'tries: while let Some(later) = later_after(&end, events.len(), settings) {
-            session.console.tell_again(&end);
+            session.console.tell_again(&end, later);
             settings = later;
-            let (next, rest) = session.try_events(address, events, settings, seen);
+            let (next, rest) = session.try_events(address, events, settings);
             end = next;
             session = rest;
         }
@@ -221,7 +177,6 @@ impl<
         address: SocketAddrV4,
         events: &vdcp_list::List,
         settings: RunSettings<'a>,
-        seen: &mut Seen,
     ) -> (Result<RunEnd<'a>, Failure<'a>>, Self)
         requires unit { settings.unit ≤ 15 }
         requires some { 1 ≤ settings.limit }
@@ -235,7 +190,7 @@ impl<
             Ok((begun, _)) => begun,
             Err(failure) => return (Err(failure), self),
         };
-        let (end, session) = self.play_at(address, begun, settings, seen);
+        let (end, session) = self.play_at(address, begun, settings);
         if let Some(name) = unbegun_journal(&end, settings.journal) {
             let _ = fs::remove_file(rt, name);
         }
@@ -255,18 +210,9 @@ fn later_after<'a>(
     ensures fewer { IfSome result (λ later. later.listens < settings.entry.listens) }
 {
     match end {
-        Ok(end) => later_of(end, settings),
+        Ok(end) => later_of(end, count, settings),
         Err(Failure::MayHaveAired(event)) => leaving_out(*event, count, settings),
         Err(_) => None,
-    }
-}
-
-fn missing_clip<S: Source>(source: &S, outcome: Option<Outcome>) -> Option<ClipId>
-    ensures { IfSome result (IsMissing (S.items source.now) outcome) }
-{
-    match outcome {
-        Some(Outcome::Missing(k)) if k < source.len() => Some(source.at(k).id),
-        _ => None,
     }
 }
 
@@ -291,8 +237,6 @@ fn read_events<'a, R: Files + AllocGlobal, L: io::Read + Drop>(
     ensures events { IfOk result (λ r. IsListOf settings.entry.rate (L.remaining list.entry.reader) (items_of r.0)) }
     ensures listed { IfOk result (λ r. first_event settings.entry.from ≤ length (items_of r.0)) }
     ensures apart { IfOk result (λ r. IsApart settings.entry.asrun list.entry.name r.1) }
-    ensures unplayed { IfErr result (λ failure. (address : List ℕ) → IsAddress address → IsUnplayed settings.entry address
-        (file list.entry.name (L.remaining list.entry.reader)) failure) }
 {
     let name = list.name;
     let events = list.read_list(rt.alloc(), settings.rate)?;
@@ -306,8 +250,7 @@ fn test_list<'a, R: Files>(
     asrun: Option<&'a str>,
     list: &'a str,
 ) -> Result<Apart<'a>, Failure<'a>>
-    ensures apart { IfOk result (IsApart asrun.entry list.entry) }
-    ensures over { IfErr result (IsOverList asrun.entry) }
+    ensures { IfOk result (IsApart asrun.entry list.entry) }
 {
     match Apart::test(rt, asrun, list) {
         Ok(apart) => Ok(apart),
@@ -316,9 +259,7 @@ fn test_list<'a, R: Files>(
 }
 
 // A journal of another list is the list's fault: its name is told, and not the journal's row.
-fn told_of_list<'a>(list: &'a str, failure: Failure<'a>) -> Failure<'a>
-    ensures { result ≡ told_of_list list.entry failure.entry }
-{
+fn told_of_list<'a>(list: &'a str, failure: Failure<'a>) -> Failure<'a> {
     match failure {
         Failure::JournalRow(_, _, JournalFault::List) => Failure::NotTheList(list),
         other => other,
@@ -326,8 +267,7 @@ fn told_of_list<'a>(list: &'a str, failure: Failure<'a>) -> Failure<'a>
 }
 
 fn test_event<'a, S: Source>(source: &S, from: Option<usize>) -> Result<(), Failure<'a>>
-    ensures listed { OnOk result (first_event from ≤ length (S.items source.now)) }
-    ensures missing { IfErr result (IsNoEvent from (S.items source.now)) }
+    ensures { OnOk result (first_event from ≤ length (S.items source.now)) }
 {
     match from {
         Some(event) if event > source.len() => Err(Failure::NoEvent(event)),

@@ -1,8 +1,10 @@
 //! How a run ended, what is printed of that, and its exit status.
-ghost use Rattle.std.specs.Io.KnownBytes.{Appends};
-ghost use Rattle.std.specs.Prelude.{◌≡◌, IfOk, OnOk};
-ghost use Rattle.vdcp_run.specs.Ends.{line_end_of};
-ghost use Rattle.vdcp_run.specs.Run.{HasAsrun, IsEndBy, asrun_failure, end_text, fault_text, faults_text, has_lost_port, is_by_line, is_refused, lack_text, line_failure, run_status, told_outcome};
+ghost use Rattle.std.specs.Prelude.{◌≡◌, IfOk};
+ghost use Rattle.vdcp_drive.specs.declared.hooks.Kept.TheVariants as kept;
+ghost use Rattle.vdcp_run.specs.Advice.{missing_in};
+ghost use Rattle.vdcp_run.specs.Ends.{Reports, line_end_of};
+ghost use Rattle.vdcp_run.specs.Session.{no_signs, signs_after, signs_at_first};
+ghost use Rattle.vdcp_run.specs.Run.{HasAsrun, asrun_failure, has_lost_port, is_by_line, is_refused, is_unplayable, line_failure, run_status, told_outcome};
 
 use crate::asrun::save_asrun;
 use crate::in_list::{outcome_in_list, reported_in_list};
@@ -12,27 +14,32 @@ use crate::settings::{RunJournal, RunSettings};
 use crate::staying::later_of;
 use std::io;
 use std::rt::Files;
-use vdcp_auto::{Controller, Outcome, Source};
-use vdcp_drive::{BrokenOff, Ran};
+use vdcp_auto::{Controller, Heard, Outcome, Source};
+use vdcp_drive::{BrokenOff, Call, Ran};
 use vdcp_list::Rest;
 use vdcp_text::{Failure, OutcomeText};
+use vdcp_value::ClipId;
+use vdcp_words::{Command, Reply};
 
-/// How the line ended. After the last three the list wasn't begun.
+/// How the line ended.
 #[derive(Clone, Copy, PartialEq, Eq)]
 pub enum LineEnd {
-    /// The controller has ended.
-    Unneeded,
-    Closed,
-    /// All turns were made.
-    Spent,
+    /// The controller has ended, the other end has closed the line, or all turns were made.
+    Ran(Ran),
     Failed,
     /// The next command couldn't be kept in the journal, and wasn't sent.
     Unkept,
+    /// The list wasn't begun.
+    NotBegun(Why),
+}
+
+#[derive(Clone, Copy, PartialEq, Eq)]
+pub enum Why {
     /// Something is cued at the port, or plays there.
     Occupied,
     /// The port didn't answer what it was asked.
     Unanswered,
-    /// The operator stopped while the port was asked.
+    /// The operator stopped before.
     Stopped,
 }
 
@@ -41,27 +48,85 @@ impl LineEnd {
         ensures { result ≡ line_end_of ran }
     {
         match ran {
-            Ok(Ran::Ended) => LineEnd::Unneeded,
-            Ok(Ran::Closed) => LineEnd::Closed,
-            Ok(Ran::Spent) => LineEnd::Spent,
+            Ok(ran) => LineEnd::Ran(ran),
             Err(BrokenOff::Device) => LineEnd::Failed,
             Err(BrokenOff::Unkept) => LineEnd::Unkept,
-            Err(BrokenOff::Left) => LineEnd::Stopped,
+            Err(BrokenOff::Left) => LineEnd::NotBegun(Why::Stopped),
         }
     }
 
-    /// The failure to report of the line itself.
+    /// The failure to report of the line itself: that of the journal is reported by its own, and a port that didn't answer
+    /// by the outcome.
     pub fn failure(self) -> Option<Failure<'static>>
         ensures { result ≡ line_failure self }
     {
         match self {
-            // (that of the journal is reported, and that nothing was answered is the outcome)
-            LineEnd::Unneeded | LineEnd::Unkept | LineEnd::Unanswered | LineEnd::Stopped => None,
-            LineEnd::Closed => Some(Failure::LineClosed),
-            LineEnd::Spent => Some(Failure::Spent),
+            LineEnd::Ran(Ran::Closed) => Some(Failure::LineClosed),
+            LineEnd::Ran(Ran::Spent) => Some(Failure::Spent),
             LineEnd::Failed => Some(Failure::LineFailed),
-            LineEnd::Occupied => Some(Failure::NotEmpty),
+            LineEnd::NotBegun(Why::Occupied) => Some(Failure::NotEmpty),
+            LineEnd::Ran(Ran::Ended) | LineEnd::Unkept => None,
+            LineEnd::NotBegun(Why::Unanswered | Why::Stopped) => None,
         }
+    }
+}
+
+/// What passed over a connection, as far as it says what an end means, and whether a run that stays goes on.
+#[derive(Clone, Copy)]
+pub struct Signs {
+    /// Something was heard.
+    pub heard: bool,
+    /// Only such answers came as a port gives that isn't open.
+    pub unopened: bool,
+    /// The last command cued an event.
+    pub cueing: bool,
+    /// The operator stopped.
+    pub stopped: bool,
+}
+
+impl Signs {
+    /// Before a run.
+    pub fn at_first() -> Signs
+        ensures { result ≡ signs_at_first }
+    {
+        Signs {
+            heard: false,
+            unopened: true,
+            cueing: false,
+            stopped: false,
+        }
+    }
+
+    /// Where no run took place.
+    pub fn none() -> Signs
+        ensures { result ≡ no_signs }
+    {
+        Signs {
+            heard: false,
+            unopened: false,
+            cueing: false,
+            stopped: false,
+        }
+    }
+
+    pub fn note_sent(&mut self, command: Command)
+        ensures { self.new ≡ signs_after (kept.Sent command) self.old }
+    {
+        self.cueing = matches!(command, Command::PlayCue(_) | Command::CueData(..));
+    }
+
+    pub fn note_heard(&mut self, heard: Heard)
+        ensures { self.new ≡ signs_after (kept.Heard heard) self.old }
+    {
+        self.heard = true;
+        self.unopened = self.unopened
+            && matches!(heard, Heard::Reply(Reply::Nak(_) | Reply::Present(_)));
+    }
+
+    pub fn note_call(&mut self, call: Call)
+        ensures { self.new ≡ signs_after (kept.Called call) self.old }
+    {
+        self.stopped = self.stopped || call == Call::Stop;
     }
 }
 
@@ -75,8 +140,9 @@ pub struct RunEnd<'a> {
     /// The first event that isn't reported.
     pub reported: usize,
     pub line: LineEnd,
-    /// Over the connection came only such answers as a port gives that isn't open.
-    pub unopened: bool,
+    pub signs: Signs,
+    /// The clip that the server doesn't have, if that ended the controller.
+    pub missing: Option<ClipId>,
     /// None if no as-run file is wanted.
     pub asrun: Option<Result<SavedText<'a>, Failure<'a>>>,
     pub unkept: Option<Lack<'a>>,
@@ -87,9 +153,7 @@ pub struct RunEnd<'a> {
 impl<'a> RunEnd<'a> {
     /// Tells `out` what came of the run, then `err` what failed, and gives the exit status.
     pub fn tell<W: io::Write, E: io::Write>(self, out: &mut W, err: &mut E) -> io::Result<u8>
-        ensures lines { OnOk result (Appends (W.contents out.old) (W.contents out.new) (end_text self.entry)) }
-        ensures faults { OnOk result (Appends (E.contents err.old) (E.contents err.new) (faults_text self.entry)) }
-        ensures status { IfOk result (λ status. status ≡ run_status self.entry) }
+        ensures { IfOk result (λ status. status ≡ run_status self.entry) }
     {
         let written = self.write_lines(out);
         // (also if `out` failed)
@@ -98,9 +162,7 @@ impl<'a> RunEnd<'a> {
         Ok(self.status())
     }
 
-    fn write_lines<W: io::Write>(&self, out: &mut W) -> io::Result<()>
-        ensures { OnOk result (Appends (W.contents out.old) (W.contents out.new) (end_text self.now)) }
-    {
+    fn write_lines<W: io::Write>(&self, out: &mut W) -> io::Result<()> {
         let reported = self.reported;
         let outcome = OutcomeText(self.told_outcome());
         writeln!(out, "reported {reported}")?;
@@ -113,14 +175,10 @@ impl<'a> RunEnd<'a> {
         ensures { result ≡ told_outcome self.now.line self.now.outcome }
     {
         match self.line {
-            LineEnd::Unanswered => Some(Outcome::Lost),
-            LineEnd::Stopped => Some(Outcome::Stopped),
-            LineEnd::Unneeded
-            | LineEnd::Closed
-            | LineEnd::Spent
-            | LineEnd::Failed
-            | LineEnd::Unkept
-            | LineEnd::Occupied => self.outcome,
+            LineEnd::NotBegun(Why::Unanswered) => Some(Outcome::Lost),
+            LineEnd::NotBegun(Why::Stopped) => Some(Outcome::Stopped),
+            LineEnd::NotBegun(Why::Occupied) => self.outcome,
+            LineEnd::Ran(_) | LineEnd::Failed | LineEnd::Unkept => self.outcome,
         }
     }
 
@@ -130,7 +188,7 @@ impl<'a> RunEnd<'a> {
     {
         match (self.line, self.told_outcome()) {
             (_, Some(Outcome::Lost)) => true,
-            (LineEnd::Closed | LineEnd::Failed, None) => true,
+            (LineEnd::Ran(Ran::Closed) | LineEnd::Failed, None) => true,
             _ => false,
         }
     }
@@ -141,7 +199,7 @@ impl<'a> RunEnd<'a> {
     {
         match journal {
             RunJournal::New(_) | RunJournal::Again(_) => false,
-            RunJournal::Older(_) => self.unopened && self.is_refused(),
+            RunJournal::Older(_) => self.signs.unopened && self.is_refused(),
         }
     }
 
@@ -149,7 +207,18 @@ impl<'a> RunEnd<'a> {
         ensures { result ≡ is_refused self.now.line self.now.outcome }
     {
         match (self.line, self.outcome) {
-            (LineEnd::Unneeded, Some(Outcome::Denied | Outcome::Refused(_))) => true,
+            (LineEnd::Ran(Ran::Ended), Some(Outcome::Denied | Outcome::Refused(_))) => true,
+            _ => false,
+        }
+    }
+
+    /// Whether the server doesn't have the clip of the next event, or refused its cue.
+    pub fn is_unplayable(&self) -> bool
+        ensures { result ≡ is_unplayable self.now.line self.now.signs self.now.outcome }
+    {
+        match (self.line, self.outcome) {
+            (LineEnd::Ran(Ran::Ended), Some(Outcome::Missing(_))) => true,
+            (LineEnd::Ran(Ran::Ended), Some(Outcome::Refused(_))) => self.signs.cueing,
             _ => false,
         }
     }
@@ -163,9 +232,7 @@ impl<'a> RunEnd<'a> {
         }
     }
 
-    fn write_faults<E: io::Write>(&self, err: &mut E) -> io::Result<()>
-        ensures { OnOk result (Appends (E.contents err.old) (E.contents err.new) (faults_text self.now)) }
-    {
+    fn write_faults<E: io::Write>(&self, err: &mut E) -> io::Result<()> {
         write_fault(self.unwritten(), err)?;
         write_lack(self.unkept, err)?;
         write_fault(self.line.failure(), err)
@@ -186,18 +253,14 @@ impl<'a> RunEnd<'a> {
     }
 }
 
-fn write_fault<E: io::Write>(failure: Option<Failure<'_>>, err: &mut E) -> io::Result<()>
-    ensures { OnOk result (Appends (E.contents err.old) (E.contents err.new) (fault_text failure.entry)) }
-{
+fn write_fault<E: io::Write>(failure: Option<Failure<'_>>, err: &mut E) -> io::Result<()> {
     match failure {
         Some(failure) => writeln!(err, "vdcp: {failure}"),
         None => Ok(()),
     }
 }
 
-fn write_lack<E: io::Write>(unkept: Option<Lack<'_>>, err: &mut E) -> io::Result<()>
-    ensures { OnOk result (Appends (E.contents err.old) (E.contents err.new) (lack_text unkept.entry)) }
-{
+fn write_lack<E: io::Write>(unkept: Option<Lack<'_>>, err: &mut E) -> io::Result<()> {
     match unkept {
         Some(lack) => {
             writeln!(err, "vdcp: {lack}")?;
@@ -210,19 +273,28 @@ fn write_lack<E: io::Write>(unkept: Option<Lack<'_>>, err: &mut E) -> io::Result
     }
 }
 
+fn missing_clip<S: Source>(source: &S, outcome: Option<Outcome>) -> Option<ClipId>
+    ensures { result ≡ missing_in (S.items source.now) outcome }
+{
+    match outcome {
+        Some(Outcome::Missing(k)) if k < source.len() => Some(source.at(k).id),
+        _ => None,
+    }
+}
+
 /// Makes the as-run file, unless the run tries again, and gives its end.
 pub fn ended<'a, R: Files + AllocGlobal, S: Source>(
     rt: &R,
     controller: &Controller<Rest<S>>,
     line: LineEnd,
-    unopened: bool,
+    signs: Signs,
     unkept: Option<Lack<'a>>,
     left: u32,
     settings: RunSettings<'a>,
 ) -> RunEnd<'a>
-    ensures of_controller { IsEndBy controller.now result }
+    ensures reports { Reports controller.now.source.from controller.now.state result }
     ensures line { result.line ≡ line }
-    ensures unopened { result.unopened ≡ unopened }
+    ensures signs { result.signs ≡ signs }
     ensures asrun { HasAsrun settings.entry (S.items controller.now.source.source) result }
     ensures kept { result.unkept ≡ unkept.entry }
 {
@@ -232,12 +304,13 @@ pub fn ended<'a, R: Files + AllocGlobal, S: Source>(
         outcome: outcome_in_list(from, controller.outcome()),
         reported: reported_in_list(controller),
         line,
-        unopened,
+        signs,
+        missing: missing_clip(controller.source(), controller.outcome()),
         asrun: None,
         unkept,
         left,
     };
-    match later_of(&end, settings) {
+    match later_of(&end, controller.source().whole().len(), settings) {
         Some(_) => end,
         None => RunEnd {
             asrun: save_asrun(rt, controller, line, settings),

@@ -1,18 +1,18 @@
 //! One session: plays a list over a connection, and says what came of it.
 ghost use Rattle.std.specs.Duration.{as_nanos};
-ghost use Rattle.std.specs.Prelude.{◌≡◌, ◌⊎◌, ◌≤◌, ◌*◌, ◌^◌, ◌-◌, IfErr, IfOk, IsSome, None, OnErr, true};
-ghost use Rattle.vdcp_run.specs.Run.{EndsRun, MayBeUnkept, journal_of};
+ghost use Rattle.std.specs.Prelude.{◌≡◌, ◌⊎◌, ◌≤◌, ◌*◌, ◌^◌, ◌-◌, IfErr, IfOk, None, OnErr};
+ghost use Rattle.vdcp_run.specs.Ends.{Reports};
+ghost use Rattle.vdcp_run.specs.Run.{HasAsrun};
 ghost use Rattle.vdcp_run.specs.Asking.{over, start_of};
 ghost use Rattle.vdcp_auto.specs.Turn.{is_awaiting};
-ghost use Rattle.vdcp_run.specs.Session.{EndsOpen, HasSession, HasTried, IsClosed, Plays, TriesOver, longest_answer};
+ghost use Rattle.vdcp_run.specs.Session.{EndsOpen, HasSession, HasTried, IsClosed, Plays, TriesOver, longest_answer, signs_at_first};
 
-use crate::advice::Seen;
 use crate::asking::Asked;
 use crate::before::events_before;
 use crate::console::Console;
 use crate::lack::Lack;
 use crate::playing::Playing;
-use crate::run_end::{LineEnd, RunEnd};
+use crate::run_end::{LineEnd, RunEnd, Signs, Why};
 use crate::settings::RunSettings;
 use crate::staying::Pace;
 use std::fs::File;
@@ -21,7 +21,7 @@ use std::net::{Net, SocketAddrV4};
 use std::rt::{Clock, Files};
 use std::time::Duration;
 use vdcp_auto::{Controller, Source};
-use vdcp_drive::{AtOnce, AtSilences, Driver, Ear, Hearing, Hooks};
+use vdcp_drive::{AtOnce, AtSilences, Driver, Ear, Hearing, Hooks, Ran};
 use vdcp_journal_file::{Disk, RecordFault, Recorder, Resumption};
 use vdcp_list::Rest;
 use vdcp_log::Logged;
@@ -51,14 +51,12 @@ impl<
         address: SocketAddrV4,
         begun: Resumption<'a, 'r, R, S>,
         settings: RunSettings<'a>,
-        seen: &mut Seen,
     ) -> (Result<RunEnd<'a>, Failure<'a>>, Self)
         requires unit { settings.unit ≤ 15 }
         requires some { 1 ≤ settings.limit }
         ensures session { IfOk result.0 (HasSession (λ _. None) settings.entry
             (start_of S.items begun.entry.controller) begun.entry.recorder) }
-        ensures end { IfOk result.0 (EndsRun settings.entry (journal_of begun.entry.recorder) S.items
-            begun.entry.controller) }
+        ensures asrun { IfOk result.0 (HasAsrun settings.entry (S.items begun.entry.controller.source.source)) }
         ensures refused { IfErr result.0 (λ failure. (failure ≡ Failure.Connect) ⊎ (failure ≡ Failure.NotEmpty)) }
     {
         let Session {
@@ -73,7 +71,8 @@ impl<
         let rt = console.rt;
         if controller.outcome().is_some() {
             // (no turn is left: a run whose controller has ended makes no further try)
-            let end = console.end(&controller, LineEnd::Unneeded, false, None, 0, settings);
+            let line = LineEnd::Ran(Ran::Ended);
+            let end = console.end(&controller, line, Signs::none(), None, 0, settings);
             return (Ok(end), Session { console, pace });
         }
         console
@@ -83,15 +82,8 @@ impl<
             match console.connect_staying(address, &controller, &mut pace) {
                 Some(stream) => stream,
                 None => {
-                    let left = settings.listens;
-                    let end = console.end(
-                        &controller,
-                        LineEnd::Stopped,
-                        false,
-                        None,
-                        left,
-                        settings,
-                    );
+                    let (line, left) = (LineEnd::NotBegun(Why::Stopped), settings.listens);
+                    let end = console.end(&controller, line, Signs::none(), None, left, settings);
                     return (Ok(end), Session { console, pace });
                 }
             }
@@ -106,11 +98,11 @@ impl<
             recorder,
             console,
             left: settings.listens,
-            unopened: true,
+            signs: Signs::at_first(),
         };
-        let (end, console) = playing.play_over(controller, wire, settings, seen);
+        let (end, console) = playing.play_over(controller, wire, settings);
         let session = Session { console, pace };
-        if end.line == LineEnd::Occupied {
+        if end.line == LineEnd::NotBegun(Why::Occupied) {
             return (Err(Failure::NotEmpty), session);
         }
         (Ok(end), session)
@@ -149,15 +141,15 @@ impl<
         controller: Controller<Rest<S>>,
         wire: io::Result<W>,
         settings: RunSettings<'a>,
-        seen: &mut Seen,
     ) -> (RunEnd<'a>, Console<'r, 'l, R, I, O, V>)
         requires unit { settings.unit ≤ 15 }
         requires some { 1 ≤ settings.limit }
         requires works { IfOk wire (λ w. W.failures w ≡ 0) }
-        ensures failed { OnErr wire (result.0.line ≡ LineEnd.Failed) }
+        ensures failed { OnErr wire ((result.0.line ≡ LineEnd.Failed)
+            × Reports controller.source.from controller.state result.0) }
         ensures session { IfOk wire (λ w. TriesOver W.does F.safe settings.entry
             (start_of S.items controller) w self.entry.recorder result.0) }
-        ensures end { EndsRun settings.entry (journal_of self.entry.recorder) S.items controller result.0 }
+        ensures asrun { HasAsrun settings.entry (S.items controller.source.source) result.0 }
     {
         let Ok(wire) = wire else {
             let Playing {
@@ -165,34 +157,22 @@ impl<
                 left,
                 ..
             } = self;
-            let end = console.end(&controller, LineEnd::Failed, false, None, left, settings);
+            let end = console.end(
+                &controller,
+                LineEnd::Failed,
+                Signs::none(),
+                None,
+                left,
+                settings,
+            );
             return (end, console);
         };
-        let log = self.console.log;
-        let wire = Logged::new(wire, log, settings.hearing);
-        let played = self.play_by(controller, wire, settings, seen);
-        seen.came = log.has_heard();
-        played
-    }
-
-    fn play_by<S: Source + Copy, W: Wire + Drop>(
-        self,
-        controller: Controller<Rest<S>>,
-        wire: W,
-        settings: RunSettings<'a>,
-        seen: &mut Seen,
-    ) -> (RunEnd<'a>, Console<'r, 'l, R, I, O, V>)
-        requires unit { settings.unit ≤ 15 }
-        requires works { W.failures wire ≡ 0 }
-        ensures session { TriesOver W.does F.safe settings.entry (start_of S.items controller) wire self.entry.recorder
-            result.0 }
-        ensures end { EndsRun settings.entry (journal_of self.entry.recorder) S.items controller result.0 }
-    {
+        let wire = Logged::new(wire, self.console.log, settings.hearing);
         match settings.hearing {
             Hearing::AtSilences => {
-                self.play_in_turn(controller, AtSilences::new(), wire, settings, seen)
+                self.play_in_turn(controller, AtSilences::new(), wire, settings)
             }
-            Hearing::AtOnce => self.play_in_turn(controller, AtOnce::new(), wire, settings, seen),
+            Hearing::AtOnce => self.play_in_turn(controller, AtOnce::new(), wire, settings),
         }
     }
 
@@ -202,13 +182,12 @@ impl<
         ear: E,
         wire: W,
         settings: RunSettings<'a>,
-        seen: &mut Seen,
     ) -> (RunEnd<'a>, Console<'r, 'l, R, I, O, V>)
         requires unit { settings.unit ≤ 15 }
         requires works { W.failures wire ≡ 0 }
         ensures session { HasTried W.does F.safe E.fold settings.entry (start_of S.items controller) ear
             (over wire self.entry.recorder) result.0 }
-        ensures end { EndsRun settings.entry (journal_of self.entry.recorder) S.items controller result.0 }
+        ensures asrun { HasAsrun settings.entry (S.items controller.source.source) result.0 }
     {
         let Playing {
             recorder,
@@ -223,17 +202,17 @@ impl<
             left,
         } = console.ask_first(&controller, ear, wire, settings);
         if let Some(line) = line {
-            let end = console.end(&controller, line, false, None, left, settings);
+            let end = console.end(&controller, line, Signs::none(), None, left, settings);
             return (end, console);
         }
         let playing = Playing {
             recorder,
             console,
             left,
-            unopened: true,
+            signs: Signs::at_first(),
         };
         let driver = Driver::with_ear(controller, settings.unit, ear, wire);
-        playing.play(driver, left, settings, seen)
+        playing.play(driver, left, settings)
     }
 
     fn play<S: Source + Copy, E: Ear + Drop, W: Wire + Drop>(
@@ -241,13 +220,12 @@ impl<
         mut driver: Driver<Rest<S>, E, W>,
         turns: u32,
         settings: RunSettings<'a>,
-        seen: &mut Seen,
     ) -> (RunEnd<'a>, Console<'r, 'l, R, I, O, V>)
         requires works { W.failures driver.wire ≡ 0 }
-        requires fresh { self.unopened ≡ true }
+        requires fresh { self.signs ≡ signs_at_first }
         ensures plays { Plays W.does F.safe E.fold driver.ear driver.unit turns
             (start_of S.items driver.controller) (over driver.wire self.entry.recorder) result.0 }
-        ensures end { EndsRun settings.entry (journal_of self.entry.recorder) S.items driver.controller result.0 }
+        ensures asrun { HasAsrun settings.entry (S.items driver.controller.source.source) result.0 }
     {
         let ran = driver.run_with(u64::from(turns), &mut self);
         let line = LineEnd::of_run(ran);
@@ -255,11 +233,10 @@ impl<
             mut recorder,
             mut console,
             left,
-            unopened,
+            signs,
         } = self;
         let unkept = close(&mut recorder, driver.controller(), line);
-        seen.last = console.last();
-        let end = console.end(driver.controller(), line, unopened, unkept, left, settings);
+        let end = console.end(driver.controller(), line, signs, unkept, left, settings);
         (end, console)
     }
 }
@@ -281,9 +258,7 @@ fn close<'a, S: Source, R: Files + Clock + AllocGlobal, F: Disk + Drop>(
     controller: &Controller<Rest<S>>,
     line: LineEnd,
 ) -> Option<Lack<'a>>
-    ensures closed { IsClosed F.safe controller.now.state.stage result recorder.old }
-    ensures unkept { MayBeUnkept (journal_of recorder.old) result }
-    ensures told { line ≡ LineEnd.Unkept → IsSome recorder.old → IsSome result }
+    ensures { IsClosed F.safe controller.now.state.stage line result recorder.old }
 {
     let Some(recorder) = recorder else {
         return None;

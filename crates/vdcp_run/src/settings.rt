@@ -31,6 +31,8 @@ pub struct RunSettings<'a> {
     pub journal: Option<RunJournal<'a>>,
     /// A run with a journal connects again when its line ends it, and goes on from the journal.
     pub stay: bool,
+    /// A run that stays leaves out an event whose clip the server doesn't have, or whose cue it refuses.
+    pub skip: bool,
 }
 
 /// The journal of a run, by the name of its file.

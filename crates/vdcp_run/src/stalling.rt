@@ -1,8 +1,8 @@
 //! A run whose first cue isn't done for long says so.
-ghost use Rattle.std.specs.Prelude.{◌≡◌, ◌↔◌, Bool, IsTrue, None, true};
+ghost use Rattle.std.specs.Prelude.{◌≡◌, ◌↔◌, Bool, IsTrue, true};
 ghost use Rattle.vdcp_auto.specs.State.{Awaiting};
 ghost use Rattle.vdcp_auto.specs.declared.phase.Phase.{Phase};
-ghost use Rattle.vdcp_run.specs.Stalls.{awaited_phase, first_stall, stall_after};
+ghost use Rattle.vdcp_run.specs.Stalls.{first_stall, stall_after};
 
 use std::rt::Clock;
 use vdcp_auto::{Controller, Phase, Source, Standing};
@@ -27,13 +27,11 @@ enum Stall {
 pub struct Stalling<'r, R: Clock> {
     stopwatch: Stopwatch<&'r R>,
     stall: Stall,
-    last: Option<Phase>,
 }
 
 impl<'r, R: Clock> Stalling<'r, R> {
     pub fn new(clock: &'r R, hearing: Hearing) -> Self
-        ensures stall { result.stall ≡ first_stall hearing }
-        ensures last { result.last ≡ None }
+        ensures { result.stall ≡ first_stall hearing }
     {
         Stalling {
             stopwatch: Stopwatch::new(clock),
@@ -41,36 +39,17 @@ impl<'r, R: Clock> Stalling<'r, R> {
                 Hearing::AtSilences => Stall::Told,
                 Hearing::AtOnce => Stall::Nothing,
             },
-            last: None,
         }
-    }
-
-    /// What the command was for whose answer was awaited at the last look.
-    pub fn last(&self) -> Option<Phase>
-        ensures { result ≡ self.now.last }
-    {
-        self.last
     }
 
     /// Whether a stall is to be told now.
     pub fn look<S: Source>(&mut self, controller: &Controller<S>) -> bool
-        ensures told { (cues : Bool) → (cues ≡ true ↔ controller.now.state.stage ≡ Awaiting (Phase.Wait 0)) →
+        ensures { (cues : Bool) → (cues ≡ true ↔ controller.now.state.stage ≡ Awaiting (Phase.Wait 0)) →
             self.new.stall ≡ stall_after cues self.old.stall self.new.stopwatch.now }
-        ensures last { self.new.last ≡ awaited_phase controller.now.state.stage }
     {
-        self.last = awaited_phase(controller);
         let stall = self.stall;
         self.stall = stall_after(is_cued_first(controller), stall, self.stopwatch.read());
         matches!((stall, self.stall), (Stall::Since(_), Stall::Told))
-    }
-}
-
-fn awaited_phase<S: Source>(controller: &Controller<S>) -> Option<Phase>
-    ensures { result ≡ awaited_phase controller.now.state.stage }
-{
-    match controller.snapshot().standing {
-        Standing::Awaiting(phase) => Some(phase),
-        Standing::Ready(_) | Standing::Ended(_) => None,
     }
 }
 

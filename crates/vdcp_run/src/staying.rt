@@ -1,6 +1,6 @@
 //! A run that stays: whether it tries again, and when.
-ghost use Rattle.std.specs.Prelude.{◌≡◌, ◌⊎◌, ◌+◌, ◌-◌, ◌^◌, ◌<◌, ◌≤◌, IfSome, IsTrue, None, Some, min};
-ghost use Rattle.vdcp_run.specs.Run.{later_of, leaving_out};
+ghost use Rattle.std.specs.Prelude.{◌≡◌, ◌+◌, ◌-◌, ◌^◌, ◌<◌, ◌≤◌, IfSome, IsTrue, Some, min};
+ghost use Rattle.vdcp_run.specs.Run.{first_event, later_of, leaving_out};
 
 use crate::run_end::RunEnd;
 use crate::settings::{RunJournal, RunSettings};
@@ -13,35 +13,47 @@ const PACE: u64 = 1_000_000_000;
 /// The longest sleep, in nanoseconds: between two the operator is asked.
 const PIECE: u64 = 20_000_000;
 
-/// The settings of the next try, if the run stays, its journal is whole and a turn is left. It goes on from the journal if
-/// the line ended this try, and begins a new run there if the server has lost the port. A connection takes at least one turn.
-pub fn later_of<'a>(end: &RunEnd<'_>, settings: RunSettings<'a>) -> Option<RunSettings<'a>>
-    ensures later { result ≡ later_of settings.entry end.now }
-    ensures same { IfSome result (λ later. (later.unit ≡ settings.entry.unit) × (later.limit ≡ settings.entry.limit)
-        × ((later.from ≡ settings.entry.from) ⊎ (later.from ≡ None))) }
+/// The settings of the next try of a list of `count` events, if the run stays, nobody stopped it, its journal is whole and
+/// a turn is left. It goes on from the journal if the line ended this try, and begins a new run there if the server has lost
+/// the port, or, behind the event that can't be played, if such events are skipped. A connection takes at least one turn.
+pub fn later_of<'a>(
+    end: &RunEnd<'_>,
+    count: usize,
+    settings: RunSettings<'a>,
+) -> Option<RunSettings<'a>>
+    ensures later { result ≡ later_of settings.entry count end.now }
+    ensures same { IfSome result (λ later. (later.unit ≡ settings.entry.unit) × (later.limit ≡ settings.entry.limit)) }
+    ensures listed { first_event settings.entry.from ≤ count → IfSome result (λ later. first_event later.from ≤ count) }
     ensures fewer { IfSome result (λ later. later.listens < settings.entry.listens) }
 {
     let journal = settings.journal?;
     let left = end.left.min(settings.listens.saturating_sub(1));
-    if !settings.stay || end.unkept.is_some() || left == 0 {
+    if !settings.stay || end.signs.stopped || end.unkept.is_some() || left == 0 {
         return None;
     }
-    if end.is_by_line() {
-        return Some(RunSettings {
-            journal: Some(RunJournal::Older(journal.name())),
-            listens: left,
-            ..settings
-        });
-    }
-    if !end.has_lost_port(journal) {
-        return None;
-    }
-    Some(RunSettings {
+    let anew = RunSettings {
         journal: Some(RunJournal::Again(journal.name())),
         from: None,
         listens: left,
         ..settings
-    })
+    };
+    if end.is_by_line() {
+        return Some(RunSettings {
+            journal: Some(RunJournal::Older(journal.name())),
+            from: settings.from,
+            ..anew
+        });
+    }
+    if end.has_lost_port(journal) {
+        return Some(anew);
+    }
+    if settings.skip && end.is_unplayable() && end.reported < count {
+        return Some(RunSettings {
+            from: Some(end.reported + 1),
+            ..anew
+        });
+    }
+    None
 }
 
 /// The settings of a run that stays and leaves out this one of so many events, since it may have aired.

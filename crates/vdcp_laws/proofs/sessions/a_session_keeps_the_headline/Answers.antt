@@ -7,6 +7,7 @@ use Rattle.vdcp_laws.proofs.Servers.{Laws, served_so}
 use Rattle.vdcp_laws.proofs.Tried.{asking_led, may_ask, tried_headline, tried_led}
 use Rattle.vdcp_laws.proofs.Tried as session
 use Rattle.vdcp_run.specs.Asking.{over}
+use Rattle.vdcp_run.specs.Session.{played, unbegun}
 use Rattle.vdcp_laws.proofs.sessions.a_session_keeps_the_headline.Given.{Over}
 use Rattle.vdcp_laws.proofs.sessions.a_session_keeps_the_headline.Goals as goal
 
@@ -53,3 +54,7 @@ returns-clause-asking g c plan from port asked questions e acts unsent turns bel
     part = part;
   }) (served_so (laws g c) e turns below aired served) carried),
 )
+
+pub returns-clause-reported : goal.returns-clause-reported
+returns-clause-reported g c plan from settings e wire recorder end (played ear left world asked plays) = plays.reports
+returns-clause-reported g c plan from settings e wire recorder end (unbegun ear left world line asked is reports) = reports

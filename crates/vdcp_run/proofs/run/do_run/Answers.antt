@@ -1,33 +1,19 @@
-use Rattle.std.proofs.Common.{arith, inl, inr, sym, ◌∙◌}
-use Rattle.vdcp_run.proofs.Ends as ends
-use Rattle.vdcp_run.proofs.Unplayed.{told_with_1, told_with_2}
+use Rattle.std.proofs.Common.{◌≡◌, ◌∙◌, ℕ, arith, sym}
+use Rattle.std.specs.Prelude.{IfOk, Result, Ok, Err}
+use Rattle.std.specs.Result.{result_unwrap_or}
+use Rattle.vdcp_files.specs.Files.{File}
 use Rattle.vdcp_run.proofs.run.do_run.Goals as goal
+use Rattle.vdcp_run.specs.Run.{IsPlayed, IsRun, run_status}
+use Rattle.vdcp_run.specs.declared.run_end.RunEnd.{RunEnd}
+use Rattle.vdcp_run.specs.declared.settings.RunSettings.{RunSettings}
 
-pub returns-in-Err-clause-no_address : goal.returns-in-Err-clause-no_address
-returns-in-Err-clause-no_address g c = λ two.
-    told_with_2 c.args.settings _ _ c.in-Err.failure c.report.result _ _ c.in-Err.ensures.unplayed
-    c.report.ensures.status c.report.ensures.told two
+-- a run that was told with status 0
+whole_run : {E : Type 0} (settings : RunSettings) (list : File) (end : RunEnd) (told : Result ℕ E)
+    → IsPlayed settings list end → IfOk told (λ status. status ≡ run_status end) → result_unwrap_or told 3 ≡ 0
+    → IsRun settings list
+whole_run settings list end (Ok status) played is none = record { end = end; played = played; whole = sym is ∙ none }
+whole_run settings list end (Err e) played is none = absurd (omega (arith, none))
 
-pub returns-in-Err-clause-others : goal.returns-in-Err-clause-others
-returns-in-Err-clause-others g c = λ one. inr (
-    told_with_1 c.args.settings _ _ c.in-Err.failure c.report.result _ _ _ c.in-Err.ensures.unplayed
-    c.report.ensures.status c.report.ensures.told one)
-
-pub returns-in-Ok-clause-run : goal.returns-in-Ok-clause-run
-returns-in-Ok-clause-run g c = λ none.
-    (ends.told_with 0 (omega arith) c.args.settings _ c.in-Ok.end c.tell.result _ _ _ _ c.in-Ok.ensures.played
-    c.tell.ensures.lines c.tell.ensures.faults c.tell.ensures.status (sym c.unwrap_or.ensures ∙ none)).0
-
-pub returns-in-Ok-clause-untold : goal.returns-in-Ok-clause-untold
-returns-in-Ok-clause-untold g c = λ none.
-    (ends.told_with 0 (omega arith) c.args.settings _ c.in-Ok.end c.tell.result _ _ _ _ c.in-Ok.ensures.played
-    c.tell.ensures.lines c.tell.ensures.faults c.tell.ensures.status (sym c.unwrap_or.ensures ∙ none)).1
-
-pub returns-in-Ok-clause-others : goal.returns-in-Ok-clause-others
-returns-in-Ok-clause-others g c = λ one. inl (
-    ends.told_with 1 (omega arith) c.args.settings _ c.in-Ok.end c.tell.result _ _ _ _ c.in-Ok.ensures.played
-    c.tell.ensures.lines c.tell.ensures.faults c.tell.ensures.status (sym c.unwrap_or.ensures ∙ one))
-
-pub returns-in-Ok-clause-no_address : goal.returns-in-Ok-clause-no_address
-returns-in-Ok-clause-no_address g c = λ two.
-    absurd (ends.told_not_2 c.in-Ok.end c.tell.result c.tell.ensures.status (sym c.unwrap_or.ensures ∙ two))
+pub returns-in-Ok : goal.returns-in-Ok
+returns-in-Ok g c = λ none.
+    whole_run c.args.settings _ c.in-Ok.end c.tell.result c.in-Ok.ensures c.tell.ensures (sym c.unwrap_or.ensures ∙ none)

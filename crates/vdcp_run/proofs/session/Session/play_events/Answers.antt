@@ -1,5 +1,5 @@
 use Rattle.std.proofs.Common.{◌≡◌, ◌≤◌, arith, subst, sym}
-use Rattle.std.specs.Prelude.{Some, length}
+use Rattle.std.specs.Prelude.{Some}
 use Rattle.vdcp_list.specs.List.{items_of}
 use Rattle.vdcp_run.proofs.Tries.{tries_later}
 use Rattle.vdcp_run.proofs.session.Session.play_events.Goals as goal
