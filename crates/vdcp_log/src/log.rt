@@ -38,7 +38,6 @@ pub struct Log<L: io::Write> {
     tells_all: bool,
     // Whether what passes on the line is read, for the log or the capture.
     reads: bool,
-    heard: Cell<bool>,
     pub(crate) side: Side,
 }
 
@@ -51,16 +50,11 @@ impl<L: io::Write + Drop> Log<L> {
         };
         Log {
             reads: tells_all || capture.is_some(),
-            heard: Cell::new(false),
             lines: Cell::new(lines),
             rows: Cell::new(capture.map(|writer| Lines::new(writer))),
             tells_all,
             side,
         }
-    }
-
-    pub fn has_heard(&self) -> bool {
-        self.heard.get()
     }
 
     /// Adds a line, unless only faults are told.
@@ -172,9 +166,6 @@ impl<W: Wire, L: io::Write + Drop> Wire for Logged<'_, W, L> {
 
     fn listen(&mut self, buffer: &mut [u8; PIECE]) -> Result<Came, WireFault> {
         let came = self.wire.listen(buffer)?;
-        if let Came::Bytes(1..) = came {
-            self.log.heard.set(true);
-        }
         if !self.log.reads {
             return Ok(came);
         }
