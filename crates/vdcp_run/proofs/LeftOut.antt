@@ -11,7 +11,7 @@ use Rattle.vdcp_journal_file.specs.Resuming.{IsReplayed, IsUnopenedAgain, IsUnre
 use Rattle.vdcp_journal_file.specs.declared.reading.Refusal.{Refusal}
 use Rattle.vdcp_journal_file.specs.declared.reading.Refusal.TheVariants as refusal
 use Rattle.vdcp_list.specs.Rows.{FileBytes}
-use Rattle.vdcp_run.specs.Run.{BeginsBehind, CameTo, IsJournalRefused, IsPlaceRefused, IsUnkept, IsUntried, beginning_anew, going_on, has_lost_port, heading_for, is_by_line, is_unplayable, later_after, later_by, leaving_out, may_try, not_kept, occupied, told_outcome, turns_left, unconnected, unsure_event}
+use Rattle.vdcp_run.specs.Run.{BeginsBehind, CameTo, IsJournalRefused, IsPlaceRefused, IsUnkept, IsUntried, beginning_anew, going_on, has_lost_port, heading_for, is_by_line, is_unplayable, later_after, later_by, leaving_out, may_try, not_kept, occupied, skipping, told_outcome, turns_left, unconnected, unsure_event}
 use Rattle.vdcp_run.specs.declared.run_end.RunEnd.{RunEnd}
 use Rattle.vdcp_run.specs.declared.settings.RunJournal.{RunJournal}
 use Rattle.vdcp_run.specs.declared.settings.RunJournal.TheVariants as journals
@@ -46,7 +46,7 @@ after_end before next count (Some journal) end name e again =
     chosen (may_try before end) (is_by_line end.line (told_outcome end.line end.outcome)) (has_lost_port journal end)
     (before.skip && (is_unplayable end.line end.signs end.outcome && nat_lt end.reported count))
     (going_on before journal left) (beginning_anew before journal None left)
-    (beginning_anew before journal (Some (end.reported + 1)) left) next _ name (end.reported + 1) refl refl refl e again
+    (skipping before journal end.reported left) next _ name (end.reported + 1) refl refl refl e again
 
 -- ---- after a refusal: behind the event that may have aired
 

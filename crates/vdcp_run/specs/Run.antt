@@ -132,6 +132,10 @@ abbrev pub beginning_anew : RunSettings → RunJournal → Option ℕ → ℕ �
 beginning_anew settings journal from left =
     record settings { journal = Some (journals.Again (name_of journal)); from = from; listens = left }
 
+-- or behind this event, without asking the port, where the clip before may play
+abbrev pub skipping : RunSettings → RunJournal → (event left : ℕ) → RunSettings
+skipping settings journal event left = record (beginning_anew settings journal (Some (event + 1)) left) { ask = false }
+
 -- the first goes on after an end by the line; the second begins with the next event after the loss of the port, or behind it
 -- if it can't be played
 abbrev pub next_by : RunSettings → ℕ → RunJournal → RunEnd → Option RunSettings
@@ -139,7 +143,7 @@ next_by settings count journal end =
     if is_by_line end.line (told_outcome end.line end.outcome) then Some (going_on settings journal (turns_left settings end))
     else (if has_lost_port journal end then Some (beginning_anew settings journal None (turns_left settings end))
     else (if settings.skip && (is_unplayable end.line end.signs end.outcome && nat_lt end.reported count)
-    then Some (beginning_anew settings journal (Some (end.reported + 1)) (turns_left settings end)) else None))
+    then Some (skipping settings journal end.reported (turns_left settings end)) else None))
 
 abbrev pub later_by : RunSettings → ℕ → Option RunJournal → RunEnd → Option RunSettings
 later_by settings count None end = None

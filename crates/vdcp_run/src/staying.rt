@@ -48,7 +48,9 @@ pub fn later_of<'a>(
         return Some(anew);
     }
     if settings.skip && end.is_unplayable() && end.reported < count {
+        // (what plays there is this list's)
         return Some(RunSettings {
+            ask: false,
             from: Some(end.reported + 1),
             ..anew
         });
