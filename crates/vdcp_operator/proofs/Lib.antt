@@ -1,5 +1,6 @@
 -- The lemmas, file by file.
 pub mod Rounds
+pub mod Rows
 pub mod Showing
 pub mod Typing
 pub mod Pacing

@@ -1,7 +1,7 @@
 -- The calls that an operator's hand makes: each that was asked for once, and no other.
 use Rattle.std.specs.Duration.{as_nanos}
 use Rattle.std.specs.Option.{option_to_list}
-use Rattle.std.specs.Prelude.{ℕ, ◌≡◌, ◌≤◌, Option, None, Some, List, [], ◌++◌}
+use Rattle.std.specs.Prelude.{ℕ, ◌≡◌, ◌≤◌, ◌-◌, ◌/◌, ◌^◌, Option, None, Some, List, [], ◌++◌, if◌then◌else◌, nat_lt}
 use Rattle.std.specs.declared.time.Duration.{Duration}
 use Rattle.vdcp_auto.specs.Plan.{View}
 use Rattle.vdcp_drive.specs.declared.hooks.Call.{Call}
@@ -32,9 +32,9 @@ abbrev pub PageCalls : {S : Type 0} → (S → List Item) → View (FromEvent S)
 PageCalls items c None call None = call ≡ None
 PageCalls items c None call (Some page') = ⊥
 PageCalls items c (Some page) call None = ⊥
-PageCalls items c (Some page) call (Some page') = (shown : List Asked)
-    × ShowsRun items c page.names page.clips page.before.items page.panel.names page.calls.items shown
-    × (shown ≡ option_to_list call ++ page'.calls.items) × (call ≡ None → shown ≡ [])
+PageCalls items c (Some page) call (Some page') = (commands : ℕ) × (start : Option ℕ) × (shown : RunPage)
+    × ShowsRun items c page None commands start shown × (page' ≡ record shown { calls = page'.calls })
+    × (shown.calls.items ≡ option_to_list call ++ page'.calls.items) × (call ≡ None → shown.calls.items ≡ [])
 
 abbrev pub called_by : Option Said → Option Call
 called_by None = None
@@ -79,6 +79,17 @@ abbrev pub until_for : Option Command → (start : Option Duration) → Until
 until_for (Some command.Play) (Some start) = until.Time start
 until_for (Some (command.Status groups)) start = until.Poll
 until_for _ start = until.Now
+
+-- calls are asked for until two seconds before the start; not at all if none is said, or a call is held
+abbrev pub AwaitsLead : Option Duration → (held : Option Call) → Option Until → Type 0
+AwaitsLead (Some start) None lead = (time : Duration) × (lead ≡ Some (until.Time time)) × (as_nanos time ≡ as_nanos start - 2000000000)
+AwaitsLead (Some start) (Some call) lead = lead ≡ None
+AwaitsLead None held lead = lead ≡ None
+
+-- a time in milliseconds, if these aren't too many
+abbrev pub millis_of : Option Duration → Option ℕ
+millis_of None = None
+millis_of (Some time) = if nat_lt (as_nanos time / 1000000) (2 ^ 64) then Some (as_nanos time / 1000000) else None
 
 -- a time has come, by what the clock shows, if it can be read
 abbrev pub HasCome : Duration → (now : Option Duration) → Type 0

@@ -1,5 +1,6 @@
 -- What the page of a run shows.
-use Rattle.std.specs.Prelude.{ℕ, ◌≡◌, ◌≤◌, ◌+◌, ◌-◌, ◌^◌, All, min, List, [], ◌∷◌, codes, drop, map, nat_eq, option_map, string_bytes, take, Option, None, Some, if◌then◌else◌}
+use Rattle.std.specs.Prelude.{ℕ, ◌≡◌, ◌≤◌, ◌+◌, ◌-◌, ◌^◌, All, min, List, [], ◌∷◌, codes, drop, is_some, length, map, string_bytes, take, Option, None, Some, if◌then◌else◌}
+use Rattle.std.specs.Option.{option_flatten}
 use Rattle.serde_json.specs.Data.{Data, array, boolean, member, no_members, null, number, object, string, unsigned}
 use Rattle.serde_json.specs.View.{items_of}
 use Rattle.serde_json.specs.Written.{compact_text}
@@ -9,18 +10,17 @@ use Rattle.vdcp_auto.specs.declared.phase.Phase.{Phase}
 use Rattle.vdcp_auto.specs.declared.phase.Phase.TheVariants as phase
 use Rattle.vdcp_auto.specs.declared.snapshot.Standing.{Standing}
 use Rattle.vdcp_auto.specs.declared.snapshot.Standing.TheVariants as standing
+use Rattle.vdcp_auto.specs.declared.outcome.Outcome.{Outcome}
 use Rattle.vdcp_list.specs.Rests.{FromEvent}
+use Rattle.vdcp_operator.specs.Rows.{IsRow, news_of}
 use Rattle.vdcp_operator.specs.declared.seen.Ending.{Ending}
 use Rattle.vdcp_operator.specs.declared.seen.Ending.TheVariants as endings
-use Rattle.vdcp_operator.specs.declared.seen.EventBefore.{EventBefore}
 use Rattle.vdcp_operator.specs.declared.seen.EventSeen.{EventSeen}
 use Rattle.vdcp_operator.specs.declared.seen.Record.{Record}
 use Rattle.vdcp_operator.specs.declared.seen.Record.TheVariants as records
-use Rattle.vdcp_operator.specs.declared.seen.RunNames.{RunNames}
 use Rattle.vdcp_operator.specs.declared.seen.RunSeen.{RunSeen}
+use Rattle.vdcp_operator.specs.declared.shown.RunPage.{RunPage}
 use Rattle.vdcp_panel.specs.Seen.{ServesSome}
-use Rattle.vdcp_panel.specs.declared.call.Call.{Call}
-use Rattle.vdcp_panel.specs.declared.panel.Names.{Names}
 use Rattle.vdcp_port.specs.Clips.{length_of}
 use Rattle.vdcp_text.specs.Items.{item_text}
 use Rattle.vdcp_text.specs.Outcome.{outcome_text}
@@ -153,26 +153,35 @@ pub record AreRound (items : List Item) (event : ℕ) (rows : List EventSeen) : 
   pub few : count ≤ 60
   pub are : map with_number rows ≡ take count (numbered (event - 20) (drop (event - 20) items))
 
--- what is said of the event of this number before, if it is among these
-abbrev pub before_of : List EventBefore → ℕ → Option EventBefore
-before_of [] k = None
-before_of (first ∷ before) k = if nat_eq first.number k then Some first else before_of before k
-
--- a row has what the journal says of its event, if it says something
-abbrev pub HasRecord : List EventBefore → EventSeen → Type 0
-HasRecord before row = row.kept ≡ option_map (λ b. b.kept) (before_of before row.number)
-
--- requests were answered by the controller as it is, by these names and clips, by the events round the one that is next and
--- by what is said of those before, and a call that is held is about that event
-pub record ShowsRun {S : Type 0} (items : S → List Item) (c : View (FromEvent S)) (names : RunNames)
-    (clips : Option (List (ClipId × Timecode))) (before : List EventBefore) (panel : Names) (calls calls' : List Call)
-    : Type 0 where
-  pub view : RunSeen
-  pub names_are : view.names.now ≡ names
-  pub clips_are : view.clips.now ≡ clips
+-- what is seen of a run, by its page as it was: the controller as it is, with the events round the one that is next, and what
+-- is known of each; how it ended, if it is over; how many commands went out; and when it starts
+pub record IsSeen {S : Type 0} (items : S → List Item) (c : View (FromEvent S)) (page : RunPage) (end : Option (Option Outcome))
+    (commands : ℕ) (start : Option ℕ) (view : RunSeen) : Type 0 where
+  pub names : view.names.now ≡ page.names
+  pub clips : view.clips.now ≡ page.clips
+  pub rate : view.rate ≡ page.rate
   pub all : c ≡ view_of c.source view.snapshot
+  pub is_over : view.is_over ≡ is_some end
+  pub outcome : view.outcome ≡ option_flatten end
   pub from : view.from ≡ c.source.from
   pub event : view.event ≡ event_of c
-  pub rows : AreRound (items c.source.source) (event_of c) view.rows.now
-  pub records : All (HasRecord before) view.rows.now
-  pub served : ServesSome page_bytes state_bytes about panel view calls calls'
+  pub events : view.events ≡ length (items c.source.source)
+  pub round : AreRound (items c.source.source) (event_of c) view.rows.now
+  pub rows : All (IsRow (news_of page.event page.standing (event_of c) view.snapshot view.clock) page.rows.items page.before.items) view.rows.now
+  pub commands_are : view.commands ≡ commands
+  pub start_is : view.start ≡ start
+
+-- the page keeps what was seen, for the next look
+pub record Keeps (page : RunPage) (view : RunSeen) (page' : RunPage) : Type 0 where
+  pub rows : page'.rows.items ≡ view.rows.now
+  pub event : page'.event ≡ Some view.event
+  pub standing : page'.standing ≡ Some view.snapshot.standing
+  pub rest : page' ≡ record page { panel = page'.panel; rows = page'.rows; event = page'.event; standing = page'.standing; calls = page'.calls }
+
+-- requests were answered by that, and a call that is held is about the event that is next
+pub record ShowsRun {S : Type 0} (items : S → List Item) (c : View (FromEvent S)) (page : RunPage) (end : Option (Option Outcome))
+    (commands : ℕ) (start : Option ℕ) (page' : RunPage) : Type 0 where
+  pub view : RunSeen
+  pub is_seen : IsSeen items c page end commands start view
+  pub keeps : Keeps page view page'
+  pub served : ServesSome page_bytes state_bytes about page.panel.names view page.calls.items page'.calls.items

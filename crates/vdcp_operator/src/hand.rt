@@ -1,11 +1,11 @@
 //! The operator's part in a run: calls are taken, and commands wait.
 ghost use Rattle.std.specs.Duration.{as_nanos};
-ghost use Rattle.std.specs.Prelude.{◌≡◌, ◌≢◌, ◌↔◌, ◌*◌, ◌-◌, ◌≤◌, min, IsSome, IsTrue, None, Option, Some, is_some, option_map, ℕ};
+ghost use Rattle.std.specs.Prelude.{◌≡◌, ◌≢◌, ◌↔◌, ◌*◌, ◌+◌, ◌≤◌, min, IsSome, IsTrue, None, Option, Some, is_some, option_map, ℕ};
 ghost use Rattle.vdcp_auto.specs.Plan.{plan_of};
 ghost use Rattle.vdcp_auto.specs.Turn.{given};
 ghost use Rattle.vdcp_drive.specs.declared.hooks.Call.{Call};
 ghost use Rattle.vdcp_list.specs.Rests.{items_left};
-ghost use Rattle.vdcp_operator.specs.Hands.{Asks, HasCome, IsNext, IsOver, PageCalls, TypedCalls, as_call, latest, until_for};
+ghost use Rattle.vdcp_operator.specs.Hands.{Asks, AwaitsLead, HasCome, IsNext, IsOver, PageCalls, TypedCalls, as_call, latest, millis_of, until_for};
 ghost use Rattle.vdcp_operator.specs.Polls.{Paces};
 ghost use Rattle.vdcp_operator.specs.declared.hand.Until.{Until};
 ghost use Rattle.vdcp_operator.specs.declared.shown.RunPage.{RunPage};
@@ -22,6 +22,7 @@ use vdcp_auto::{Controller, Outcome, Source};
 use vdcp_drive::Call;
 use vdcp_list::Rest;
 use vdcp_panel as panel;
+use vdcp_wire::Stopwatch;
 use vdcp_words::Command;
 
 // In nanoseconds: a wait is cut into such pieces, between which requests for the page are answered.
@@ -44,6 +45,8 @@ pub struct Hand<'a, R: Clock, I: Read, E: Write> {
     start: Option<Duration>,
     // What the clock last showed, since 1970; None if it couldn't be read.
     time: Option<Duration>,
+    // How long the start was waited for.
+    slept: Stopwatch<&'a R>,
     polling: Polling<'a, R>,
     commands: u64,
     /// A call that was made before the driver asked for it.
@@ -89,6 +92,7 @@ impl<'a, R: Clock, I: Read + Drop, E: Write> Hand<'a, R, I, E> {
             page,
             start,
             time: None,
+            slept: Stopwatch::new(clock),
             polling: Polling::new(clock, poll),
             commands: 0,
             held: None,
@@ -115,10 +119,10 @@ impl<'a, R: Clock, I: Read + Drop, E: Write> Hand<'a, R, I, E> {
             Asks S.items I.remaining controller.now self.old.page self.old.typed self.new.held self.new.page self.new.typed }
         ensures holds { (call : Call) → self.old.held ≡ Some call → self.new ≡ self.old }
     {
-        let (Some(start), None) = (self.start, self.held) else {
+        let Some(until) = lead_until(self.start, self.held) else {
             return;
         };
-        self.held = self.ask_until(controller, Until::Time(lead_of(start)));
+        self.held = self.ask_until(controller, until);
     }
 
     /// Unless stop is held, answers requests for the page and holds the next call, if there is one. Gives what is held.
@@ -276,7 +280,7 @@ impl<'a, R: Clock, I: Read + Drop, E: Write> Hand<'a, R, I, E> {
     fn wait_piece(&mut self, until: Until) -> bool
         ensures over { IsTrue result → IsOver until self.new.time self.old.polling.due self.new.polling.stopwatch.now }
         ensures paces { Paces None self.old.polling self.new.polling }
-        ensures rest { self.new ≡ record self.old { time = self.new.time; polling = self.new.polling } }
+        ensures rest { self.new ≡ record self.old { time = self.new.time; slept = self.new.slept; polling = self.new.polling } }
     {
         match until {
             Until::Time(time) => self.wait_for(time),
@@ -288,7 +292,8 @@ impl<'a, R: Clock, I: Read + Drop, E: Write> Hand<'a, R, I, E> {
     // Waits for one piece at most, and answers whether this time, since 1970, has come.
     fn wait_for(&mut self, time: Duration) -> bool
         ensures come { IsTrue result ↔ HasCome time self.new.time }
-        ensures rest { self.new ≡ record self.old { time = self.new.time } }
+        ensures piece { self.new.slept.now ≤ self.old.slept.now + 20000000 }
+        ensures rest { self.new ≡ record self.old { time = self.new.time; slept = self.new.slept } }
     {
         self.time = self.clock.since_1970().ok();
         let left = match self.time {
@@ -298,7 +303,7 @@ impl<'a, R: Clock, I: Read + Drop, E: Write> Hand<'a, R, I, E> {
         if left.is_zero() {
             return true;
         }
-        self.clock.sleep(piece_of(left));
+        self.slept.sleep(piece_of(left));
         false
     }
 
@@ -334,19 +339,27 @@ fn until_for(command: Option<Command>, start: Option<Duration>) -> Until
     }
 }
 
-fn piece_of(left: Duration) -> Duration
-    ensures { as_nanos result ≡ min (as_nanos left) 20000000 }
+fn piece_of(left: Duration) -> u64
+    ensures { result ≡ min (as_nanos left) 20000000 }
 {
-    left.min(Duration::from_nanos(PIECE))
+    match u64::try_from(left.as_nanos()) {
+        Ok(left) => left.min(PIECE),
+        Err(_) => PIECE,
+    }
 }
 
-fn lead_of(start: Duration) -> Duration
-    ensures { as_nanos result ≡ as_nanos start - 2000000000 }
+fn lead_until(start: Option<Duration>, held: Option<Call>) -> Option<Until>
+    ensures { AwaitsLead start held result }
 {
-    start.saturating_sub(Duration::from_millis(LEAD))
+    match (start, held) {
+        (Some(start), None) => Some(Until::Time(start.saturating_sub(Duration::from_millis(LEAD)))),
+        _ => None,
+    }
 }
 
-fn millis_of(time: Option<Duration>) -> Option<u64> {
+fn millis_of(time: Option<Duration>) -> Option<u64>
+    ensures { result ≡ millis_of time }
+{
     u64::try_from(time?.as_millis()).ok()
 }
 

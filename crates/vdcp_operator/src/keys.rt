@@ -21,6 +21,8 @@ impl<I: Read + AsRawFd> Keys<I> {
 }
 
 impl<I: Read + AsRawFd> Read for Keys<I> {
+    ghost remaining = { λ keys. I.remaining keys.reader };
+
     fn read(&mut self, buffer: &mut [u8]) -> io::Result<usize> {
         let descriptor = self.reader.as_raw_fd();
         if let Some(news) = &mut self.news {

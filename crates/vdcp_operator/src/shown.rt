@@ -1,7 +1,8 @@
 //! How the page of a run follows it and takes calls.
 ghost use Rattle.std.specs.Option.{option_to_list};
-ghost use Rattle.std.specs.Prelude.{◌≡◌, ◌++◌, [], All, None};
-ghost use Rattle.vdcp_operator.specs.Seen.{AreRound, HasRecord, ShowsRun, before_of, event_of, with_number};
+ghost use Rattle.std.specs.Prelude.{◌≡◌, ◌++◌, [], All, None, Some};
+ghost use Rattle.vdcp_operator.specs.Rows.{IsRow, at_in, before_of, ending_after, ending_by, ending_in, ending_seen, is_on_air_known, is_waiting, known_of, news_of, older_of, row_of, until_in};
+ghost use Rattle.vdcp_operator.specs.Seen.{AreRound, ShowsRun, event_of, with_number};
 
 use crate::page::PAGE;
 use crate::seen::{Ending, EventBefore, EventSeen, RunNames, RunSeen};
@@ -41,7 +42,10 @@ impl RunPage {
         names: RunNames,
         rate: Rate,
         clips: Option<Table>,
-    ) -> Self {
+    ) -> Self
+        ensures given { (result.panel ≡ panel) × (result.names ≡ names) × (result.rate ≡ rate) × (result.clips ≡ clips) }
+        ensures fresh { (result.event ≡ None) × (result.standing ≡ None) × (result.calls.items ≡ []) }
+    {
         RunPage {
             alloc,
             panel,
@@ -71,17 +75,17 @@ impl RunPage {
         commands: u64,
         start: Option<u64>,
     )
-        ensures { ShowsRun S.items controller.now self.old.names self.old.clips self.old.before.items self.old.panel.names
-            self.old.calls.items self.new.calls.items }
+        ensures { ShowsRun S.items controller.now self.old end commands start self.new }
     {
         let now = milliseconds(clock);
-        let event = self.follow(controller, now);
+        let snapshot = controller.snapshot();
+        let event = self.follow(controller, &snapshot, now);
         let seen = RunSeen {
             page: PAGE,
             names: &self.names,
             rate: self.rate,
             clips: &self.clips,
-            snapshot: controller.snapshot(),
+            snapshot,
             is_over: end.is_some(),
             outcome: end.flatten(),
             from: number(controller.source().from()),
@@ -108,31 +112,24 @@ impl RunPage {
     }
 
     // Gives the next event. What went to air or ended since the last look is taken to have done so now.
-    fn follow<S: Source>(&mut self, controller: &Controller<Rest<S>>, now: u64) -> u64
+    fn follow<S: Source>(
+        &mut self,
+        controller: &Controller<Rest<S>>,
+        snapshot: &Snapshot,
+        now: u64,
+    ) -> u64
         ensures event { result ≡ event_of controller.now }
-        ensures rows { AreRound (S.items controller.now.source.source) (event_of controller.now) self.new.rows.items }
-        ensures records { All (HasRecord self.old.before.items) self.new.rows.items }
-        ensures panel { self.new.panel ≡ self.old.panel }
-        ensures names { self.new.names ≡ self.old.names }
-        ensures clips { self.new.clips ≡ self.old.clips }
-        ensures calls { self.new.calls ≡ self.old.calls }
+        ensures round { AreRound (S.items controller.now.source.source) (event_of controller.now) self.new.rows.items }
+        ensures rows { All (IsRow (news_of self.old.event self.old.standing (event_of controller.now) snapshot.now now)
+            self.old.rows.items self.old.before.items) self.new.rows.items }
+        ensures noted { (self.new.event ≡ Some (event_of controller.now)) × (self.new.standing ≡ Some snapshot.now.standing) }
+        ensures rest { self.new ≡ record self.old { rows = self.new.rows; event = self.new.event; standing = self.new.standing } }
     {
-        let list = controller.source().whole();
         let event = event_of(controller);
-        let snapshot = controller.snapshot();
-        let news = News {
-            since: self.event.unwrap_or(event),
-            event,
-            ending: if snapshot.settled > 0 {
-                ending_seen(self.standing, &snapshot)
-            } else {
-                None
-            },
-            now,
-        };
+        let news = news_of(self.event, self.standing, event, snapshot, now);
         self.rows = rows_round(
             self.alloc,
-            list,
+            controller.source().whole(),
             event,
             self.rows.as_slice(),
             self.before.as_slice(),
@@ -153,20 +150,30 @@ struct News {
     now: u64,
 }
 
+fn news_of(
+    since: Option<u64>,
+    before: Option<Standing>,
+    event: u64,
+    snapshot: &Snapshot,
+    now: u64,
+) -> News
+    ensures { result ≡ news_of since before event snapshot.now now }
+{
+    News {
+        since: since.unwrap_or(event),
+        event,
+        ending: ending_seen(before, snapshot),
+        now,
+    }
+}
+
 impl News {
     fn row(self, older: &[EventSeen], before: &[EventBefore], number: u64, item: Item) -> EventSeen
-        ensures number { with_number result ≡ (number, item) }
-        ensures kept { HasRecord before.now result }
+        ensures { result ≡ row_of self older.now before.now number item }
     {
         let said = before_of(before, number);
-        let (at, until, ending) = match older.iter().find(|older| older.number == number) {
-            Some(older) => (older.at, older.until, older.ending),
-            None => match said {
-                Some(said) => (said.at, said.until, None),
-                None => (None, None, None),
-            },
-        };
-        let ending = ending_after(ending, self.ending_of(number));
+        let known = known_of(older_of(older, number), said);
+        let ending = ending_after(known.ending, self.ending_of(number));
         EventSeen {
             number,
             item,
@@ -174,16 +181,15 @@ impl News {
                 Some(said) => Some(said.kept),
                 None => None,
             },
-            at: at.or(self.at(number)),
-            until: match (until, ending) {
-                (None, Some(_)) => Some(self.now),
-                _ => until,
-            },
+            at: known.at.or(self.at(number)),
+            until: self.until(known.until, ending),
             ending,
         }
     }
 
-    fn at(self, number: u64) -> Option<u64> {
+    fn at(self, number: u64) -> Option<u64>
+        ensures { result ≡ at_in self number }
+    {
         if self.since <= number && number < self.event {
             Some(self.now)
         } else {
@@ -191,11 +197,67 @@ impl News {
         }
     }
 
-    fn ending_of(self, number: u64) -> Option<Ending> {
+    fn ending_of(self, number: u64) -> Option<Ending>
+        ensures { result ≡ ending_in self number }
+    {
         if number.checked_add(1) == Some(self.event) {
             self.ending
         } else {
             None
+        }
+    }
+
+    fn until(self, known: Option<u64>, ending: Option<Ending>) -> Option<u64>
+        ensures { result ≡ until_in self known ending }
+    {
+        match (known, ending) {
+            (None, Some(_)) => Some(self.now),
+            _ => known,
+        }
+    }
+}
+
+// When an event began, when it ended, and how.
+#[derive(Clone, Copy)]
+struct Known {
+    at: Option<u64>,
+    until: Option<u64>,
+    ending: Option<Ending>,
+}
+
+fn known_of(older: Option<EventSeen>, said: Option<EventBefore>) -> Known
+    ensures { result ≡ known_of older said }
+{
+    match (older, said) {
+        (Some(older), _) => Known {
+            at: older.at,
+            until: older.until,
+            ending: older.ending,
+        },
+        (None, Some(said)) => Known {
+            at: said.at,
+            until: said.until,
+            ending: None,
+        },
+        (None, None) => Known {
+            at: None,
+            until: None,
+            ending: None,
+        },
+    }
+}
+
+fn older_of(older: &[EventSeen], number: u64) -> Option<EventSeen>
+    ensures { result ≡ older_of older.now number }
+{
+    match older {
+        [] => None,
+        [first, rest @ ..] => {
+            if first.number == number {
+                Some(*first)
+            } else {
+                older_of(rest, number)
+            }
         }
     }
 }
@@ -216,20 +278,30 @@ fn before_of(before: &[EventBefore], number: u64) -> Option<EventBefore>
 }
 
 // If the next event isn't taken, its PLAY goes out once a state has shown that nothing plays: the clip ran out.
-fn ending_seen(before: Option<Standing>, now: &Snapshot) -> Option<Ending> {
-    match (before?, now.standing) {
-        (
-            Standing::Ready(Phase::Wait(_)) | Standing::Awaiting(Phase::Wait(_)),
-            Standing::Ready(Phase::Play(_)),
-        ) => {
-            if now.take {
+fn ending_seen(before: Option<Standing>, now: &Snapshot) -> Option<Ending>
+    ensures { result ≡ ending_seen before now.now }
+{
+    match before {
+        Some(before) if now.settled > 0 => ending_by(before, now),
+        _ => None,
+    }
+}
+
+fn ending_by(before: Standing, now: &Snapshot) -> Option<Ending>
+    ensures { result ≡ ending_by before now.now now.now.standing }
+{
+    match now.standing {
+        Standing::Ready(Phase::Play(_)) => {
+            if !is_waiting(before) {
+                None
+            } else if now.take {
                 Some(Ending::Taken)
             } else {
                 Some(Ending::RanOut)
             }
         }
-        (_, Standing::Ready(Phase::Close)) => Some(Ending::RanOut),
-        (before, Standing::Awaiting(Phase::Halt) | Standing::Ready(Phase::HaltClose)) => {
+        Standing::Ready(Phase::Close) => Some(Ending::RanOut),
+        Standing::Awaiting(Phase::Halt) | Standing::Ready(Phase::HaltClose) => {
             if is_on_air_known(before) {
                 Some(Ending::Stopped)
             } else {
@@ -240,22 +312,36 @@ fn ending_seen(before: Option<Standing>, now: &Snapshot) -> Option<Ending> {
     }
 }
 
-// Whether no STOP had gone out, and no PLAY that wasn't answered.
-fn is_on_air_known(standing: Standing) -> bool {
+fn is_waiting(standing: Standing) -> bool
+    ensures { result ≡ is_waiting standing }
+{
     match standing {
-        Standing::Ready(phase) => !matches!(phase, Phase::Probe(_) | Phase::HaltClose),
-        Standing::Awaiting(phase) => {
-            !matches!(phase, Phase::Play(_) | Phase::Probe(_) | Phase::Halt)
-        }
+        Standing::Ready(Phase::Wait(_)) | Standing::Awaiting(Phase::Wait(_)) => true,
+        _ => false,
+    }
+}
+
+// Whether no STOP had gone out, and no PLAY that wasn't answered.
+fn is_on_air_known(standing: Standing) -> bool
+    ensures { result ≡ is_on_air_known standing }
+{
+    match standing {
+        Standing::Ready(Phase::Probe(_) | Phase::HaltClose) => false,
+        Standing::Ready(_) => true,
+        Standing::Awaiting(Phase::Play(_) | Phase::Probe(_) | Phase::Halt) => false,
+        Standing::Awaiting(_) => true,
         Standing::Ended(_) => false,
     }
 }
 
 // A take that a stop has overtaken doesn't count.
-fn ending_after(known: Option<Ending>, new: Option<Ending>) -> Option<Ending> {
+fn ending_after(known: Option<Ending>, new: Option<Ending>) -> Option<Ending>
+    ensures { result ≡ ending_after known new }
+{
     match (known, new) {
-        (Some(Ending::Taken), Some(Ending::Stopped)) | (None, _) => new,
-        _ => known,
+        (None, _) => new,
+        (Some(Ending::Taken), Some(Ending::Stopped)) => new,
+        (Some(_), _) => known,
     }
 }
 
@@ -269,7 +355,7 @@ fn rows_round<S: Source>(
     news: News,
 ) -> Vec<EventSeen>
     ensures round { AreRound (S.items list.now) event result.items }
-    ensures records { All (HasRecord said.now) result.items }
+    ensures rows { All (IsRow news older.now said.now) result.items }
 {
     let mut rows = Vec::new(alloc);
     let next = usize::try_from(event).unwrap_or(usize::MAX);

@@ -4,7 +4,10 @@ use Rattle.std.specs.Prelude.{All}
 use Rattle.std.proofs.lemmas.Grind.{common_steps}
 use Rattle.vdcp_operator.proofs.Rounds.{round_pushed}
 use Rattle.vdcp_operator.proofs.shown.rows_round.Goals as goal
-use Rattle.vdcp_operator.specs.Seen.{HasRecord, with_number}
+use Rattle.vdcp_operator.proofs.Rows.{has_number, is_row}
+use Rattle.vdcp_operator.specs.Rows.{IsRow}
+use Rattle.vdcp_operator.specs.Seen.{with_number}
+use Rattle.vdcp_operator.specs.declared.seen.EventSeen.{EventSeen}
 
 pub loop-k-preserved : goal.loop-k-preserved
 loop-k-preserved g c = record {
@@ -14,8 +17,11 @@ loop-k-preserved g c = record {
       ap (map with_number) c.in-Ok.ensures.items
       ∙ round_pushed (g.S.Source.items c.args.list.now) c.saturating_sub-first.result c.loop-k.k c.at.result
       c.loop-k.rows.items _ c.loop-k.invariant.after c.at.ensures
-      (c.row-row.ensures.number ∙ ap (λ (n : ℕ). (n, c.at.result)) c.number.ensures) c.loop-k.invariant.rows;
-  records = subst (All (HasRecord c.args.said.now)) (sym c.in-Ok.ensures.items)
-      (All-append (HasRecord c.args.said.now) c.loop-k.rows.items (c.row-row.result ∷ []) c.loop-k.invariant.records
-      (All-cons (HasRecord c.args.said.now) c.row-row.result [] c.row-row.ensures.kept (All-nil (HasRecord c.args.said.now))));
+      (has_number c.args.news c.args.older.now c.args.said.now c.number.result c.at.result c.row-row.result c.row-row.ensures
+      ∙ ap (λ (n : ℕ). (n, c.at.result)) c.number.ensures) c.loop-k.invariant.rows;
+  are =
+      let is : EventSeen → Type 0 = IsRow c.args.news c.args.older.now c.args.said.now in
+      subst (All is) (sym c.in-Ok.ensures.items)
+      (All-append is c.loop-k.rows.items (c.row-row.result ∷ []) c.loop-k.invariant.are
+      (All-cons is c.row-row.result [] (is_row c.args.news c.args.older.now c.args.said.now c.number.result c.at.result c.row-row.result c.row-row.ensures) (All-nil is)));
 }

@@ -2,7 +2,8 @@
 use Rattle.std.proofs.Common.{◌≡◌, ◌-◌, ◌≤◌, drop, map, take}
 use Rattle.std.specs.Prelude.{All}
 use Rattle.vdcp_operator.proofs.shown.rows_round.Given as goal
-use Rattle.vdcp_operator.specs.Seen.{HasRecord, numbered, with_number}
+use Rattle.vdcp_operator.specs.Rows.{IsRow}
+use Rattle.vdcp_operator.specs.Seen.{numbered, with_number}
 
 abbrev pub invariant-loop-k : goal.invariant-loop-k
 invariant-loop-k g l = record {
@@ -10,5 +11,5 @@ invariant-loop-k g l = record {
   few : l.k - l.first ≤ 60;
   rows : map with_number l.rows.items
       ≡ take (l.k - l.first) (numbered l.first (drop l.first (g.S.Source.items l.list)));
-  records : All (HasRecord l.said) l.rows.items;
+  are : All (IsRow l.news l.older l.said) l.rows.items;
 }
