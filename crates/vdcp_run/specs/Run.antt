@@ -13,7 +13,6 @@ use Rattle.vdcp_auto.specs.declared.outcome.Outcome.{Outcome}
 use Rattle.vdcp_auto.specs.declared.outcome.Outcome.TheVariants.{Done, Stopped, Lost, Denied, Missing, Refused, Foreign, Strange}
 use Rattle.vdcp_auto.specs.State.{State}
 use Rattle.vdcp_drive.specs.declared.line.Ran.TheVariants as ran
-use Rattle.vdcp_text.specs.Text.{line}
 use Rattle.vdcp_text.specs.declared.failure.Failure.{Failure}
 use Rattle.vdcp_text.specs.declared.failure.Failure.TheVariants as failures
 use Rattle.vdcp_files.specs.Files.{File, bytes_of, file}
@@ -354,8 +353,8 @@ HasRecorder unit None state recorder = recorder ≡ None
 HasRecorder unit (Some journal) state None = IsSome (outcome_of state.stage)
 HasRecorder unit (Some journal) state (Some recorder) = (recorder.name ≡ name_of journal) × (recorder.unit ≡ unit)
 
--- So a try of these items ended, which was made with these settings: a session played them from one on with a controller that
--- begins by its journal, if it has one, in which its exchanges were kept.
+-- How a try of these items with these settings ended: a session played them from one on. If it has a journal, its controller
+-- begins as that says, and its exchanges were kept there.
 pub record IsTried (settings : RunSettings) (items : List Item) (end : RunEnd) : Type 0 where
   pub start : Start
   pub recorder : Option (Recording StdFile)
@@ -376,9 +375,9 @@ abbrev pub CameTo : RunSettings → List Item → Result RunEnd Failure → Type
 CameTo settings items (Ok end) = IsTried settings items end
 CameTo settings items (Err failure) = IsUntried settings items failure
 
--- So begins a run that begins anew in its journal after what a try came to: with the first event that this doesn't report, which
--- can't have aired (`BeginsAfter`), or behind it; after a refusal behind the first that the last run of a journal of these
--- items doesn't report.
+-- How a run begins anew in its journal after what a try came to. After an end it begins with the first event that this doesn't
+-- report, which can't have aired (`BeginsAfter`), or behind it. After a refusal it begins behind the first event that the last
+-- run of a journal of these items doesn't report.
 abbrev pub BeginsBehind : List Item → Result RunEnd Failure → RunSettings → Type 0
 BeginsBehind items (Ok end) next = (next.from ≡ None) ⊎ (next.from ≡ Some (end.reported + 1))
 BeginsBehind items (Err failure) next = (lines : FileBytes) × (run : Run) × (ended : Plan) × (end : State)

@@ -93,8 +93,8 @@ abbrev pub EndsOpen : {F : Type 0} → Bool → Recording F → Recording F → 
 EndsOpen true old new = NotesEnd None old new
 EndsOpen false old new = new ≡ old
 
--- its journal was ended, if it has one: first an exchange that is still open, and then with the outcome, if there is one; or why
--- it isn't whole is told, as if a command couldn't be kept
+-- Its journal was ended, if it has one: first an exchange that is still open, and then with the outcome, if there is one. If
+-- it isn't whole, why is told; it isn't if a command couldn't be kept.
 abbrev pub IsClosed : {F : Type 0} → (F → Option (List ℕ)) → Stage → LineEnd → Option Lack → Option (Recording F) → Type 0
 IsClosed safe stage line lack None = lack ≡ None
 IsClosed {F} safe stage line None (Some recorder) = (line ≢ line_end.Unkept) × (last : Recording F)

@@ -27,8 +27,8 @@ pub fn only_questions_are_asked<E: Ear, W: Wire>()
         AreAsked start (commands_kept (kept_in (steps_in h.run))) }
 {}
 
-/// A run that stays and begins anew in its journal begins behind all that aired or may have aired before: with the first
-/// event that isn't reported, if that can't have aired, and else, or if it can't be played, behind it.
+/// A run that stays and begins anew in its journal begins behind all that aired or may have aired before. It begins with
+/// the first event that isn't reported. If that event may have aired, or can't be played, it begins with the next one.
 pub fn a_new_run_begins_behind()
     ensures { (before next : RunSettings) (items : List Item) (end : Result RunEnd Failure) (name : Bor (List ℕ))
         → CameTo before items end → later_after before (length items) end ≡ Some next

@@ -13,9 +13,10 @@ const PACE: u64 = 1_000_000_000;
 /// The longest sleep, in nanoseconds: between two the operator is asked.
 const PIECE: u64 = 20_000_000;
 
-/// The settings of the next try of a list of `count` events, if the run stays, nobody stopped it, its journal is whole and
-/// a turn is left. It goes on from the journal if the line ended this try, and begins a new run there if the server has lost
-/// the port, or, behind the event that can't be played, if such events are skipped. A connection takes at least one turn.
+/// The settings of the next try of a list of `count` events. There is one only if the run stays, nobody stopped it, its
+/// journal is whole and a turn is left. If the line ended this try, the next one goes on from the journal. If the server has
+/// lost the port, a new run begins there. If the next event can't be played, and such events are skipped, a new run begins
+/// behind it. A connection takes at least one turn.
 pub fn later_of<'a>(
     end: &RunEnd<'_>,
     count: usize,
