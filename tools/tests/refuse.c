@@ -1,7 +1,9 @@
 // Preloaded into a program, refuses what it asks of the system, and tells of each refusal on descriptor 9; or watches or kills it. With
 // REFUSED_GROWTHS=N it refuses the growth of memory of this number, counted from 1, with N- also all after it, and tells '!'. With
 // REFUSED_WRITE=N it refuses the write to standard output of this number, as a pipe does that is full, and tells '!'; each later one is
-// let through, as by a pipe that was drained, and it tells '+'. With REFUSED_LOCKS it refuses each lock of a file, as a file system does that has
+// let through, as by a pipe that was drained, and it tells '+'. With REFUSED_READ=N it refuses the read of a file of this number, as a disk does that
+// fails, and tells '!'; with INTERRUPTED, too, as if a signal had come. With INTERRUPTED and WATCHED so it does each second write to a file, and tells
+// 'interrupted'. With REFUSED_LOCKS it refuses each lock of a file, as a file system does that has
 // none. With REFUSED_TEXT=TEXT it refuses each write to a file that has this text, as a disk does that is full, and each renaming to a
 // name that ends so, and tells 'refused'. With REFUSED_CONNECTIONS it takes no connection. With WATCHED it tells, in a line each and in their order, which files are written to, made
 // safe and renamed, and when something is sent: 'write FILE', 'sync FILE', 'rename FILE TO', without folders, and 'send TYPE', with a
@@ -96,9 +98,17 @@ ssize_t write(int file, const void *bytes, size_t count) {
     if (turn == 2) NEXT(write)(9, "+", 1);
     const char *path = file > 2 && file != 9 && getenv("WATCHED") ? open_at(file) : "", *text = getenv("REFUSED_TEXT");
     if (*path == '/' && text && memmem(bytes, count, text, strlen(text))) return refused(ENOSPC, "refused\n");
+    static long files;
+    if (*path == '/' && getenv("INTERRUPTED") && ++files % 2) return refused(EINTR, "interrupted\n");
     if (*path == '/') TELL("write %s\n", last_part(path));
     if (!strncmp(path, "socket:", 7)) tell_of_sending(bytes, count);
     ACT(ssize_t, write, file, bytes, SOME(count));
+}
+
+ssize_t read(int file, void *bytes, size_t count) {
+    static long reads;
+    if (getenv("REFUSED_READ") && *open_at(file) == '/' && turn_of("REFUSED_READ", &reads) == 1) return refused(getenv("INTERRUPTED") ? EINTR : EIO, "!");
+    return NEXT(read)(file, bytes, count);
 }
 
 ssize_t __write(int file, const void *bytes, size_t count) { return write(file, bytes, count); }
