@@ -1,19 +1,17 @@
-//! Tests by public calls, of what no clause says.
+//! Tests by public calls, of what no clause says and the program doesn't show.
 #![tactic(auto)]
 
 #[cfg(test)]
-mod drive;
+mod ends;
 #[cfg(test)]
-mod journal;
+mod expecting;
 #[cfg(test)]
-mod list;
+mod faults;
+#[cfg(test)]
+mod lists;
 #[cfg(test)]
 mod log;
 #[cfg(test)]
-mod offline;
+mod values;
 #[cfg(test)]
-mod testing;
-#[cfg(test)]
-mod words;
-#[cfg(test)]
-mod world;
+mod wire;

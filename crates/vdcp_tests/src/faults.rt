@@ -1,9 +1,11 @@
 //! The words of faults.
+use crate::expecting::expect;
 use std::alloc::AllocError;
 use std::fmt;
 use std::process::Abort;
 use vdcp_frame::Full;
-use vdcp_value::{Field, IdFault, TcFault};
+use vdcp_list::{ListFault, SlotFault, WriteFault};
+use vdcp_value::{Field, IdFault, RowFault, TcFault};
 use vdcp_words::WordFault;
 
 /// Each of these faults has its words.
@@ -12,7 +14,8 @@ fn are_worded<F: fmt::Display + Copy + Drop>(
     rows: &[(F, &str)],
 ) -> Result<(), AllocError> {
     for &(fault, words) in rows {
-        assert_eq!(rt; format!(in rt.alloc(); "{fault}")?.as_str(), words);
+        let shown = format!(in rt.alloc(); "{fault}")?;
+        expect(rt, words, &shown.as_str(), &words);
     }
     Ok(())
 }
@@ -65,10 +68,49 @@ static WORD_WORDS: [(WordFault, &str); 3] = [
     (WordFault::Length, "a wrong number of data bytes"),
 ];
 
+static LIST_WORDS: [(ListFault, &str); 7] = [
+    (
+        ListFault::Row(2, RowFault::Columns),
+        "row 2 has a wrong number of fields",
+    ),
+    (ListFault::Row(3, RowFault::Id), "row 3 has no clip id"),
+    (
+        ListFault::Row(4, RowFault::Time),
+        "row 4 has no time code that it can have",
+    ),
+    (
+        ListFault::Row(5, RowFault::Twice),
+        "row 5 has the clip id of an earlier row",
+    ),
+    (
+        ListFault::Row(10_001, RowFault::TooMany),
+        "row 10001 is one too many",
+    ),
+    (ListFault::Memory, "out of memory"),
+    (ListFault::Read, "the reader failed"),
+];
+
+static SLOT_WORDS: [(SlotFault, &str); 2] = [
+    (SlotFault::Twice, "the clip is there already"),
+    (SlotFault::Full, "there is no room for another clip"),
+];
+
+static WRITE_WORDS: [(WriteFault, &str); 3] = [
+    (WriteFault::Device, "the writer failed"),
+    (WriteFault::Memory, "out of memory"),
+    (
+        WriteFault::Time(6),
+        "the part of event 6 isn't lawful at the rate",
+    ),
+];
+
 #[test]
 fn faults_are_worded(rt: HostRuntime) -> Result<(), AllocError> {
     are_worded(&rt, &ID_WORDS)?;
     are_worded(&rt, &TIME_CODE_WORDS)?;
     are_worded(&rt, &ROOM_WORDS)?;
-    are_worded(&rt, &WORD_WORDS)
+    are_worded(&rt, &WORD_WORDS)?;
+    are_worded(&rt, &LIST_WORDS)?;
+    are_worded(&rt, &SLOT_WORDS)?;
+    are_worded(&rt, &WRITE_WORDS)
 }

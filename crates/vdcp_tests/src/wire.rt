@@ -2,7 +2,7 @@
 ghost use Rattle.std.specs.Prelude.{◌≡◌, IfOk, OnOk};
 ghost use Rattle.vdcp_wire.specs.declared.stream.Connection.{Connection};
 
-use super::expecting::expect;
+use crate::expecting::expect;
 use std::io::{self, Write};
 use std::net::{Ipv4Addr, SocketAddr, TcpListener, TcpStream};
 use std::test::Fail;
@@ -14,7 +14,7 @@ const SHORT: u64 = 40;
 const MINUTE: u64 = 60_000;
 
 /// Both ends of a connection within this process.
-pub fn pair(rt: &HostRuntime) -> io::Result<(TcpStream, TcpStream)> {
+fn pair(rt: &HostRuntime) -> io::Result<(TcpStream, TcpStream)> {
     let listener = TcpListener::bind(rt, SocketAddr::from((Ipv4Addr::LOCALHOST, 0)))?;
     let near = TcpStream::connect(rt, listener.local_addr()?)?;
     let (far, _) = listener.accept()?;
@@ -46,7 +46,12 @@ fn silence_comes_after_so_long(rt: HostRuntime) -> Result<(), Fail> {
     let (mut peer, near, mut wire) = wire(&rt, SHORT)?;
     let set = (near.nodelay()?, near.read_timeout()?, near.write_timeout()?);
     let sending = Duration::from_secs(10);
-    expect(&rt, 0, &set, &(true, Some(short), Some(sending)));
+    expect(
+        &rt,
+        "what is set",
+        &set,
+        &(true, Some(short), Some(sending)),
+    );
     peer.write_all(&[5, 1])?;
     near.peek(&mut [0])?;
     wire.drop_waiting()?;
@@ -57,7 +62,12 @@ fn silence_comes_after_so_long(rt: HostRuntime) -> Result<(), Fail> {
     let second = hear(&mut wire)?;
     let is_refused = StreamWire::new(peer, Duration::ZERO).is_err();
     let expected = (Came::Silence, true, Came::Bytes(1), true);
-    expect(&rt, 1, &(first, is_late, second, is_refused), &expected);
+    expect(
+        &rt,
+        "what comes",
+        &(first, is_late, second, is_refused),
+        &expected,
+    );
     Ok(())
 }
 
@@ -70,7 +80,7 @@ fn close_is_no_silence(rt: HostRuntime) -> Result<(), Fail> {
     near.peek(&mut [0])?;
     drop(peer);
     wire.drop_waiting()?;
-    expect(&rt, 0, &hear(&mut wire)?, &Came::Closed);
+    expect(&rt, "the close", &hear(&mut wire)?, &Came::Closed);
     Ok(())
 }
 
@@ -82,7 +92,12 @@ fn drop_takes_no_more_than_it_may(rt: HostRuntime) -> Result<(), Fail> {
     let count = peer.write(vec![in rt.alloc(); 3; 100_000]?.as_slice())?;
     wire.drop_waiting()?;
     let is_left = matches!(hear(&mut wire)?, Came::Bytes(_));
-    expect(&rt, 0, &(count > 128 * PIECE, is_left), &(true, true));
+    expect(
+        &rt,
+        "the rest",
+        &(count > 128 * PIECE, is_left),
+        &(true, true),
+    );
     Ok(())
 }
 
@@ -111,6 +126,6 @@ fn failed_connection_is_no_silence(rt: HostRuntime) -> Result<(), Fail> {
     let mut wire = StreamWire::with_waits(near, waits)?;
     let sent = wire.send(vec![in rt.alloc(); 3; 64_000_000]?.as_slice());
     let failed = (Err(WireFault), Err(WireFault), Err(WireFault));
-    expect(&rt, 0, &(heard, dropped, sent), &failed);
+    expect(&rt, "each failure", &(heard, dropped, sent), &failed);
     Ok(())
 }

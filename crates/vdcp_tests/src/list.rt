@@ -1,4 +1,0 @@
-//! Tests of playlists and as-run lists.
-mod asrun;
-mod faults;
-mod reading;
