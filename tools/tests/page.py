@@ -4,7 +4,8 @@ process SERVER. page.py run URL: opens the page of a run, takes by a click and b
 page.py list URL: that of a run that began with event 28 of 40, whose first clips are short. page.py start URL: that of one that waits for its
 start, which a key that is asked twice begins. page.py before URL PLAYED: that of one that went on in a journal of others, of which the first
 played an event at PLAYED. page.py resumed URL PLAYED: that of one that was killed after it had played an event at PLAYED, and goes on. page.py
-lost URL SERVER JOURNAL: that of one whose server stops to answer. It fails if the page doesn't show each of these, or can't be read. With a last word --picture=FILE it draws the page."""
+lost URL SERVER JOURNAL: that of one whose server stops to answer. page.py down URL LINE: that of
+one that stays, whose line is this process. It fails if the page doesn't show each of these, or can't be read. With a last word --picture=FILE it draws the page."""
 import os
 import re
 import signal
@@ -211,8 +212,16 @@ def lost(page):
     must(class_of(page, "health") == "gone", "that isn't told in red")
 
 
+def down(page):
+    page.get(URL)
+    awaits(page, "the first one", air_item="CLIP0001", health="runs")
+    os.kill(int(WORDS[0]), signal.SIGTERM)
+    awaits(page, "since when it is down", health=lambda it: re.fullmatch(r"no line since ([01]\d|2[0-3]):[0-5]\d:[0-5]\d: connecting", it), air_item="CLIP0001", air_time=begins_with("for 00:00:"))
+    must((class_of(page, "health"), page.find_element(By.TAG_NAME, "body").get_attribute("class")) == ("gone", "stale"), "that isn't told in red, or the rest isn't dim")
+
+
 opened = browser(1200, 800)
 try:
-    {"port": port, "run": run, "list": follow_list, "start": start, "before": before, "resumed": resumed, "lost": lost}[WHOSE](opened)
+    {"port": port, "run": run, "list": follow_list, "start": start, "before": before, "resumed": resumed, "lost": lost, "down": down}[WHOSE](opened)
 finally:
     opened.quit()

@@ -40,7 +40,7 @@ rows_whole rate clips (e ∷ events) =
     (rows_whole rate clips events)
 
 pub seen_whole : (v : RunSeen) → has_float (seen_data v) ≡ false
-seen_whole v = rw (rows_whole v.rate v.clips.now v.rows.now, number_whole v.start) refl
+seen_whole v = rw (rows_whole v.rate v.clips.now v.rows.now, number_whole v.start, number_whole v.down) refl
 
 -- the page's own panel and calls answered
 pub shows : {S : Type 0} (items : S → List Item) (c : View (FromEvent S)) (page followed page' : RunPage) (end : Option (Option Outcome))

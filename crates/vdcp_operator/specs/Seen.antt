@@ -104,13 +104,14 @@ abbrev pub run_data : RunSeen → Data
 run_data v =
     object (member (codes "channel") (string (string_bytes v.names.now.channel))
     (member (codes "commands") (number (unsigned v.commands))
+    (member (codes "down") (number_data v.down)
     (member (codes "from") (number (unsigned v.from))
     (member (codes "journal") (string (string_bytes v.names.now.journal))
     (member (codes "list") (string (string_bytes v.names.now.list))
     (member (codes "over") (boolean v.is_over)
     (member (codes "rate") (number (unsigned (frames_per_second v.rate)))
     (member (codes "server") (string (string_bytes v.names.now.server))
-    (member (codes "unanswered") (number (unsigned v.snapshot.unanswered)) no_members)))))))))
+    (member (codes "unanswered") (number (unsigned v.snapshot.unanswered)) no_members))))))))))
 
 abbrev pub seen_data : RunSeen → Data
 seen_data v =
@@ -170,6 +171,7 @@ pub record IsSeen {S : Type 0} (items : S → List Item) (c : View (FromEvent S)
   pub rows : All (IsRow (news_of page.event page.standing (event_of c) view.snapshot view.clock) page.rows.items page.before.items) view.rows.now
   pub commands_are : view.commands ≡ commands
   pub start_is : view.start ≡ start
+  pub down : view.down ≡ page.down
 
 -- the page keeps what was seen, for the next look
 pub record Keeps (page : RunPage) (view : RunSeen) (page' : RunPage) : Type 0 where

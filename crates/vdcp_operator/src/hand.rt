@@ -1,5 +1,6 @@
 //! The operator's part in a run: calls are taken, and commands wait.
 ghost use Rattle.std.specs.Duration.{as_nanos};
+ghost use Rattle.std.specs.Option.{unwrap_or};
 ghost use Rattle.std.specs.Prelude.{◌≡◌, ◌≢◌, ◌↔◌, ◌*◌, ◌+◌, ◌≤◌, min, IsSome, IsTrue, None, Option, Some, is_some, option_map, ℕ};
 ghost use Rattle.vdcp_auto.specs.Plan.{plan_of};
 ghost use Rattle.vdcp_auto.specs.Turn.{given};
@@ -110,6 +111,26 @@ impl<'a, R: Clock, I: Read + Drop, E: Write> Hand<'a, R, I, E> {
     {
         if let Some(page) = &mut self.page {
             page.set_before(before);
+        }
+    }
+
+    /// The page says from now on that there is no connection.
+    pub fn note_connecting(&mut self)
+        ensures { (now : ℕ) × (self.new ≡ record self.old {
+          page = option_map (λ (page : RunPage). record page { down = Some (unwrap_or page.down now) }) self.old.page;
+        }) }
+    {
+        if let Some(page) = &mut self.page {
+            page.note_connecting(self.clock);
+        }
+    }
+
+    /// The page says from now on that there is one.
+    pub fn note_connected(&mut self)
+        ensures { self.new ≡ record self.old { page = option_map (λ (page : RunPage). record page { down = None }) self.old.page } }
+    {
+        if let Some(page) = &mut self.page {
+            page.note_connected();
         }
     }
 

@@ -203,8 +203,9 @@ function show(run) {
   put('step', step(run));
   $('after').hidden = step(run) === '';
   if (isOver(run)) health(isWell(run) ? 'idle' : 'gone', outcome(run), false);
-  else if (run.unanswered > 0) health('gone', 'no answer', true);
   else if (run.start !== null) health('idle', 'waits for its start', false);
+  else if (run.down !== null) health('gone', 'no line since ' + clock(run.down) + ': connecting', true);
+  else if (run.unanswered > 0) health('gone', 'no answer', true);
   else health('good', 'runs', false);
   tick();
 }

@@ -89,6 +89,8 @@ pub struct RunSeen<'a> {
     pub commands: u64,
     /// When the first event goes to air, if that is waited for.
     pub start: Option<u64>,
+    /// Since when there is no connection, if there is none.
+    pub down: Option<u64>,
     pub clock: u64,
 }
 
@@ -139,6 +141,7 @@ impl RunSeen<'_> {
         json!(in alloc; {
             "channel": self.names.channel.as_str(),
             "commands": self.commands,
+            "down": number_or_null(self.down),
             "from": self.from,
             "journal": self.names.journal.as_str(),
             "list": self.names.list.as_str(),

@@ -1,6 +1,6 @@
 //! How the page of a run follows it and takes calls.
-ghost use Rattle.std.specs.Option.{option_to_list};
-ghost use Rattle.std.specs.Prelude.{◌≡◌, ◌++◌, [], All, None, Some};
+ghost use Rattle.std.specs.Option.{option_to_list, unwrap_or};
+ghost use Rattle.std.specs.Prelude.{◌≡◌, ◌++◌, [], All, None, Some, ℕ};
 ghost use Rattle.vdcp_operator.specs.Rows.{IsRow, at_in, before_of, ending_after, ending_by, ending_in, ending_seen, is_on_air_known, is_waiting, known_of, news_of, older_of, row_of, until_in};
 ghost use Rattle.vdcp_operator.specs.Seen.{AreRound, ShowsRun, event_of, with_number};
 
@@ -31,6 +31,8 @@ pub struct RunPage {
     rows: Vec<EventSeen>,
     event: Option<u64>,
     standing: Option<Standing>,
+    // Since when there is no connection, if there is none.
+    down: Option<u64>,
     calls: Calls,
 }
 
@@ -44,7 +46,8 @@ impl RunPage {
         clips: Option<Table>,
     ) -> Self
         ensures given { (result.panel ≡ panel) × (result.names ≡ names) × (result.rate ≡ rate) × (result.clips ≡ clips) }
-        ensures fresh { (result.event ≡ None) × (result.standing ≡ None) × (result.calls.items ≡ []) }
+        ensures fresh { (result.event ≡ None) × (result.standing ≡ None) × (result.down ≡ None)
+            × (result.calls.items ≡ []) }
     {
         RunPage {
             alloc,
@@ -56,6 +59,7 @@ impl RunPage {
             rows: Vec::new(alloc),
             event: None,
             standing: None,
+            down: None,
             calls: Calls::new(),
         }
     }
@@ -64,6 +68,20 @@ impl RunPage {
         ensures { self.new ≡ record self.old { before = before } }
     {
         self.before = before;
+    }
+
+    /// There is no connection, from now on if there was one.
+    pub fn note_connecting<R: Clock>(&mut self, clock: &R)
+        ensures { (now : ℕ) × (self.new ≡ record self.old { down = Some (unwrap_or self.old.down now) }) }
+    {
+        let now = milliseconds(clock);
+        self.down = Some(self.down.unwrap_or(now));
+    }
+
+    pub fn note_connected(&mut self)
+        ensures { self.new ≡ record self.old { down = None } }
+    {
+        self.down = None;
     }
 
     /// Answers requests for the page. `end` is None while the run goes on, Some(None) if it is over without an outcome.
@@ -94,6 +112,7 @@ impl RunPage {
             rows: self.rows.as_slice(),
             commands,
             start,
+            down: self.down,
             clock: now,
         };
         self.panel.serve_some(clock, &seen, &mut self.calls);

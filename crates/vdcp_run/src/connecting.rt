@@ -1,5 +1,7 @@
 //! How a run connects; one that stays tries until somebody takes the connection.
 use crate::console::Console;
+use crate::session::Session;
+use crate::settings::RunSettings;
 use crate::staying::Pace;
 use std::io::{self, ErrorKind};
 use std::net::{Net, OpenStream, SocketAddr, SocketAddrV4};
@@ -22,9 +24,37 @@ impl<
     I: io::Read + Drop,
     O: io::Write + Drop,
     V: io::Write + Drop,
+> Session<'r, 'l, R, I, O, V> {
+    /// Connects once it is time. None if nobody takes the connection then, or, in a run that stays, if the operator stops before
+    /// somebody does.
+    pub fn connect<S: Source>(
+        &mut self,
+        address: SocketAddrV4,
+        controller: &Controller<Rest<S>>,
+        settings: RunSettings<'_>,
+    ) -> Option<R::Stream> {
+        self.console.hand.note_connecting();
+        let stream = if settings.stay {
+            self.console
+                .connect_staying(address, controller, &mut self.pace)?
+        } else {
+            self.console.connect_in_time(address, controller)?
+        };
+        self.console.hand.note_connected();
+        self.console.tell_up();
+        Some(stream)
+    }
+}
+
+impl<
+    'r,
+    'l,
+    R: Net + Files + Clock + AllocGlobal,
+    I: io::Read + Drop,
+    O: io::Write + Drop,
+    V: io::Write + Drop,
 > Console<'r, 'l, R, I, O, V> {
-    /// Connects once it is time; None if nobody takes the connection then.
-    pub fn connect_in_time<S: Source>(
+    fn connect_in_time<S: Source>(
         &mut self,
         address: SocketAddrV4,
         controller: &Controller<Rest<S>>,
@@ -35,9 +65,8 @@ impl<
         }
     }
 
-    /// Connects once it is time, else tries again at this pace, and tells so once; None if the operator stops before
-    /// somebody takes the connection.
-    pub fn connect_staying<S: Source>(
+    // Connects once it is time, else tries again at this pace, and tells so once.
+    fn connect_staying<S: Source>(
         &mut self,
         address: SocketAddrV4,
         controller: &Controller<Rest<S>>,
@@ -55,7 +84,9 @@ impl<
             match connect(self.rt, address, CONNECTING_AGAIN) {
                 Ok(stream) => return Some(stream),
                 Err(error) if !is_told => {
-                    self.tell(&format_args!("cannot connect ({error}): trying again each second"));
+                    self.tell_down(&format_args!(
+                        "cannot connect ({error}); trying again each second"
+                    ));
                     is_told = true;
                 }
                 Err(_) => {}

@@ -25,6 +25,8 @@ pub struct Console<'r, 'l, R: Clock, I: io::Read, O: io::Write, V: io::Write> {
     pub rt: &'r R,
     progress: Option<Progress<'r, R, V>>,
     stalling: Stalling<'r, R>,
+    // Whether the line was told to be down.
+    is_down: bool,
 }
 
 impl<
@@ -52,6 +54,7 @@ impl<
                 None => None,
             },
             stalling: Stalling::new(rt, settings.hearing),
+            is_down: false,
         }
     }
 
@@ -87,22 +90,33 @@ impl<
     }
 
     /// Tells how the run goes on after this try.
-    pub fn tell_again(&self, end: &Result<RunEnd<'_>, Failure<'_>>, later: RunSettings<'_>) {
+    pub fn tell_again(&mut self, end: &Result<RunEnd<'_>, Failure<'_>>, later: RunSettings<'_>) {
         let end = match end {
             Ok(end) => end,
             Err(failure) => {
-                self.tell(&format_args!("{failure}: it is left out"));
+                self.tell(&format_args!("left out: {failure}"));
                 return;
             }
         };
         let (event, outcome) = (end.reported, OutcomeText(end.told_outcome()));
         match end.line.failure() {
-            Some(failure) => self.tell(&format_args!("{failure}: connecting again")),
-            None if end.is_by_line() => self.tell(&"lost: connecting again"),
-            None if later.from.is_some() => self.tell(&format_args!("{outcome}: it is left out")),
-            None => self.tell(&format_args!(
-                "the server lost the port: going on with event {event}"
-            )),
+            Some(failure) => self.tell_down(&format_args!("{failure}; connecting again")),
+            None if end.is_by_line() => self.tell_down(&"lost; connecting again"),
+            None if later.from.is_some() => self.tell(&format_args!("left out: {outcome}")),
+            None => self.tell(&format_args!("port lost: going on with event {event}")),
+        }
+    }
+
+    pub fn tell_down<T: fmt::Display>(&mut self, why: &T) {
+        self.tell(&format_args!("line down: {why}"));
+        self.is_down = true;
+    }
+
+    /// Tells that there is a connection, if it was told that there is none.
+    pub fn tell_up(&mut self) {
+        if self.is_down {
+            self.tell(&"line up");
+            self.is_down = false;
         }
     }
 

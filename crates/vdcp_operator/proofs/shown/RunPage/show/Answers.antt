@@ -24,6 +24,7 @@ returns g c =
       rows = rw c.as_slice.ensures.value c.follow-event.ensures.rows;
       commands_are = refl;
       start_is = refl;
+      down = ap (λ (p : RunPage). p.down) c.follow-event.ensures.rest;
     })
     (record {
       rows = sym c.as_slice.ensures.value;
