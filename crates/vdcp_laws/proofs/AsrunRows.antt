@@ -1,9 +1,15 @@
 -- The as-run list of a channel that keeps the headline.
-use Rattle.std.proofs.Common.{◌≡◌, ℕ, List, [], ◌∷◌, ◌++◌, length, Option, Some, None, refl, sym, ◌∙◌, ap, arith, append-nil, length-append}
+use Rattle.std.proofs.Common.{◌≡◌, ◌-◌, ℕ, List, [], ◌∷◌, ◌++◌, length, take, Option, Some, None, refl, sym, ◌∙◌, ap, arith, append-nil, length-append}
 use Rattle.std.specs.Prelude.{IfSome, IsTrue}
+use Rattle.vdcp_value.specs.declared.clip_id.ClipId.{ClipId}
 use Rattle.vdcp_value.specs.declared.part.Item.{Item}
 use Rattle.vdcp_value.specs.declared.rate.Rate.{Rate}
+use Rattle.vdcp_value.specs.declared.timecode.Timecode.{Timecode}
+use Rattle.vdcp_list.specs.Asrun.{asrun_text}
+use Rattle.vdcp_auto.specs.Plan.{Plan}
+use Rattle.vdcp_auto.specs.State.{State}
 use Rattle.vdcp_auto.specs.Turn.{outcome_of}
+use Rattle.vdcp_auto.specs.declared.exchange.Exchange.{Exchange}
 use Rattle.vdcp_auto.specs.declared.outcome.Outcome.{Outcome}
 use Rattle.vdcp_auto.specs.declared.outcome.Outcome.TheVariants as outcome
 use Rattle.vdcp_world.specs.Channel.{Channel}
@@ -12,6 +18,10 @@ use Rattle.vdcp_world.specs.Headline.{AreReported, Headline, Means, is_complete}
 use Rattle.vdcp_world.specs.LateLine.LateChannel.{LateChannel}
 use Rattle.vdcp_world.specs.LateLine.LateHeadline as late
 use Rattle.vdcp_world.specs.LateLine.LateHeadline.{LateHeadline, is_late_complete}
+use Rattle.vdcp_run.specs.Ends.{Reports}
+use Rattle.vdcp_run.specs.Run.{reported_text}
+use Rattle.vdcp_run.specs.declared.run_end.RunEnd.{RunEnd}
+use Rattle.vdcp_laws.specs.EndsHeadline.{EndsHeadline}
 use Rattle.vdcp_laws.specs.AsrunLaw.{IsOfAired, IsOfAllAired, rows_for}
 
 -- what went to air begins so, and is no more than that if it is no longer
@@ -73,3 +83,20 @@ late_complete rate c h = by (outcome_of c.state.stage) h.complete
         IsOfAllAired rate c.plan.list c.aired c.state.settled)
     by None h = tt
     by (Some outcome) h = λ whole. ap (rows_for rate c.plan.list) (sym (h whole))
+
+pub reported_rows : (rate : Rate) (plan : Plan) (clips : List (ClipId × Timecode)) (state : State) (log : List Exchange)
+    (aired : List Item) (end : RunEnd) → EndsHeadline plan clips state log aired → Reports 0 state end
+    → IsOfAired rate plan.list aired end.reported
+    × (reported_text rate plan.list 0 end.reported ≡ asrun_text rate plan.list end.reported)
+reported_rows rate plan clips state log aired end h reports =
+    let is : end.reported ≡ state.settled = omega arith in
+    let all : end.reported - 0 ≡ end.reported = omega arith in (
+      record {
+        beginning = take state.settled plan.list;
+        last = h.reported.0;
+        aired_are = h.reported.1;
+        but_one = h.reported.2;
+        text = ap (asrun_text rate plan.list) is;
+      },
+      ap (asrun_text rate plan.list) all,
+    )

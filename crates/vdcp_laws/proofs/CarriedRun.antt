@@ -28,6 +28,7 @@ use Rattle.vdcp_laws.specs.Automation.{Prompt, led}
 use Rattle.vdcp_laws.specs.Carried.{AreCarried, MayGive, driver_of, next, nothing}
 use Rattle.vdcp_laws.specs.Carried as carried
 use Rattle.vdcp_laws.specs.EndsHeadline.{EndsHeadline}
+use Rattle.vdcp_laws.specs.Mended.{behind}
 use Rattle.vdcp_laws.specs.OneConnection.{ends_at, ends_by, hears_in}
 use Rattle.vdcp_laws.specs.TwoEnds as two
 use Rattle.vdcp_laws.specs.TwoEnds.{AreJoined, AreLed, CanJoin, Ends, aired_now, log_now, new_ends, note_for, sent_down}
@@ -57,7 +58,8 @@ pub led_by : (plan : Plan) (unit : ℕ) (e : Ends) (list : List Act) (last : End
     (aired : List Item) → Side plan unit (AreLed plan unit) e (sent_down plan unit e) list last → ServedSo e turns below aired
     → AreCarried plan unit e list below → AreLed plan unit e (record last { downs = e.downs ++ turns })
 led_by plan unit e list last turns below aired s served c =
-    side_led plan unit (AreLed plan unit) (leads_on plan unit) e list last turns below s waits served.whole served.answers c where
+    side_led plan unit (AreLed plan unit) (leads_on plan unit) e list last turns served.heard s waits served.whole served.answers
+    (served.carried plan unit list c) where
       waits : (now : Ends) (autos : List Act) (a : Arrival) → IsFront list (autos ++ brings a ∷ []) → IsQuiet a
           → AreLed plan unit e now → AreLed plan unit e (hears_in plan unit a now)
       waits now autos (bytes piece) front quiet j = absurd quiet
@@ -71,6 +73,22 @@ pub joined : (plan : Plan) (port : ClockedPort) (asked : List Command) (e last :
 joined plan port asked e last list turns below aired j s served c =
     led_on plan port.state.unit (new_ends port asked) e _ j
     (led_by plan port.state.unit e list last turns below aired s served c)
+
+-- what is carried over a connection is whatever is behind it
+module _ (plan : Plan) (unit : ℕ) (e : Ends) (log : List Exchange) (aired : List Item) (notes : List Note) where
+  pub carried_behind : {autos servers : List Act} → AreCarried plan unit e autos servers
+      → AreCarried plan unit (behind log aired notes e) autos servers
+  carried_behind carried.begun = carried.begun
+  carried_behind (carried.sent c b) = carried.sent (carried_behind c) b
+  carried_behind (carried.up c piece rest out) = carried.up (carried_behind c) piece rest out
+  carried_behind (carried.waited c) = carried.waited (carried_behind c)
+  carried_behind (carried.hung_up c) = carried.hung_up (carried_behind c)
+  carried_behind (carried.failed c) = carried.failed (carried_behind c)
+  carried_behind (carried.answered c b) = carried.answered (carried_behind c) b
+  carried_behind (carried.down c piece rest out) = carried.down (carried_behind c) piece rest out
+  carried_behind (carried.paused c) = carried.paused (carried_behind c)
+  carried_behind (carried.shut c) = carried.shut (carried_behind c)
+  carried_behind (carried.broke c) = carried.broke (carried_behind c)
 
 -- Ends of a run that was killed.
 
@@ -140,6 +158,13 @@ killed_so plan unit e last events rows out made may =
           ∙ append_assoc e.notes (map note_for kept) (map note_for rows)
           ∙ ap (λ (l : List Note). e.notes ++ l) (sym (map-append note_for kept rows)),
     )
+
+-- which leaves these
+pub stays_killed : {A : Type 0} (f : ClockedPort → List Item → A) (plan : Plan) (unit : ℕ) (e last : Ends) (events : List Event)
+    (rows : List Kept) (out : List Act) → MayGive plan unit (ends_by plan unit e events) rows out last
+    → f last.port last.aired_before ≡ f e.port e.aired_before
+stays_killed f plan unit e _ events _ _ nothing = stays (λ p l i. f p i) plan unit e events
+stays_killed f plan unit e _ events _ _ (next out unsent none part) = stays (λ p l i. f p i) plan unit e events
 
 -- The headline of a run after which the ends are joined.
 

@@ -3,6 +3,7 @@ use Rattle.std.proofs.Common.{ℕ, ◌≡◌, Bool, true, false, List, [], ◌�
 use Rattle.std.proofs.lemmas.List.{map-append}
 use Rattle.std.specs.Option.{option_map_or, option_to_list}
 use Rattle.std.specs.Prelude.{Option, None, Some, if◌then◌else◌}
+use Rattle.vdcp_value.specs.declared.part.Item.{Item}
 use Rattle.vdcp_words.specs.declared.command.Command.{Command}
 use Rattle.vdcp_words.specs.declared.command.Command.TheVariants as command
 use Rattle.vdcp_port.specs.Clock.{ClockedPort}
@@ -25,7 +26,7 @@ use Rattle.vdcp_journal_file.specs.declared.pending.Pending.{Pending}
 use Rattle.vdcp_laws.specs.Carried.{MayGive, driver_of, next, nothing}
 use Rattle.vdcp_laws.specs.Mended.{AreOfJoined}
 use Rattle.vdcp_laws.specs.OneConnection.{ends_by}
-use Rattle.vdcp_laws.specs.TwoEnds.{AreJoined, CanJoin, Ends, note_for}
+use Rattle.vdcp_laws.specs.TwoEnds.{AreJoined, CanJoin, Ends, aired_now, note_for, port_now}
 use Rattle.vdcp_laws.proofs.Carrying.{none_before, sent_both}
 use Rattle.vdcp_laws.proofs.Mended.{Below}
 use Rattle.vdcp_laws.proofs.Unwritten.{Sends, before_last, last_behind, last_mapped, last_of, unheard, with_last}
@@ -98,37 +99,42 @@ given_last plan unit now last noted _ _ k (next out unsent none part) is ends = 
       let no : Some false ≡ Some true =
       ap (λ (o : Option Kept). option_map_or (λ (x : Kept). Some (is_end (note_for x))) o None) last_so ∙ ap (λ (b : Bool). Some b) ends in absurd (cc no)
 
--- Where a kill leaves the ends: these were joined, and these notes came to theirs.
+-- Where a kill leaves the ends: these are joined, with this port and what aired, and these notes came to theirs.
 
-pub record LeftBy (plan : Plan) (port : ClockedPort) (asked : List Command) (notes : List Note) (kept : List Kept) : Type 0 where
+pub record LeftBy (plan : Plan) (port : ClockedPort) (asked : List Command) (left : ClockedPort) (aired : List Item)
+    (notes : List Note) (kept : List Kept) : Type 0 where
   pub ends : Ends
   pub joined : AreJoined plan port asked ends
+  pub port_is : port_now ends ≡ left
+  pub aired_are : aired_now ends ≡ aired
   pub notes_are : ends.notes ≡ notes ++ map note_for kept
 
 abbrev pub steps_at : Plan → ClockedPort → Ends → List Event → List Step
 steps_at plan port now events = steps_of at_once plan port.state.unit (driver_of now.automation) events
 
 -- after whatever events the wire's acts are those of
-abbrev pub Kills : Plan → ClockedPort → List Command → (e now : Ends) → (first all : List Act) → Type 0
-Kills plan port asked e now first all =
+abbrev pub Kills : Plan → ClockedPort → List Command → ClockedPort → List Item → (e now : Ends) → (first all : List Act) → Type 0
+Kills plan port asked left aired e now first all =
     (events : List Event) (rows : List Kept) (out since : List Act) (last : Ends)
     → AreMade at_once plan port.state.unit (driver_of now.automation) events
     → MayGive plan port.state.unit (ends_by plan port.state.unit now events) rows out last → sent_in since ≡ []
     → all ≡ first ++ (acts_in (steps_at plan port now events) ++ (out ++ since))
-    → LeftBy plan port asked e.notes (kept_in (steps_at plan port now events) ++ rows)
+    → LeftBy plan port asked left aired e.notes (kept_in (steps_at plan port now events) ++ rows)
 
-module _ (below : Below) (sends : Sends) (plan : Plan) (port : ClockedPort) (asked : List Command) (e now : Ends)
-    (first all : List Act) (kills : Kills plan port asked e now first all) (can : CanJoin plan port asked)
-    (before waits : Pending) (earlier written part rest : List Row)
+module _ (below : Below) (sends : Sends) (plan : Plan) (port : ClockedPort) (asked : List Command) (left : ClockedPort)
+    (aired : List Item) (e now : Ends) (first all : List Act) (kills : Kills plan port asked left aired e now first all)
+    (can : CanJoin plan port asked) (before waits : Pending) (earlier written part rest : List Row)
     (thin : IsThinned e.notes (notes_in (earlier ++ rows_left before))) (unseen : seen_before before ≡ None) where
   safe_of : (noted kept : List Kept) → WaitsSince before noted written waits → rows_left waits ≡ part ++ rest
-      → (left : LeftBy plan port asked e.notes kept) → map note_for noted ≡ map note_for kept ++ heard_since rest
-      → AreOfJoined plan port asked ((earlier ++ written) ++ part)
-  safe_of noted kept w split left is = record {
-    ends = left.ends;
-    joined = left.joined;
-    safe = is_safe below plan port asked left.ends before waits earlier written part rest e.notes noted can left.joined thin
-        unseen w split (ap (λ (l : List Note). l ++ heard_since rest) left.notes_are
+      → (by : LeftBy plan port asked left aired e.notes kept) → map note_for noted ≡ map note_for kept ++ heard_since rest
+      → AreOfJoined plan port asked left aired ((earlier ++ written) ++ part)
+  safe_of noted kept w split by is = record {
+    ends = by.ends;
+    joined = by.joined;
+    port_is = by.port_is;
+    aired_are = by.aired_are;
+    safe = is_safe below plan port asked by.ends before waits earlier written part rest e.notes noted can by.joined thin
+        unseen w split (ap (λ (l : List Note). l ++ heard_since rest) by.notes_are
         ∙ append_assoc e.notes (map note_for kept) (heard_since rest)
         ∙ ap (λ (l : List Note). e.notes ++ l) (sym is));
   }
@@ -139,7 +145,7 @@ module _ (below : Below) (sends : Sends) (plan : Plan) (port : ClockedPort) (ask
       → MayGive plan port.state.unit (ends_by plan port.state.unit now events) rows out last → sent_in since ≡ []
       → all ≡ first ++ (acts_in (steps_at plan port now events) ++ (out ++ since))
       → kept_in (steps_at plan port now events) ++ rows ≡ noted → WaitsSince before noted written waits
-      → rows_left waits ≡ part ++ rest → heard_since rest ≡ [] → AreOfJoined plan port asked ((earlier ++ written) ++ part)
+      → rows_left waits ≡ part ++ rest → heard_since rest ≡ [] → AreOfJoined plan port asked left aired ((earlier ++ written) ++ part)
   all_safe events rows out since last noted made may unsent acts kept w split none =
       safe_of noted (kept_in (steps_at plan port now events) ++ rows) w split (kills events rows out since last made may unsent acts)
       (ap (map note_for) (sym kept) ∙ sym (append-nil (map note_for (kept_in (steps_at plan port now events) ++ rows)))
@@ -152,7 +158,7 @@ module _ (below : Below) (sends : Sends) (plan : Plan) (port : ClockedPort) (ask
       → all ≡ first ++ (acts_in (steps_at plan port now events) ++ (out ++ since))
       → kept_in (steps_at plan port now events) ++ rows ≡ noted → WaitsSince before noted written waits
       → rows_left waits ≡ part ++ rest → last_of noted ≡ Some k → is_end (note_for k) ≡ true
-      → heard_since rest ≡ note_for k ∷ [] → AreOfJoined plan port asked ((earlier ++ written) ++ part)
+      → heard_since rest ≡ note_for k ∷ [] → AreOfJoined plan port asked left aired ((earlier ++ written) ++ part)
   but_the_last events rows out since last noted k made may unsent acts kept w split is ends lost =
       let steps : List Step = steps_at plan port now events in
       let given_so = given_last plan port.state.unit (ends_by plan port.state.unit now events) last (kept_in steps) rows out k may
@@ -179,13 +185,13 @@ module _ (below : Below) (sends : Sends) (plan : Plan) (port : ClockedPort) (ask
       → MayGive plan port.state.unit (ends_by plan port.state.unit now events) rows out last → sent_in since ≡ []
       → all ≡ first ++ (acts_in (steps_at plan port now events) ++ (out ++ since))
       → kept_in (steps_at plan port now events) ++ rows ≡ one ∷ more → WaitsSince before (one ∷ more) written waits
-      → rows_left waits ≡ part ++ rest → AreOfJoined plan port asked ((earlier ++ written) ++ part)
+      → rows_left waits ≡ part ++ rest → AreOfJoined plan port asked left aired ((earlier ++ written) ++ part)
   is_left_safe events rows out since last one more made may unsent acts kept w split = by rest refl where
     k : Some_of (one ∷ more)
     k = some_of one more
 
     by_end : (b : Bool) → is_end (note_for k.last) ≡ b → (row : Row) (later : List Row) → rest ≡ row ∷ later
-        → AreOfJoined plan port asked ((earlier ++ written) ++ part)
+        → AreOfJoined plan port asked left aired ((earlier ++ written) ++ part)
     by_end true ends row later there =
         but_the_last events rows out since last (one ∷ more) k.last made may unsent acts kept w split k.is ends
         (lost_by before waits one k.last more written part rest w split k.is row later there
@@ -195,6 +201,6 @@ module _ (below : Below) (sends : Sends) (plan : Plan) (port : ClockedPort) (ask
         (lost_by before waits one k.last more written part rest w split k.is row later there
         ∙ ap (λ (b : Bool). if b then note_for k.last ∷ [] else []) ends)
 
-    by : (rows_then : List Row) → rest ≡ rows_then → AreOfJoined plan port asked ((earlier ++ written) ++ part)
+    by : (rows_then : List Row) → rest ≡ rows_then → AreOfJoined plan port asked left aired ((earlier ++ written) ++ part)
     by [] none = all_safe events rows out since last (one ∷ more) made may unsent acts kept w split (ap heard_since none)
     by (row ∷ later) there = by_end (is_end (note_for k.last)) refl row later there

@@ -92,7 +92,7 @@ sends_answers law e turns list moments some behind parts =
     (m.rest, ap (λ (l : List Turn). sent_in (acts_of (server_new e) l)) front ∙ ap sent_in acts ∙ m.sent)
 
 -- the listens of its turns are those that brought what came
-came_sent : (unit : ℕ) (replies : List Reply) (more : List Act) → came_in (sending unit replies ++ more) ≡ came_in more
+pub came_sent : (unit : ℕ) (replies : List Reply) (more : List Act) → came_in (sending unit replies ++ more) ≡ came_in more
 came_sent unit [] more = refl
 came_sent unit (r ∷ replies) more = came_sent unit replies more
 

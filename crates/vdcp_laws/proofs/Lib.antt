@@ -12,6 +12,8 @@ mod InTime
 mod Fronts
 mod Headline
 mod Connecting
+mod Counting
+mod CutShort
 mod Joining
 mod Killed
 mod Leading
@@ -27,6 +29,7 @@ mod OneRun
 mod Queues
 mod Same
 mod Servers
+mod ServesOn
 mod Serving
 mod SeveralRuns
 mod Running

@@ -1,7 +1,8 @@
 -- What going on writes behind a killed run's safe rows was given.
-use Rattle.std.proofs.Common.{◌≡◌, ℕ, arith, Bool, true, false, List, [], ◌∷◌, ◌++◌, Option, None, Some, append-nil, append_assoc, map, refl, sym, ap, ap₂, subst, ◌∙◌}
+use Rattle.std.proofs.Common.{◌≡◌, ℕ, inl, inr, arith, Bool, true, false, List, [], ◌∷◌, ◌++◌, Option, None, Some, append-nil, append_assoc, map, refl, sym, ap, ap₂, subst, ◌∙◌}
 use Rattle.std.proofs.lemmas.List.{map-append}
 use Rattle.std.specs.Prelude.{IsTrue, is_some}
+use Rattle.vdcp_value.specs.declared.part.Item.{Item}
 use Rattle.vdcp_port.specs.Clock.{ClockedPort}
 use Rattle.vdcp_words.specs.declared.command.Command.{Command}
 use Rattle.vdcp_words.specs.declared.command.Command.TheVariants as command
@@ -25,8 +26,8 @@ use Rattle.std.specs.Option.{option_to_list}
 use Rattle.vdcp_journal_file.specs.Recording.{IsTimedOut, rows_left, seen_before}
 use Rattle.vdcp_journal_file.specs.declared.pending.Pending.{Pending}
 use Rattle.vdcp_laws.specs.Mended as safe
-use Rattle.vdcp_laws.specs.Mended.{AreSafe, AreUnkept, IsGoneOnWith, MayLack}
-use Rattle.vdcp_laws.specs.TwoEnds.{AreJoined, CanJoin, Ends, GoesOn, as_announced, as_noted, connected_anew, gave, heard_again, note_for, notes_ended, notes_given, port_now, resumed, went_on, with_command}
+use Rattle.vdcp_laws.specs.Mended.{AreOfJoined, AreSafe, AreUnkept, Finds, IsGoneOnWith, IsSession, MayLack, anew, behind, state_in}
+use Rattle.vdcp_laws.specs.TwoEnds.{AreJoined, CanJoin, Ends, GoesOn, aired_now, as_announced, as_noted, connected_anew, gave, heard_again, note_for, notes_ended, notes_given, port_now, restarted, resumed, went_on, with_command}
 use Rattle.vdcp_laws.proofs.Announced.{after_play, none_some, on_refusal_plays, on_silence_plays, one_is, sent_of, thinned_more, ticked_twice}
 use Rattle.vdcp_laws.proofs.Commands as commands
 use Rattle.vdcp_laws.proofs.Commands.{awaits_none_in, exchange_is, left_by}
@@ -355,23 +356,44 @@ mends plan on notes from o said same is thin = goes (subst (IsThinned on.notes) 
 
 -- All of it.
 
-joins : (plan : Plan) (port : ClockedPort) (asked : List Command) (e on : Ends) → AreJoined plan port asked e
-    → GoesOnGiven plan e on → AreJoined plan port asked (connected_anew plan (port_now on) on)
-joins plan port asked e on j (as_kept on_so) = went_on j (resumed on_so)
-joins plan port asked e on j (as_given on_so) = went_on (went_on j gave) (resumed on_so)
+-- what goes on has the server that there was
+
+same_server : (plan : Plan) (e on : Ends) → GoesOn plan e on → (port_now on ≡ port_now e) × (aired_now on ≡ aired_now e)
+same_server plan e _ as_noted = (refl, refl)
+same_server plan e _ (as_announced h a) = (refl, refl)
+
+its_server : (plan : Plan) (e on : Ends) → GoesOnGiven plan e on → (port_now on ≡ port_now e) × (aired_now on ≡ aired_now e)
+its_server plan e on (as_kept so) = same_server plan e on so
+its_server plan e on (as_given so) = same_server plan (with_command plan e) on so
+
+connects : (plan : Plan) (port found : ClockedPort) (asked : List Command) (e on : Ends) → AreJoined plan port asked e
+    → GoesOn plan e on → Finds (port_now on) found → AreJoined plan port asked (connected_anew plan found on)
+connects plan port _ asked e on j so safe.the_same = went_on j (resumed so)
+connects plan port _ asked e on j so safe.a_new_one = went_on j (restarted so)
+
+joins : (plan : Plan) (port found : ClockedPort) (asked : List Command) (e on : Ends) → AreJoined plan port asked e
+    → GoesOnGiven plan e on → Finds (port_now on) found → AreJoined plan port asked (connected_anew plan found on)
+joins plan port found asked e on j (as_kept so) finds = connects plan port found asked e on j so finds
+joins plan port found asked e on j (as_given so) finds =
+    connects plan port found asked (with_command plan e) on (went_on j gave) so finds
 
 waits_so : (o : Option Command) (waits : Pending) → IsTimedOut o waits
     → (notes_in (rows_left waits) ≡ silence_if o) × (seen_before waits ≡ None)
 waits_so None waits is = (ap (λ (p : Pending). notes_in (rows_left p)) is, ap seen_before is)
 waits_so (Some c) waits (time, is) = (ap (λ (p : Pending). notes_in (rows_left p)) is, ap seen_before is)
 
+-- nothing is awaited once what was open timed out
+pub ready : (plan : Plan) (rows : List Row) → option_to_list (awaited plan (state_in plan rows)) ≡ []
+ready plan rows = ap option_to_list (commands.timed_out plan (after_rows plan start rows))
+
 -- of what goes on, and of rows that are its journal, a session begins; or it was lost
-goes_with : Below → (plan : Plan) (port : ClockedPort) (asked : List Command) (time : Moment) (on : Ends) (rows : List Row)
-    → CanJoin plan port asked → AreJoined plan port asked (connected_anew plan (port_now on) on)
-    → timed_out plan (after_rows plan start rows) ≡ timed_out plan on.automation.state
-    → (notes : List Note) → notes_in rows ≡ notes → AreMended plan on notes → IsGoneOnWith plan port asked rows
-goes_with below plan port asked time on rows can j makes notes notes_are (goes thin) =
-    let next : Ends = connected_anew plan (port_now on) on in
+goes_with : Below → (plan : Plan) (port found : ClockedPort) (asked : List Command) (time : Moment) (on : Ends)
+    (aired : List Item) (rows : List Row) → CanJoin plan port asked → (let next : Ends = connected_anew plan found on in
+    AreJoined plan port asked next → state_in plan rows ≡ timed_out plan on.automation.state
+    → AreJoined plan port asked (behind next.log_before aired next.notes (anew found (state_in plan rows)))
+    → (notes : List Note) → notes_in rows ≡ notes → AreMended plan on notes → IsGoneOnWith plan port asked found aired rows)
+goes_with below plan port found asked time on aired rows can j makes joined notes notes_are (goes thin) =
+    let next : Ends = connected_anew plan found on in
     let ends : List Note = notes_ended plan None on.automation.state in
     let both : IsThinned next.notes (notes ++ ends) = thinned_more on.notes notes ends thin in
     let later = made below time plan port asked next can j notes ends both in
@@ -379,31 +401,51 @@ goes_with below plan port asked time on rows can j makes notes notes_are (goes t
     alike plan (after_notes plan start notes) on.automation.state (awaited plan on.automation.state) refl later.state_is
     (told_behind plan start notes ends later.told) in
     let from_is : after_rows plan start rows ≡ after_notes plan start notes =
-    of_rows plan start rows ∙ ap (after_notes plan start) notes_are in
-    safe.goes_on next (sym makes) (λ waits is.
-    let w = waits_so (awaited plan (after_rows plan start rows)) waits is in record {
-      joined = j;
-      ready = ap option_to_list (commands.timed_out plan on.automation.state);
-      thinned = subst (IsThinned next.notes)
-          (ap (λ (l : List Note). notes ++ l) (same.silent
-          ∙ ap (λ (x : State). silence_if (awaited plan x)) (sym from_is) ∙ sym w.0)
-          ∙ ap (λ (l : List Note). l ++ notes_in (rows_left waits)) (sym notes_are)
-          ∙ sym (noted_behind rows (rows_left waits))) both;
-      unseen = w.1;
-    })
-goes_with below plan port asked time on rows can j makes _ notes_are (lost thin ended) =
-    safe.was_lost (ap (λ (s : State). outcome_of s.stage) makes ∙ ended)
+    of_rows plan start rows ∙ ap (after_notes plan start) notes_are in record {
+      log = next.log_before;
+      notes = next.notes;
+      joined = joined;
+      begins = inr (λ waits is.
+          let w = waits_so (awaited plan (after_rows plan start rows)) waits is in record {
+            joined = joined;
+            ready = ready plan rows;
+            thinned = subst (IsThinned next.notes)
+                (ap (λ (l : List Note). notes ++ l) (same.silent
+                ∙ ap (λ (x : State). silence_if (awaited plan x)) (sym from_is) ∙ sym w.0)
+                ∙ ap (λ (l : List Note). l ++ notes_in (rows_left waits)) (sym notes_are)
+                ∙ sym (noted_behind rows (rows_left waits))) both;
+            unseen = w.1;
+          });
+    }
+goes_with below plan port found asked time on aired rows can j makes joined _ notes_are (lost thin ended) = record {
+  log = (connected_anew plan found on).log_before;
+  notes = (connected_anew plan found on).notes;
+  joined = joined;
+  begins = inl (ap (λ (s : State). outcome_of s.stage) makes ∙ ended);
+}
 
-pub is_mended : Below → (plan : Plan) (port : ClockedPort) (asked : List Command) (e : Ends) (journal : List Row)
-    (time : Moment) → CanJoin plan port asked → AreJoined plan port asked e → AreSafe plan e (last_run journal).rows
-    → IsGoneOnWith plan port asked ((last_run journal).rows ++ rows_at time (mended plan journal (last_run journal).rows))
-is_mended below plan port asked e journal time can j kept =
+-- what goes on, with these that are its own
+with_these : (plan : Plan) (port found : ClockedPort) (asked : List Command) (on : Ends) (aired : List Item) (s : State)
+    → aired_now on ≡ aired → s ≡ timed_out plan on.automation.state → (let next : Ends = connected_anew plan found on in
+    AreJoined plan port asked next → AreJoined plan port asked (behind next.log_before aired next.notes (anew found s)))
+with_these plan port found asked on aired s aired_are is j =
+    let next : Ends = connected_anew plan found on in
+    subst (λ (l : List Item). AreJoined plan port asked (behind next.log_before l next.notes (anew found s))) aired_are
+    (subst (λ (x : State). AreJoined plan port asked (behind next.log_before (aired_now on) next.notes (anew found x))) (sym is) j)
+
+pub is_mended : Below → (plan : Plan) (port now found : ClockedPort) (asked : List Command) (aired : List Item)
+    (journal : List Row) (time : Moment) → CanJoin plan port asked
+    → AreOfJoined plan port asked now aired (last_run journal).rows → Finds now found → IsGoneOnWith plan port asked found aired
+    ((last_run journal).rows ++ rows_at time (mended plan journal (last_run journal).rows))
+is_mended below plan port now found asked aired journal time can left finds =
+    let e : Ends = left.ends in
+    let kept : AreSafe plan e (last_run journal).rows = left.safe in
     let rows : List Row = (last_run journal).rows in
     let notes : List Note = notes_in rows in
     let last : Option Heard = heard_last notes in
     let s : State = after_notes plan start notes in
     let s_is : after_rows plan start rows ≡ s = of_rows plan start rows in
-    let first = made below time plan port asked e can j notes kept.unkept kept.thinned in
+    let first = made below time plan port asked e can left.joined notes kept.unkept kept.thinned in
     let a = adds below plan e notes s
     (asks_last plan [] start None notes kept.unkept first.told (λ h c is awaits. absurd (none_some is)))
     (awaited plan s) (given plan s) (announced_state last s.stage) last refl refl refl refl kept.unkept
@@ -417,8 +459,10 @@ is_mended below plan port asked e journal time can j kept =
     let ended : Option Outcome = outcome_of (timed_out plan from).stage in
     let loss : List Note = loss_at plan from said in
     let ends : List Note = notes_ended plan None on in
-    let joined = joins plan port asked e a.on j a.goes_on in
-    let later = made below time plan port asked (connected_anew plan (port_now a.on) a.on) can joined (notes ++ unkept) ends (thinned_more a.on.notes (notes ++ unkept) ends a.thinned) in
+    let server = its_server plan e a.on a.goes_on in
+    let joined = joins plan port found asked e a.on left.joined a.goes_on
+    (subst (λ (p : ClockedPort). Finds p found) (sym (server.0 ∙ left.port_is)) finds) in
+    let later = made below time plan port asked (connected_anew plan found a.on) can joined (notes ++ unkept) ends (thinned_more a.on.notes (notes ++ unkept) ends a.thinned) in
     let same : Alike plan from on = subst (λ (x : State). Alike plan x on) from_is
     (alike plan (after_notes plan start (notes ++ unkept)) on (awaited plan on) refl later.state_is
     (told_behind plan start (notes ++ unkept) ends later.told)) in
@@ -426,12 +470,38 @@ is_mended below plan port asked e journal time can j kept =
     let more_is : notes_in more ≡ (notes ++ unkept) ++ loss =
     noted_behind rows (rows_at time (unkept ++ loss)) ∙ ap (λ (l : List Note). notes ++ l) (noted time (unkept ++ loss))
     ∙ sym (append_assoc notes unkept loss) in
-    subst (λ (l : List Note). IsGoneOnWith plan port asked (rows ++ rows_at time l))
+    let makes : state_in plan more ≡ timed_out plan on =
+    ap (timed_out plan) (of_rows plan start more ∙ ap (after_notes plan start) more_is
+    ∙ after_more plan start (notes ++ unkept) loss ∙ ap (λ (x : State). after_notes plan x loss) from_is)
+    ∙ loss_times plan from ended said (awaited plan from) ∙ same.times in
+    subst (λ (l : List Note). IsGoneOnWith plan port asked found aired (rows ++ rows_at time l))
     (sym (ap₂ (λ (x : State) (h : Option Heard). mended_at plan x (last_note journal) h) s_is
     (sym (runs_heard first_run journal))))
-    (goes_with below plan port asked time a.on more can joined
-    (ap (timed_out plan) (of_rows plan start more ∙ ap (after_notes plan start) more_is
-    ∙ after_more plan start (notes ++ unkept) loss ∙ ap (λ (x : State). after_notes plan x loss) from_is)
-    ∙ loss_times plan from ended said (awaited plan from) ∙ same.times)
+    (goes_with below plan port found asked time a.on aired more can joined makes
+    (with_these plan port found asked a.on aired (state_in plan more) (server.1 ∙ left.aired_are) makes joined)
     (notes_in more) refl
     (subst (AreMended plan a.on) (sym more_is) (mends plan a.on (notes ++ unkept) from ended said same refl a.thinned)))
+
+-- A session that kept nothing.
+
+none_behind : (xs ys : List Command) → xs ++ ys ≡ [] → ys ≡ []
+none_behind [] ys is = is
+none_behind (x ∷ xs) ys is = cc
+
+nothing_ends : (plan : Plan) (s : State) (o : Option Command) → awaited plan s ≡ o → option_to_list o ≡ []
+    → notes_ended plan None s ≡ []
+nothing_ends plan s o awaits none = grind arith
+
+pub begins_again : (plan : Plan) (port found : ClockedPort) (asked : List Command) (rows : List Row) (waits : Pending) (e : Ends)
+    → IsSession plan port asked rows waits e → Finds (port_now e) found
+    → IsSession plan port asked rows waits (connected_anew plan found e)
+begins_again plan port found asked rows waits e s finds =
+    let a : State = e.automation.state in record {
+      joined = connects plan port found asked e e s.joined as_noted finds;
+      ready = ap option_to_list (commands.timed_out plan a);
+      thinned = subst (λ (l : List Note). IsThinned l (notes_in (rows ++ rows_left waits)))
+          (sym (ap (λ (l : List Note). e.notes ++ l)
+          (nothing_ends plan a (awaited plan a) refl (none_behind _ (option_to_list (awaited plan a)) s.ready))
+          ∙ append-nil e.notes)) s.thinned;
+      unseen = s.unseen;
+    }

@@ -4,6 +4,10 @@ use Rattle.std.specs.Prelude.{Result}
 use Rattle.vdcp_value.specs.declared.part.Item.{Item}
 use Rattle.vdcp_frame.specs.Progress.{Progress}
 use Rattle.vdcp_port.specs.Clock.{ClockedPort}
+use Rattle.vdcp_auto.specs.Plan.{Plan}
+use Rattle.vdcp_auto.specs.State.{State}
+use Rattle.vdcp_auto.specs.declared.exchange.Exchange.{Exchange}
+use Rattle.vdcp_journal.specs.declared.row.Note.{Note}
 use Rattle.vdcp_wire.specs.Acts.{Act}
 use Rattle.vdcp_drive.specs.ServeLeaves.{ServeEnding}
 use Rattle.vdcp_drive.specs.Served.{IsMoment, only}
@@ -14,11 +18,14 @@ use Rattle.vdcp_drive.specs.declared.hearing.Hearing.{Hearing}
 use Rattle.vdcp_drive.specs.declared.hearing.Hearing.TheVariants.{AtOnce, AtSilences}
 use Rattle.vdcp_drive.specs.declared.line.DriveFault.{DriveFault}
 use Rattle.vdcp_drive.specs.declared.line.TurnsEnd.{TurnsEnd}
-use Rattle.vdcp_laws.specs.Carried.{all_turns}
+use Rattle.vdcp_laws.specs.Carried.{AreCarried, all_turns}
+use Rattle.vdcp_laws.specs.Mended.{anew, behind}
 use Rattle.vdcp_laws.specs.Servers.{IsServed}
 use Rattle.vdcp_laws.specs.Servers as servers
 use Rattle.vdcp_laws.specs.TwoEnds.{Ends, aired_now, server_now}
 use Rattle.vdcp_laws.specs.Untorn.{AreUntorn, at_once_for, server_at_silences}
+use Rattle.vdcp_laws.proofs.Counting.{counted}
+use Rattle.vdcp_laws.proofs.CutShort.{ends_so}
 use Rattle.vdcp_laws.proofs.Leading.{SendsAnswers, ServersGoOn, moment_of, sends_answers, turns_whole}
 use Rattle.vdcp_laws.proofs.Untorn.{ActSame, all_downs, silent_moment, silent_whole}
 
@@ -33,35 +40,52 @@ pub record Laws : Type 0 where
   pub items : (p : ClockedPort) (turns : List Turn) → AreUntorn [] turns
       → items_in (hook_steps (begins AtOnce p) (at_once_for turns)) ≡ items_in (hook_steps (begins AtSilences p) turns)
 
+-- what counts of what its wire did is carried, too, and answers what came
 pub record ServedSo (e : Ends) (turns : List Turn) (below : List Act) (aired : List Item) : Type 0 where
-  pub whole : came_in below ≡ arrivals turns
-  pub answers : SendsAnswers e turns below
+  pub heard : List Act
+  pub carried : (plan : Plan) (unit : ℕ) (autos : List Act) → AreCarried plan unit e autos below → AreCarried plan unit e autos heard
+  pub whole : came_in heard ≡ arrivals turns
+  pub answers : SendsAnswers e turns heard
   pub aired_is : aired_now (record e { downs = e.downs ++ turns }) ≡ aired
 
 pub served_so : {W H : Type 0} {does : Act → W → W → Type 0} {can : Bool} {hooks : HookStep → H → H → Type 0} (law : Laws)
     (e : Ends) (turns : List Turn) (below : List Act) (aired : List Item) → IsServed does can hooks e turns below aired
     → ServedSo e turns below aired
-served_so {can} law e _ _ _ (servers.prompt {count} {server} {server'} {h} {h'} {result} s) =
-    let below : List Act = acts_of (server_now e) s.turns ++ s.done in
-    let all : List Turn = all_turns s.turns s.done in
+served_so {can} law e _ _ _ (servers.prompt {count} {server} {server'} {h} {h'} {result} s last counts) =
+    let service : Service = server_now e in
+    let all : List Turn = all_turns s.turns last in
+    let ends = ends_so s.ending counts in
     record {
-      whole = turns_whole (server_now e) s.turns s.done;
-      answers = sends_answers law.goes_on e all below (λ some behind parts. moment_of law.goes_on e all some
-          (law.answered (server_now e) s.turns can count server.hearing result s.done s.last server'.port server'.reader
-          s.ending some behind parts));
+      heard = acts_of service s.turns ++ last;
+      carried = λ plan unit autos c. counted plan unit e autos (acts_of service s.turns) (left_by service s.turns) s.done last counts c;
+      whole = turns_whole service s.turns last;
+      answers = sends_answers law.goes_on e all (acts_of service s.turns ++ last) (λ some behind parts. moment_of law.goes_on e all some
+          (law.answered service s.turns can count server.hearing ends.answer last ends.steps ends.port server'.reader
+          ends.ending some behind parts));
       aired_is = refl;
     }
-served_so {can} law e _ _ _ (servers.untorn {count} {server} {server'} {h} {h'} {result} before downs s u) =
+served_so {can} law e _ _ _ (servers.untorn {count} {server} {server'} {h} {h'} {result} before downs s last counts u) =
     let service : Service = server_at_silences e.port before in
-    let below : List Act = acts_of service s.turns ++ s.done in
-    let all : List Turn = all_turns s.turns s.done in
+    let all : List Turn = all_turns s.turns last in
+    let ends = ends_so s.ending counts in
     record {
-      whole = silent_whole service s.turns s.done;
-      answers = sends_answers law.goes_on e (at_once_for all) below
+      heard = acts_of service s.turns ++ last;
+      carried = λ plan unit autos c. counted plan unit e autos (acts_of service s.turns) (left_by service s.turns) s.done last counts c;
+      whole = silent_whole service s.turns last;
+      answers = sends_answers law.goes_on e (at_once_for all) (acts_of service s.turns ++ last)
           (λ some behind parts. silent_moment law.goes_on law.acts e before all some downs u
-          (law.answered service s.turns can count server.hearing result s.done s.last server'.port server'.reader
-          s.ending some behind parts));
+          (law.answered service s.turns can count server.hearing ends.answer last ends.steps ends.port server'.reader
+          ends.ending some behind parts));
       aired_is = ap (λ (l : List Turn). e.aired_before ++ items_in (hook_steps (begins AtOnce e.port) l))
           (all_downs e.downs before all downs)
           ∙ ap (λ (l : List Item). e.aired_before ++ l) (law.items e.port (before ++ all) u);
     }
+
+-- a server of a connection is one of all that is behind it, too
+pub served_behind : {W H : Type 0} {does : Act → W → W → Type 0} {can : Bool} {hooks : HookStep → H → H → Type 0}
+    (log : List Exchange) (aired : List Item) (notes : List Note) (port : ClockedPort) (state : State) (turns : List Turn)
+    (below : List Act) (since : List Item) → IsServed does can hooks (anew port state) turns below since
+    → IsServed does can hooks (behind log aired notes (anew port state)) turns below (aired ++ since)
+served_behind log aired notes port state _ _ _ (servers.prompt s last counts) = servers.prompt s last counts
+served_behind log aired notes port state _ _ _ (servers.untorn before downs s last counts u) =
+    servers.untorn before downs s last counts u

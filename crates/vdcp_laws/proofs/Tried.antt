@@ -136,39 +136,39 @@ asked_led {W} {does} law settings start e last ear' wire wire' left more turns b
 
 -- All of it.
 pub tried_led : {W F : Type 0} {does : Act → W → W → Type 0} {safe : F → Option (List ℕ)} (law : Laws does)
-    (settings : RunSettings) (plan : Plan) (from : ℕ) (e : Ends) (world : World W (Option (Recording F))) (end : RunEnd)
+    (settings : RunSettings) (plan : Plan) (from : ℕ) (e : Ends) (world : World W (Option (Recording F))) (last : W) (end : RunEnd)
     (turns : List Turn) (below : List Act) (aired : List Item) → commands_in plan e.automation ≡ []
     → (tried : HasTried does safe at_once settings (record { plan = plan; from = from; state = e.automation.state })
-    e.automation.held world end)
+    e.automation.held world last end)
     → ServedSo e turns below aired → AreCarried plan settings.unit e (acts_tried tried) below
     → AreLed plan settings.unit e (ends_tried tried e (e.downs ++ turns))
-tried_led {does} law settings plan from e world end turns below aired none (played ear' wire left asked plays) served c =
+tried_led {does} law settings plan from e world last end turns below aired none (played ear' wire left asked plays) served c =
     let unit : ℕ = settings.unit in
     let start : Start = record { plan = plan; from = from; state = e.automation.state } in
     let now : Ends = ends_asked does settings e.automation.held ear' world.wire wire left None (asker_of settings.ask start) asked e in
     asked_led law settings start e (with_command plan (ends_by plan unit now plays.runs.run.events)) ear' world.wire wire left
     (acts_in (steps_in plays.runs.run)) turns below aired refl none asked
     (side_of plan unit left (AreLed plan unit) (leads_on plan unit) now plays.ran plays.auto plays.runs.run) served c
-tried_led {does} law settings plan from e world end turns below aired none (unbegun ear' wire left line asked is reports) served c =
+tried_led {does} law settings plan from e world last end turns below aired none (unbegun ear' left line asked is reports) served c =
     let unit : ℕ = settings.unit in
     let start : Start = record { plan = plan; from = from; state = e.automation.state } in
     let asker : Option Asker = asker_of settings.ask start in
-    asking_led plan unit e (questions does settings e.automation.held ear' world.wire wire left (Some line) asker asked) ear'
-    (acts_asked does settings e.automation.held ear' world.wire wire left (Some line) asker asked) turns below aired none
-    (asked_by law settings start e ear' world.wire wire left (Some line) refl asker refl asked).0 served c
+    asking_led plan unit e (questions does settings e.automation.held ear' world.wire last left (Some line) asker asked) ear'
+    (acts_asked does settings e.automation.held ear' world.wire last left (Some line) asker asked) turns below aired none
+    (asked_by law settings start e ear' world.wire last left (Some line) refl asker refl asked).0 served c
 
 -- The headline.
 pub tried_headline : {W F : Type 0} {does : Act → W → W → Type 0} {safe : F → Option (List ℕ)} (law : headline.Laws)
     (settings : RunSettings) (plan : Plan) (from : ℕ) (port : ClockedPort) (asked : List Command) (e : Ends)
-    (world : World W (Option (Recording F))) (end : RunEnd) (downs : List Turn) → CanJoin plan port asked
+    (world : World W (Option (Recording F))) (last : W) (end : RunEnd) (downs : List Turn) → CanJoin plan port asked
     → (tried : HasTried does safe at_once (record settings { unit = port.state.unit })
-    (record { plan = plan; from = from; state = e.automation.state }) e.automation.held world end)
+    (record { plan = plan; from = from; state = e.automation.state }) e.automation.held world last end)
     → AreJoined plan port asked (ends_tried tried e downs)
     → EndsHeadline plan port.clips (state_tried tried) (log_now e ++ log_tried tried) (aired_now (record e { downs = downs }))
-tried_headline {does} law settings plan from port asked e world end downs start (played ear' wire left was plays) j =
+tried_headline {does} law settings plan from port asked e world last end downs start (played ear' wire left was plays) j =
     of_joined law plan port asked (ends_asked does (record settings { unit = port.state.unit }) e.automation.held ear' world.wire wire left None _ was e) left plays.ran plays.auto downs start plays.runs.run j
-tried_headline {does} law settings plan from port asked e world end downs start (unbegun ear' wire left line was is reports) j =
+tried_headline {does} law settings plan from port asked e world last end downs start (unbegun ear' left line was is reports) j =
     subst (λ (l : List Exchange). EndsHeadline plan port.clips e.automation.state l (aired_now (record e { downs = downs })))
     (sym (append-nil (log_now e)))
-    (headline.of_ends law plan port asked (record (ends_asked does (record settings { unit = port.state.unit }) e.automation.held ear' world.wire wire left
+    (headline.of_ends law plan port asked (record (ends_asked does (record settings { unit = port.state.unit }) e.automation.held ear' world.wire last left
     (Some line) _ was e) { downs = downs }) start j)

@@ -50,8 +50,9 @@ pub never_silent : (law : Steps) (plan : Plan) (unit count : ℕ) (e : Ends) (an
     → AreInTime plan unit e (ends_at plan unit e run.events (e.downs ++ turns))
 never_silent law plan unit count e answer a' turns below aired run all served c =
     let list : List Act = acts_in (steps_in run) in
-    side_led plan unit (AreInTime plan unit) (leads plan unit) e list _ turns below
+    side_led plan unit (AreInTime plan unit) (leads plan unit) e list _ turns served.heard
     (side_of plan unit count (AreInTime plan unit) (leads plan unit) e answer a' run)
     (λ now autos a front quiet j. absurd (never_quiet a (among (came_in autos) (came_in front.0) a
     (subst (All IsPiece) (sym (came_of_run law plan unit count (driver_of e.automation) a' answer run)
-    ∙ next_in list autos front.0 a front.1) all)) quiet)) served.whole served.answers c
+    ∙ next_in list autos front.0 a front.1) all)) quiet)) served.whole served.answers
+    (served.carried plan unit list c)

@@ -38,7 +38,7 @@ pub record Laws : Type 0 where
   pub acts : (s : Service) (xs ys : List Turn) → acts_of s (xs ++ ys) ≡ acts_of s xs ++ acts_of (left_by s xs) ys
   pub hooks : (s : Service) (xs ys : List Turn) → hook_steps s (xs ++ ys) ≡ hook_steps s xs ++ hook_steps (left_by s xs) ys
 
-items_both : (xs ys : List HookStep) → items_in (xs ++ ys) ≡ items_in xs ++ items_in ys
+pub items_both : (xs ys : List HookStep) → items_in (xs ++ ys) ≡ items_in xs ++ items_in ys
 items_both [] ys = refl
 items_both (asked due ∷ xs) ys = items_both xs ys
 items_both (lent look ∷ xs) ys = ap (λ (l : List Item). option_to_list look.aired ++ l) (items_both xs ys)
@@ -80,7 +80,7 @@ silent_one p burst = record { port = p; ear = in_burst burst }
 abbrev prompt_one : ClockedPort → Held → Service
 prompt_one p held = record { port = p; ear = in_stream held }
 
-nothing_read : (law : Laws) → IsRead []
+pub nothing_read : (law : Laws) → IsRead []
 nothing_read law = (
   [],
   [],
@@ -95,7 +95,7 @@ nothing_read law = (
 )
 
 -- a burst that is read so is of bytes
-octets_of : (law : Laws) (burst : List ℕ) → IsRead burst → AreOctets burst
+pub octets_of : (law : Laws) (burst : List ℕ) → IsRead burst → AreOctets burst
 octets_of law burst (ms, held, r) =
     let b = r.unfinished.begins in
     subst AreOctets (sym r.parts)
@@ -107,7 +107,7 @@ read_same law burst (ms, held, r) =
     ap (completed (holds [])) r.parts ∙ law.completed.messages ms r.whole held r.spelt r.unfinished
     ∙ law.spelt.messages burst ms (reading (length burst) held) (octets_of law burst (ms, held, r)) r
 
-completes_same : (law : Laws) (burst piece : List ℕ) → IsRead burst → IsRead (burst ++ piece)
+pub completes_same : (law : Laws) (burst piece : List ℕ) → IsRead burst → IsRead (burst ++ piece)
     → completed (held_after (holds []) burst) piece ≡ ears.completed burst piece
 completes_same law burst piece r q =
     let before : List Content = completed (holds []) burst in
@@ -169,7 +169,7 @@ begun_same law p turns u = are_same law p [] (holds []) turns refl (nothing_read
 
 -- The joined ends.
 
-untorn_front : (burst : List ℕ) (xs ys : List Turn) → AreUntorn burst (xs ++ ys) → AreUntorn burst xs
+pub untorn_front : (burst : List ℕ) (xs ys : List Turn) → AreUntorn burst (xs ++ ys) → AreUntorn burst xs
 untorn_front burst [] ys u = tt
 untorn_front burst (listen (bytes b) ∷ xs) ys u = (u.0, untorn_front (burst ++ b) xs ys u.1)
 untorn_front burst (listen silence ∷ xs) ys u = (u.0, untorn_front [] xs ys u.1)

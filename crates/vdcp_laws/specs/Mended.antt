@@ -1,11 +1,13 @@
 -- What a killed automation goes on as, whose rows are what is safe in its journal, and what going on writes behind them.
-use Rattle.std.specs.Prelude.{ℕ, ◌≡◌, List, [], ◌∷◌, ◌++◌, Option, None, Some}
+use Rattle.std.specs.Prelude.{ℕ, ◌≡◌, ◌⊎◌, List, [], ◌∷◌, ◌++◌, Option, None, Some}
+use Rattle.vdcp_value.specs.declared.part.Item.{Item}
 use Rattle.vdcp_words.specs.declared.command.Command.{Command}
 use Rattle.vdcp_words.specs.declared.command.Command.TheVariants as command
 use Rattle.vdcp_port.specs.Clock.{ClockedPort}
 use Rattle.vdcp_auto.specs.Plan.{Plan}
 use Rattle.vdcp_auto.specs.State.{State}
 use Rattle.vdcp_auto.specs.Turn.{awaited, given, outcome_of, start}
+use Rattle.vdcp_auto.specs.declared.exchange.Exchange.{Exchange}
 use Rattle.vdcp_auto.specs.declared.exchange.Heard.{Heard}
 use Rattle.vdcp_auto.specs.declared.outcome.Outcome.TheVariants.{Lost}
 use Rattle.vdcp_journal.specs.Mending.{announced_state}
@@ -16,8 +18,9 @@ use Rattle.vdcp_journal.specs.declared.row.Note.TheVariants as note
 use Rattle.vdcp_journal.specs.declared.row.Row.{Row}
 use Rattle.vdcp_journal_file.specs.Recording.{IsTimedOut, rows_left, seen_before}
 use Rattle.vdcp_journal_file.specs.declared.pending.Pending.{Pending}
-use Rattle.vdcp_laws.specs.Automation.{commands_in}
-use Rattle.vdcp_laws.specs.TwoEnds.{AreJoined, Ends}
+use Rattle.vdcp_laws.specs.Automation.{commands_in, new_prompt}
+use Rattle.vdcp_laws.specs.TwoEnds.{AreJoined, Ends, aired_now, new_ends, port_now}
+use Rattle.vdcp_world.specs.LateLine.LateChannel.{made_anew}
 
 -- What may have gone out behind rows, by the command that is open, the one that is given next, and the state that announces a
 -- PLAY: nothing; the next command, if it asks for the state or is a PLAY; and, if one is announced, a PLAY, once something was
@@ -43,10 +46,13 @@ pub record AreSafe (plan : Plan) (e : Ends) (rows : List Row) : Type 0 where
   pub may_lack : MayLack plan (after_rows plan start rows) (heard_last (notes_in rows)) unkept
   pub thinned : IsThinned e.notes (notes_in rows ++ unkept)
 
--- and these ends are joined
-pub record AreOfJoined (plan : Plan) (port : ClockedPort) (asked : List Command) (rows : List Row) : Type 0 where
+-- and these ends are joined; their server has this port now, and these items aired
+pub record AreOfJoined (plan : Plan) (port : ClockedPort) (asked : List Command) (now : ClockedPort) (aired : List Item)
+    (rows : List Row) : Type 0 where
   pub ends : Ends
   pub joined : AreJoined plan port asked ends
+  pub port_is : port_now ends ≡ now
+  pub aired_are : aired_now ends ≡ aired
   pub safe : AreSafe plan ends rows
 
 -- A session begins so: its ends are joined, and await nothing; a journal's rows, with what is still to be written behind them,
@@ -58,9 +64,30 @@ pub record IsSession (plan : Plan) (port : ClockedPort) (asked : List Command) (
   pub thinned : IsThinned e.notes (notes_in (rows ++ rows_left waits))
   pub unseen : seen_before waits ≡ None
 
--- One begins with the controller of these rows, once what is open there has timed out; or they tell of a run that is lost.
-pub data IsGoneOnWith (plan : Plan) (port : ClockedPort) (asked : List Command) (rows : List Row) : Type 0 where
-  goes_on : (e : Ends) → e.automation.state ≡ timed_out plan (after_rows plan start rows)
-      → ((waits : Pending) → IsTimedOut (awaited plan (after_rows plan start rows)) waits → IsSession plan port asked rows waits e)
-      → IsGoneOnWith plan port asked rows
-  was_lost : outcome_of (timed_out plan (after_rows plan start rows)).stage ≡ Some Lost → IsGoneOnWith plan port asked rows
+-- what a new connection finds at a server whose port was left so: that port, or one that was made anew
+pub data Finds (left : ClockedPort) : ClockedPort → Type 0 where
+  the_same : Finds left left
+  a_new_one : Finds left (made_anew left)
+
+-- the controller of these rows, once what is open there has timed out
+abbrev pub state_in : Plan → List Row → State
+state_in plan rows = timed_out plan (after_rows plan start rows)
+
+-- a controller over a new connection to this port, with nothing sent yet
+abbrev pub anew : ClockedPort → State → Ends
+anew port state = record (new_ends port []) { automation = record new_prompt { state = state } }
+
+-- behind other connections, with their exchanges, what aired, and what their journal has
+abbrev pub behind : List Exchange → List Item → List Note → Ends → Ends
+behind log aired notes e = record e { log_before = log; aired_before = aired; notes = notes }
+
+-- The controller of these rows goes on over a new connection to this port, behind what aired: both are joined, and a session
+-- begins so, or the rows tell of a run that is lost.
+pub record IsGoneOnWith (plan : Plan) (port : ClockedPort) (asked : List Command) (found : ClockedPort) (aired : List Item)
+    (rows : List Row) : Type 0 where
+  pub log : List Exchange
+  pub notes : List Note
+  pub joined : AreJoined plan port asked (behind log aired notes (anew found (state_in plan rows)))
+  pub begins : (outcome_of (state_in plan rows).stage ≡ Some Lost)
+      ⊎ ((waits : Pending) → IsTimedOut (awaited plan (after_rows plan start rows)) waits
+      → IsSession plan port asked rows waits (behind log aired notes (anew found (state_in plan rows))))

@@ -49,34 +49,34 @@ ends_asked does settings ear ear' wire wire' left line asker h e =
 
 -- what the wire did
 abbrev pub acts_tried : {W F : Type 0} {does : Act → W → W → Type 0} {safe : F → Option (List ℕ)} {settings : RunSettings}
-    {start : Start} {ear : Held} {world : World W (Option (Recording F))} {end : RunEnd}
-    → HasTried does safe at_once settings start ear world end → List Act
+    {start : Start} {ear : Held} {world : World W (Option (Recording F))} {last : W} {end : RunEnd}
+    → HasTried does safe at_once settings start ear world last end → List Act
 acts_tried {does} {settings} {start} {ear} {world} (played ear' wire left asked plays) =
     acts_asked does settings ear ear' world.wire wire left None (asker_of settings.ask start) asked ++ acts_in (steps_in plays.runs.run)
-acts_tried {does} {settings} {start} {ear} {world} (unbegun ear' wire left line asked is reports) =
-    acts_asked does settings ear ear' world.wire wire left (Some line) (asker_of settings.ask start) asked
+acts_tried {does} {settings} {start} {ear} {world} {last} (unbegun ear' left line asked is reports) =
+    acts_asked does settings ear ear' world.wire last left (Some line) (asker_of settings.ask start) asked
 
 -- the list's controller is left so
 abbrev pub state_tried : {W F : Type 0} {does : Act → W → W → Type 0} {safe : F → Option (List ℕ)} {settings : RunSettings}
-    {start : Start} {ear : Held} {world : World W (Option (Recording F))} {end : RunEnd}
-    → HasTried does safe at_once settings start ear world end → State
+    {start : Start} {ear : Held} {world : World W (Option (Recording F))} {last : W} {end : RunEnd}
+    → HasTried does safe at_once settings start ear world last end → State
 state_tried (played ear' wire left asked plays) = plays.auto.state
-state_tried {start} (unbegun ear' wire left line asked is reports) = start.state
+state_tried {start} (unbegun ear' left line asked is reports) = start.state
 
 -- and these of its exchanges ended
 abbrev pub log_tried : {W F : Type 0} {does : Act → W → W → Type 0} {safe : F → Option (List ℕ)} {settings : RunSettings}
-    {start : Start} {ear : Held} {world : World W (Option (Recording F))} {end : RunEnd}
-    → HasTried does safe at_once settings start ear world end → List Exchange
+    {start : Start} {ear : Held} {world : World W (Option (Recording F))} {last : W} {end : RunEnd}
+    → HasTried does safe at_once settings start ear world last end → List Exchange
 log_tried {settings} {start} (played ear' wire left asked plays) =
     log_of at_once start.plan settings.unit (record { ear = ear'; state = start.state }) plays.runs.run.events
-log_tried (unbegun ear' wire left line asked is reports) = []
+log_tried (unbegun ear' left line asked is reports) = []
 
 -- where this and these turns leave the ends
 abbrev pub ends_tried : {W F : Type 0} {does : Act → W → W → Type 0} {safe : F → Option (List ℕ)} {settings : RunSettings}
-    {start : Start} {ear : Held} {world : World W (Option (Recording F))} {end : RunEnd}
-    → HasTried does safe at_once settings start ear world end → Ends → List Turn → Ends
+    {start : Start} {ear : Held} {world : World W (Option (Recording F))} {last : W} {end : RunEnd}
+    → HasTried does safe at_once settings start ear world last end → Ends → List Turn → Ends
 ends_tried {does} {settings} {start} {ear} {world} (played ear' wire left asked plays) e downs =
     ends_at start.plan settings.unit
     (ends_asked does settings ear ear' world.wire wire left None (asker_of settings.ask start) asked e) plays.runs.run.events downs
-ends_tried {does} {settings} {start} {ear} {world} (unbegun ear' wire left line asked is reports) e downs =
-    record (ends_asked does settings ear ear' world.wire wire left (Some line) (asker_of settings.ask start) asked e) { downs = downs }
+ends_tried {does} {settings} {start} {ear} {world} {last} (unbegun ear' left line asked is reports) e downs =
+    record (ends_asked does settings ear ear' world.wire last left (Some line) (asker_of settings.ask start) asked e) { downs = downs }

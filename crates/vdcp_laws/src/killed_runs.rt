@@ -1,5 +1,6 @@
 //! The laws of runs that are killed, any number of times, and go on from their journals.
 ghost use Rattle.std.specs.Prelude.{◌≡◌, ◌∷◌, ◌++◌, [], All, Bool, IsTrue, List, None, Some, map};
+ghost use Rattle.vdcp_value.specs.declared.part.Item.{Item};
 ghost use Rattle.vdcp_auto.specs.Plan.{Plan};
 ghost use Rattle.vdcp_auto.specs.declared.exchange.Heard.{Heard};
 ghost use Rattle.vdcp_auto.specs.Turn.{given, start};
@@ -13,8 +14,8 @@ ghost use Rattle.vdcp_journal.specs.declared.row.Note.TheVariants as note;
 ghost use Rattle.vdcp_journal.specs.declared.row.Row.{Row};
 ghost use Rattle.vdcp_laws.specs.Announced.{Announces, played_notes};
 ghost use Rattle.vdcp_laws.specs.Kills.{IsRun, asked_in_vain, played, silence_notes};
-ghost use Rattle.vdcp_laws.specs.Mended.{AreSafe, IsGoneOnWith};
-ghost use Rattle.vdcp_laws.specs.TwoEnds.{AreJoined, CanJoin, Ends};
+ghost use Rattle.vdcp_laws.specs.Mended.{AreOfJoined, Finds, IsGoneOnWith};
+ghost use Rattle.vdcp_laws.specs.TwoEnds.{CanJoin};
 ghost use Rattle.vdcp_port.specs.Clock.{ClockedPort};
 ghost use Rattle.vdcp_world.specs.LateLine.GoingOn.{IsNoTick, gone_on};
 ghost use Rattle.vdcp_world.specs.LateLine.LateChannel.{LateChannel, IsLateReached, after_late_event, after_late_events};
@@ -70,14 +71,14 @@ pub fn an_announced_play_may_go_out_unkept()
     vdcp_port::laws::the_unit_stays();
 }
 
-/// A journal whose rows are safe of joined ends is gone on with: what going on adds (`mended`) may have gone out of them;
-/// taken for given, it makes the rows a journal of both ends again, joined over a new connection, and the controller that a
-/// session begins with; or the rows then say that the run was lost.
+/// A journal whose rows are safe of joined ends is gone on with, over a new connection to their server, or to one that was
+/// started anew: what going on adds (`mended`) may have gone out of them; taken for given, it makes the rows a journal of
+/// both ends again, joined behind what aired, and the controller that a session begins with; or the rows then say that the
+/// run was lost.
 pub fn a_mended_journal_is_gone_on_with()
-    ensures { (plan : Plan) (port : ClockedPort) (asked : List Command) (e : Ends) (journal : List Row)
-        (time : Moment) → CanJoin plan port asked → AreJoined plan port asked e →
-        AreSafe plan e (last_run journal).rows →
-        IsGoneOnWith plan port asked ((last_run journal).rows
+    ensures { (plan : Plan) (port now found : ClockedPort) (asked : List Command) (aired : List Item) (journal : List Row)
+        (time : Moment) → CanJoin plan port asked → AreOfJoined plan port asked now aired (last_run journal).rows →
+        Finds now found → IsGoneOnWith plan port asked found aired ((last_run journal).rows
         ++ rows_at time (mended plan journal (last_run journal).rows)) }
 {
     vdcp_journal::laws::an_announced_play_comes_next();

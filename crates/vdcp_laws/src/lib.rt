@@ -5,6 +5,7 @@
 mod asrun_lists;
 mod killed_runs;
 mod lossy_lines;
+mod serve_calls;
 mod sessions;
 mod two_ends;
 
@@ -16,7 +17,10 @@ pub use killed_runs::{
     an_announced_play_may_go_out_unkept, what_asks_may_go_out_unkept,
 };
 pub use lossy_lines::what_is_done_is_events;
-pub use sessions::{a_killed_session_is_safe, a_session_keeps_the_headline};
+pub use serve_calls::what_is_left_is_served;
+pub use sessions::{
+    a_killed_session_is_safe, a_session_keeps_the_headline, sessions_keep_the_headline,
+};
 pub use two_ends::{
     a_carried_run_keeps_the_headline, a_journal_makes_the_automation, a_kill_loses_what_came_since,
     ends_in_time_are_a_channel, nothing_airs_after_a_complete_end,

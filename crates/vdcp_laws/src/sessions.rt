@@ -1,9 +1,14 @@
-//! The law of what `vdcp run` does over a connection, from its first question to its last byte.
+//! The laws of what `vdcp run` does over a connection, from its first question to its last byte, and over the next one.
 ghost use Rattle.std.specs.Prelude.{ℕ, ◌≡◌, ◌∷◌, ◌++◌, [], List, None, Option, map};
+ghost use Rattle.vdcp_value.specs.declared.clip_id.ClipId.{ClipId};
 ghost use Rattle.vdcp_value.specs.declared.part.Item.{Item};
+ghost use Rattle.vdcp_value.specs.declared.rate.Rate.{Rate};
+ghost use Rattle.vdcp_value.specs.declared.timecode.Timecode.{Timecode};
 ghost use Rattle.vdcp_words.specs.declared.command.Command.{Command};
 ghost use Rattle.vdcp_port.specs.Clock.{ClockedPort};
 ghost use Rattle.vdcp_auto.specs.Plan.{Plan};
+ghost use Rattle.vdcp_auto.specs.State.{State};
+ghost use Rattle.vdcp_auto.specs.declared.exchange.Exchange.{Exchange};
 ghost use Rattle.vdcp_wire.specs.Acts.{Act};
 ghost use Rattle.vdcp_drive.specs.Auto.{AreMade, Event};
 ghost use Rattle.vdcp_drive.specs.Hearing.{at_once};
@@ -12,24 +17,31 @@ ghost use Rattle.vdcp_drive.specs.Steps.{Step, steps_of};
 ghost use Rattle.vdcp_drive.specs.Traces.{acts_in, bytes_of, came_in, kept_in, sent_in};
 ghost use Rattle.vdcp_drive.specs.Turns.{Turn};
 ghost use Rattle.vdcp_drive.specs.declared.hooks.Kept.{Kept};
+ghost use Rattle.vdcp_journal.specs.Mending.{mended, rows_at};
+ghost use Rattle.vdcp_journal.specs.Runs.{last_run};
+ghost use Rattle.vdcp_journal.specs.declared.moment.Moment.{Moment};
 ghost use Rattle.vdcp_journal.specs.declared.row.Row.{Row};
 ghost use Rattle.vdcp_journal_file.specs.Recorded.{WaitsSince};
 ghost use Rattle.vdcp_journal_file.specs.Recording.{Recording, rows_left};
 ghost use Rattle.vdcp_journal_file.specs.declared.pending.Pending.{Pending};
+ghost use Rattle.vdcp_list.specs.Asrun.{asrun_text};
+ghost use Rattle.vdcp_laws.specs.AsrunLaw.{IsOfAired};
 ghost use Rattle.vdcp_laws.specs.Automation.{commands_in};
 ghost use Rattle.vdcp_laws.specs.Carried.{AreCarried, MayGive, driver_of};
 ghost use Rattle.vdcp_laws.specs.EndsHeadline.{EndsHeadline};
-ghost use Rattle.vdcp_laws.specs.Mended.{AreOfJoined, IsSession};
+ghost use Rattle.vdcp_laws.specs.Mended.{AreOfJoined, Finds, IsSession, anew, state_in};
 ghost use Rattle.vdcp_laws.specs.OneConnection.{ends_by};
 ghost use Rattle.vdcp_laws.specs.Servers.{IsServed};
 ghost use Rattle.vdcp_laws.specs.Sessions.{acts_asked, acts_tried, ends_asked, ends_tried, log_tried, state_tried};
-ghost use Rattle.vdcp_laws.specs.TwoEnds.{AreJoined, CanJoin, Ends, asked_first, bytes_in, log_now, new_ends};
+ghost use Rattle.vdcp_laws.specs.TwoEnds.{AreJoined, CanJoin, Ends, asked_first, bytes_in, connected_anew, log_now, new_ends, port_now};
 ghost use Rattle.vdcp_run.specs.Asking.{AreAsked, HasAsked, Start, asker_of, over};
 ghost use Rattle.vdcp_run.specs.Ends.{Reports};
+ghost use Rattle.vdcp_run.specs.Run.{reported_text};
 ghost use Rattle.vdcp_run.specs.Session.{HasTried, TriesOver};
 ghost use Rattle.vdcp_run.specs.declared.run_end.RunEnd.{RunEnd};
 ghost use Rattle.vdcp_run.specs.declared.settings.RunSettings.{RunSettings};
 
+use crate::killed_runs::a_mended_journal_is_gone_on_with;
 use crate::two_ends::{
     a_journal_makes_the_automation, two_ends_are_a_late_channel, untorn_turns_are_at_once,
 };
@@ -44,26 +56,32 @@ use vdcp_wire::Wire;
 /// hears at once, or at silences none of which tears a command.
 pub fn a_session_keeps_the_headline<C: Catalogue, A: Wire, D: Disk, B: Wire, H: ServerHooks<C>>()
     ensures headline { (plan : Plan) (from : ℕ) (settings : RunSettings) (port : ClockedPort) (asked : List Command) (e : Ends)
-        (wire : A) (recorder : Option (Recording D)) (end : RunEnd) (turns : List Turn) (below : List Act) (aired : List Item) →
+        (wire last : A) (recorder : Option (Recording D)) (end : RunEnd) (turns : List Turn) (below : List Act) (aired : List Item) →
         CanJoin plan port asked → AreJoined plan port asked e → commands_in plan e.automation ≡ [] →
         (tried : HasTried A.does D.safe at_once (record settings { unit = port.state.unit })
-        (record { plan = plan; from = from; state = e.automation.state }) e.automation.held (over wire recorder) end) →
+        (record { plan = plan; from = from; state = e.automation.state }) e.automation.held (over wire recorder) last end) →
         IsServed B.does H.can_act H.does e turns below aired →
         AreCarried plan port.state.unit e (acts_tried tried) below →
         EndsHeadline plan port.clips (state_tried tried) (log_now e ++ log_tried tried) aired }
     ensures joined { (plan : Plan) (from : ℕ) (settings : RunSettings) (port : ClockedPort) (asked : List Command) (e : Ends)
-        (wire : A) (recorder : Option (Recording D)) (end : RunEnd) (turns : List Turn) (below : List Act) (aired : List Item) →
+        (wire last : A) (recorder : Option (Recording D)) (end : RunEnd) (turns : List Turn) (below : List Act) (aired : List Item) →
         AreJoined plan port asked e → commands_in plan e.automation ≡ [] →
         (tried : HasTried A.does D.safe at_once (record settings { unit = port.state.unit })
-        (record { plan = plan; from = from; state = e.automation.state }) e.automation.held (over wire recorder) end) →
+        (record { plan = plan; from = from; state = e.automation.state }) e.automation.held (over wire recorder) last end) →
         IsServed B.does H.can_act H.does e turns below aired →
         AreCarried plan port.state.unit e (acts_tried tried) below →
         AreJoined plan port asked (ends_tried tried e (e.downs ++ turns)) }
     // What it reports is that of the headline.
-    ensures reported { (plan : Plan) (from : ℕ) (settings : RunSettings) (e : Ends) (wire : A) (recorder : Option (Recording D))
+    ensures reported { (plan : Plan) (from : ℕ) (settings : RunSettings) (e : Ends) (wire last : A) (recorder : Option (Recording D))
         (end : RunEnd) → (tried : HasTried A.does D.safe at_once settings
-        (record { plan = plan; from = from; state = e.automation.state }) e.automation.held (over wire recorder) end) →
+        (record { plan = plan; from = from; state = e.automation.state }) e.automation.held (over wire recorder) last end) →
         Reports from (state_tried tried) end }
+    // If it began with the first event, the text that is written of what it reports has a row for each item that aired, in
+    // order, but for the last at most.
+    ensures asrun { (rate : Rate) (plan : Plan) (clips : List (ClipId × Timecode)) (state : State) (log : List Exchange)
+        (aired : List Item) (end : RunEnd) → EndsHeadline plan clips state log aired → Reports 0 state end →
+        IsOfAired rate plan.list aired end.reported
+        × (reported_text rate plan.list 0 end.reported ≡ asrun_text rate plan.list end.reported) }
     // Killed while it asked: of its questions a beginning went out, and nothing was kept.
     ensures asking { (plan : Plan) (from : ℕ) (port : ClockedPort) (asked questions : List Command) (e : Ends)
         (acts : List Act) (unsent : List ℕ) (turns : List Turn) (below : List Act) (aired : List Item) →
@@ -72,9 +90,9 @@ pub fn a_session_keeps_the_headline<C: Catalogue, A: Wire, D: Disk, B: Wire, H: 
         bytes_of port.state.unit questions ≡ sent_in acts ++ unsent → IsServed B.does H.can_act H.does e turns below aired →
         AreCarried plan port.state.unit e acts below → (held : Held) × AreJoined plan port asked
         (record (asked_first questions held (bytes_in (came_in acts)) e) { downs = e.downs ++ turns }) }
-    ensures given { (settings : RunSettings) (start : Start) (wire : A) (recorder : Option (Recording D)) (end : RunEnd) →
-        TriesOver A.does D.safe (record settings { hearing = Hearing.AtOnce }) start wire recorder end →
-        HasTried A.does D.safe at_once (record settings { hearing = Hearing.AtOnce }) start (holds []) (over wire recorder) end }
+    ensures given { (settings : RunSettings) (start : Start) (wire last : A) (recorder : Option (Recording D)) (end : RunEnd) →
+        TriesOver A.does D.safe (record settings { hearing = Hearing.AtOnce }) start wire last recorder end →
+        HasTried A.does D.safe at_once (record settings { hearing = Hearing.AtOnce }) start (holds []) (over wire recorder) last end }
 {
     two_ends_are_a_late_channel();
     vdcp_world::laws::a_late_line_keeps_the_headline();
@@ -86,8 +104,9 @@ pub fn a_session_keeps_the_headline<C: Catalogue, A: Wire, D: Disk, B: Wire, H: 
 }
 
 /// A session that is killed after whatever events of its run, with its next command kept or not, leaves a journal whose
-/// rows are safe of joined ends, whether its recorder wrote none of what waits for a later row, the first of it or all. So
-/// the journal is gone on with (`a_mended_journal_is_gone_on_with`), which begins the next session. What was heard last
+/// rows are safe of joined ends, with the server's port as its turns left it, and all that aired, whether its recorder
+/// wrote none of what waits for a later row, the first of it or all. So the journal is gone on with
+/// (`a_mended_journal_is_gone_on_with`), which begins the next session (`sessions_keep_the_headline`). What was heard last
 /// may be lost. As long as nothing was kept, the journal is as it was.
 pub fn a_killed_session_is_safe<C: Catalogue, A: Wire, B: Wire, H: ServerHooks<C>>()
     ensures safe { (plan : Plan) (from : ℕ) (settings : RunSettings) (port : ClockedPort) (asked : List Command)
@@ -108,8 +127,13 @@ pub fn a_killed_session_is_safe<C: Catalogue, A: Wire, B: Wire, H: ServerHooks<C
         IsServed B.does H.can_act H.does e turns below aired →
         AreCarried plan port.state.unit e (acts ++ (acts_in steps ++ (out ++ since))) below →
         kept_in steps ++ rows ≡ first ∷ more → WaitsSince before (first ∷ more) written waits →
-        rows_left waits ≡ part ++ rest → AreOfJoined plan port asked ((earlier ++ written) ++ part) }
+        rows_left waits ≡ part ++ rest → AreOfJoined plan port asked (port_now (record e { downs = e.downs ++ turns })) aired
+        ((earlier ++ written) ++ part) }
     ensures new { (plan : Plan) (port : ClockedPort) → IsSession plan port [] [] Pending.Nothing (new_ends port []) }
+    // One that kept nothing begins again, over a new connection.
+    ensures again { (plan : Plan) (port found : ClockedPort) (asked : List Command) (rows : List Row) (waits : Pending)
+        (e : Ends) → IsSession plan port asked rows waits e → Finds (port_now e) found →
+        IsSession plan port asked rows waits (connected_anew plan found e) }
 {
     untorn_turns_are_at_once();
     vdcp_drive::laws::servers_go_on();
@@ -118,4 +142,24 @@ pub fn a_killed_session_is_safe<C: Catalogue, A: Wire, B: Wire, H: ServerHooks<C
     vdcp_run::laws::only_questions_are_asked::<AtOnce, A>();
     vdcp_journal::laws::an_announced_play_comes_next();
     a_journal_makes_the_automation();
+}
+
+/// The headline holds over a kill, of which `a_killed_session_is_safe` says what it leaves: what aired before it and what
+/// airs since, in a session that goes on from the journal over a new connection to the server or to one that was started
+/// anew, are together a beginning of the playlist, of which what is reported then lacks one at most.
+pub fn sessions_keep_the_headline<C: Catalogue, A: Wire, D: Disk, B: Wire, H: ServerHooks<C>>()
+    ensures { (plan : Plan) (from : ℕ) (settings : RunSettings) (port now found : ClockedPort) (asked : List Command)
+        (journal : List Row) (time : Moment) (wire last : A) (recorder : Option (Recording D)) (end : RunEnd) (turns : List Turn)
+        (below : List Act) (before since : List Item) →
+        CanJoin plan port asked → AreOfJoined plan port asked now before (last_run journal).rows → Finds now found →
+        let rows : List Row = rows_at time (mended plan journal (last_run journal).rows) in
+        let state : State = state_in plan ((last_run journal).rows ++ rows) in
+        (tried : HasTried A.does D.safe at_once (record settings { unit = port.state.unit })
+        (record { plan = plan; from = from; state = state }) (holds []) (over wire recorder) last end) →
+        IsServed B.does H.can_act H.does (anew found state) turns below since →
+        AreCarried plan port.state.unit (anew found state) (acts_tried tried) below → (log : List Exchange) ×
+        EndsHeadline plan port.clips (state_tried tried) (log ++ log_tried tried) (before ++ since) }
+{
+    a_mended_journal_is_gone_on_with();
+    a_session_keeps_the_headline::<C, A, D, B, H>();
 }

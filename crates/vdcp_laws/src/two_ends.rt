@@ -219,7 +219,7 @@ pub fn a_journal_makes_the_automation()
     vdcp_journal::laws::a_thinned_journal_makes_the_same();
 }
 
-fn what_is_below()
+pub(crate) fn what_is_below()
     ensures { Laws }
 {
     vdcp_world::laws::a_killed_automation_goes_on();

@@ -106,13 +106,14 @@ module _ {S E W F : Type 0} (items : S → List Item) (does : Act → W → W �
       (auto_of new) (over old.wire keep) (over new.wire keep') answer has_run
 
   pub plays_so : Plays does safe fold old.ear old.unit turns (start_of items old.controller)
-      (over old.wire keep.recorder) end
+      (over old.wire keep.recorder) new.wire end
   unfolding run_recorded
   plays_so = record {
     ran = answer;
     auto = auto_of new;
     left = over new.wire keep'.recorder;
     runs = has_recorded;
+    last_is = refl;
     line_is = h.line;
     reports = subst (λ (from : ℕ). Reports from new.controller.state end)
         (ap (λ (c : View (FromEvent S)). c.source.from) h.leaves.controller) h.reports;

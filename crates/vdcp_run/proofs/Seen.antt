@@ -91,14 +91,16 @@ module _ {W W' : Type 0} (does : Act → W → W → Type 0) (does' : Act → W'
   -- what is played
   module _ {F : Type 0} (safe : F → Option (List ℕ)) where
     plays_seen : {E : Type 0} (fold : Fold E) (ear : E) (unit listens : ℕ) (start : Start)
-        (world : World W (Option (Recording F))) (end : RunEnd) → Plays does safe fold ear unit listens start world end
-        → Plays does' safe fold ear unit listens start (below world) end
+        (world : World W (Option (Recording F))) (last : W) (end : RunEnd)
+        → Plays does safe fold ear unit listens start world last end
+        → Plays does' safe fold ear unit listens start (below world) (w last) end
     unfolding run_seen
-    plays_seen fold ear unit listens start world end plays = record {
+    plays_seen fold ear unit listens start world last end plays = record {
       ran = plays.ran;
       auto = plays.auto;
       left = below plays.left;
       runs = run_seen _ _ _ fold start.plan unit listens _ plays.auto world plays.left plays.ran plays.runs;
+      last_is = ap w plays.last_is;
       line_is = plays.line_is;
       reports = plays.reports;
       signs_are = plays.signs_are;
@@ -106,33 +108,25 @@ module _ {W W' : Type 0} (does : Act → W → W → Type 0) (does' : Act → W'
     }
 
     tries_seen : {E : Type 0} (fold : Fold E) (settings : RunSettings) (start : Start) (ear : E)
-        (world : World W (Option (Recording F))) (end : RunEnd) → HasTried does safe fold settings start ear world end
-        → HasTried does' safe fold settings start ear (below world) end
-    tries_seen fold settings start ear world end (played ear' wire left asked plays) = played ear' (w wire) left
+        (world : World W (Option (Recording F))) (last : W) (end : RunEnd) → HasTried does safe fold settings start ear world last end
+        → HasTried does' safe fold settings start ear (below world) (w last) end
+    tries_seen fold settings start ear world last end (played ear' wire left asked plays) = played ear' (w wire) left
         (asked_seen fold (asker_of settings.ask start) settings ear ear' world.wire wire left None asked)
-        (plays_seen fold ear' settings.unit left start (record world { wire = wire }) end plays)
-    tries_seen fold settings start ear world end (unbegun ear' wire left line asked is reports) = unbegun ear' (w wire) left line
-        (asked_seen fold (asker_of settings.ask start) settings ear ear' world.wire wire left (Some line) asked) is reports
+        (plays_seen fold ear' settings.unit left start (record world { wire = wire }) last end plays)
+    tries_seen fold settings start ear world last end (unbegun ear' left line asked is reports) = unbegun ear' left line
+        (asked_seen fold (asker_of settings.ask start) settings ear ear' world.wire last left (Some line) asked) is reports
 
     pub tries_by_seen : (hearing : Hearing) (settings : RunSettings) (start : Start)
-        (world : World W (Option (Recording F))) (end : RunEnd) → TriesBy hearing does safe settings start world end
-        → TriesBy hearing does' safe settings start (below world) end
-    tries_by_seen hears.AtSilences settings start world end tries =
-        tries_seen ears.at_silences settings start (ears.begun (holds [])) world end tries
-    tries_by_seen hears.AtOnce settings start world end tries =
-        tries_seen ears.at_once settings start (holds []) world end tries
+        (world : World W (Option (Recording F))) (last : W) (end : RunEnd)
+        → TriesBy hearing does safe settings start world last end
+        → TriesBy hearing does' safe settings start (below world) (w last) end
+    tries_by_seen hears.AtSilences settings start world last end tries =
+        tries_seen ears.at_silences settings start (ears.begun (holds [])) world last end tries
+    tries_by_seen hears.AtOnce settings start world last end tries =
+        tries_seen ears.at_once settings start (holds []) world last end tries
 
--- ---- a connection, which is a wire or none
+-- ---- a connection
 
-pub limits_so : {E : Type 0} (time limit : ℕ) (wire : Result Streamed E) → limit ≡ time → limit ≤ 2 ^ 64 - 1
-    → IfOk wire (λ w. option_map (λ l. l.most) w.answer ≡ Some (min limit (2 ^ 64 - 1))) → IfOk wire (λ w. Limits w time)
-limits_so time limit (Ok wire) is short limits = limits ∙ ap (λ (n : ℕ). Some n) (min-eq_left short ∙ is)
-limits_so time limit (Err e) is short limits = tt
-
-pub session_so : {F E : Type 0} (safe : F → Option (List ℕ)) (settings : RunSettings) (start : Start)
-    (recorder : Option (Recording F)) (end : RunEnd) (wire : Result Streamed E)
-    → IfOk wire (λ w. w.connection ≡ connection.Open) → IfOk wire (λ w. Limits w (longest_answer settings))
-    → IfOk wire (λ w. TriesOver StreamDoes safe settings start w recorder end)
-    → OnErr wire ((end.line ≡ line_end.Failed) × Reports start.from start.state end) → HasSession safe settings start recorder end
-session_so safe settings start recorder end (Ok wire) is_open limits tries failed = tried wire is_open limits tries
-session_so safe settings start recorder end (Err e) is_open limits tries failed = no_wire failed.0 failed.1
+pub limits_so : (time limit : ℕ) (wire : Streamed) → limit ≡ time → limit ≤ 2 ^ 64 - 1
+    → option_map (λ l. l.most) wire.answer ≡ Some (min limit (2 ^ 64 - 1)) → Limits wire time
+limits_so time limit wire is short limits = limits ∙ ap (λ (n : ℕ). Some n) (min-eq_left short ∙ is)

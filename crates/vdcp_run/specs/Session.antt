@@ -103,14 +103,15 @@ IsClosed {F} safe stage line None (Some recorder) = (line ≢ line_end.Unkept) �
 IsClosed safe stage line (Some lack) (Some recorder) = lack.journal ≡ recorder.name
 
 -- with this ear a driver ran, and came to this end: before each command went out and each call was given its journal,
--- if it has one, had the rows safe that were due. Then the journal was ended
+-- if it has one, had the rows safe that were due. Then the journal was ended. The wire was left so
 pub record Plays {E W F : Type 0} (does : Act → W → W → Type 0) (safe : F → Option (List ℕ)) (fold : Fold E) (ear : E)
-    (unit listens : ℕ) (start : Start) (world : World W (Option (Recording F))) (end : RunEnd) : Type 0 where
+    (unit listens : ℕ) (start : Start) (world : World W (Option (Recording F))) (last : W) (end : RunEnd) : Type 0 where
   pub ran : Result Ran BrokenOff
   pub auto : Auto E
   pub left : World W (Option (Recording F))
   pub runs : HasRun (recorder_rules does safe) fold start.plan unit listens (record { ear = ear; state = start.state }) auto world
       left ran
+  pub last_is : left.wire ≡ last
   pub line_is : end.line ≡ line_end_of ran
   pub reports : Reports start.from auto.state end
   pub signs_are : end.signs ≡ signs_by (kept_in (steps_in runs.run)) signs_at_first
@@ -121,27 +122,29 @@ pub record Plays {E W F : Type 0} (does : Act → W → W → Type 0) (safe : F 
 -- with this ear what was to be asked first was, and then, with the ear that this left, the list was played, unless that ends
 -- the line
 pub data HasTried {E W F : Type 0} (does : Act → W → W → Type 0) (safe : F → Option (List ℕ)) (fold : Fold E)
-    (settings : RunSettings) (start : Start) (ear : E) (world : World W (Option (Recording F))) (end : RunEnd) : Type 0 where
+    (settings : RunSettings) (start : Start) (ear : E) (world : World W (Option (Recording F))) (last : W) (end : RunEnd)
+    : Type 0 where
   played : (ear' : E) (wire : W) (left : ℕ)
       → HasAsked (asker_of settings.ask start) does fold settings ear ear' world.wire wire left None
-      → Plays does safe fold ear' settings.unit left start (record world { wire = wire }) end
-      → HasTried does safe fold settings start ear world end
-  unbegun : (ear' : E) (wire : W) (left : ℕ) (line : LineEnd)
-      → HasAsked (asker_of settings.ask start) does fold settings ear ear' world.wire wire left (Some line) → end.line ≡ line
-      → Reports start.from start.state end → HasTried does safe fold settings start ear world end
+      → Plays does safe fold ear' settings.unit left start (record world { wire = wire }) last end
+      → HasTried does safe fold settings start ear world last end
+  unbegun : (ear' : E) (left : ℕ) (line : LineEnd)
+      → HasAsked (asker_of settings.ask start) does fold settings ear ear' world.wire last left (Some line) → end.line ≡ line
+      → Reports start.from start.state end → HasTried does safe fold settings start ear world last end
 
 -- so with a new ear
 abbrev pub TriesBy : {W F : Type 0} → Hearing → (Act → W → W → Type 0) → (F → Option (List ℕ)) → RunSettings → Start
-    → World W (Option (Recording F)) → RunEnd → Type 0
-TriesBy hears.AtSilences does safe settings start world end =
-    HasTried does safe ears.at_silences settings start (ears.begun (holds [])) world end
-TriesBy hears.AtOnce does safe settings start world end = HasTried does safe ears.at_once settings start (holds []) world end
+    → World W (Option (Recording F)) → (last : W) → RunEnd → Type 0
+TriesBy hears.AtSilences does safe settings start world last end =
+    HasTried does safe ears.at_silences settings start (ears.begun (holds [])) world last end
+TriesBy hears.AtOnce does safe settings start world last end =
+    HasTried does safe ears.at_once settings start (holds []) world last end
 
 -- and over this wire
-abbrev pub TriesOver : {W F : Type 0} → (Act → W → W → Type 0) → (F → Option (List ℕ)) → RunSettings → Start → W
+abbrev pub TriesOver : {W F : Type 0} → (Act → W → W → Type 0) → (F → Option (List ℕ)) → RunSettings → Start → (wire last : W)
     → Option (Recording F) → RunEnd → Type 0
-TriesOver does safe settings start wire recorder end =
-    TriesBy settings.hearing does safe settings start (over wire recorder) end
+TriesOver does safe settings start wire last recorder end =
+    TriesBy settings.hearing does safe settings start (over wire recorder) last end
 
 -- for how many silences an answer may go on: generous where silences end it, since those that the server makes count, too
 abbrev pub silences_of : Hearing → ℕ
@@ -165,6 +168,6 @@ pub data HasSession {F : Type 0} (safe : F → Option (List ℕ)) (settings : Ru
   no_wire : end.line ≡ line_end.Failed → Reports start.from start.state end → HasSession safe settings start recorder end
   unconnected : settings.stay ≡ true → end.line ≡ line_end.NotBegun why.Stopped → Reports start.from start.state end
       → HasSession safe settings start recorder end
-  tried : (wire : Streamed) → wire.connection ≡ connection.Open → Limits wire (longest_answer settings)
-      → TriesOver StreamDoes safe settings start wire recorder end
+  tried : (wire last : Streamed) → wire.connection ≡ connection.Open → Limits wire (longest_answer settings)
+      → TriesOver StreamDoes safe settings start wire last recorder end
       → HasSession safe settings start recorder end

@@ -1,6 +1,6 @@
 //! One session: plays a list over a connection, and says what came of it.
 ghost use Rattle.std.specs.Duration.{as_nanos};
-ghost use Rattle.std.specs.Prelude.{◌≡◌, ◌⊎◌, ◌≤◌, ◌*◌, ◌^◌, ◌-◌, IfErr, IfOk, None, OnErr};
+ghost use Rattle.std.specs.Prelude.{◌≡◌, ◌⊎◌, ◌≤◌, ◌*◌, ◌^◌, ◌-◌, IfErr, IfOk, None, true};
 ghost use Rattle.vdcp_run.specs.Ends.{Reports};
 ghost use Rattle.vdcp_run.specs.Run.{HasAsrun};
 ghost use Rattle.vdcp_run.specs.Asking.{over, start_of};
@@ -47,7 +47,7 @@ impl<
     /// The failure is `Connect` if nobody takes the connection in time and the run doesn't stay, and `NotEmpty` if the port
     /// is asked and isn't empty.
     pub fn play_at<'a, S: Source + Copy>(
-        self,
+        mut self,
         address: SocketAddrV4,
         begun: Resumption<'a, 'r, R, S>,
         settings: RunSettings<'a>,
@@ -59,53 +59,72 @@ impl<
         ensures asrun { IfOk result.0 (HasAsrun settings.entry (S.items begun.entry.controller.source.source)) }
         ensures refused { IfErr result.0 (λ failure. (failure ≡ Failure.Connect) ⊎ (failure ≡ Failure.NotEmpty)) }
     {
-        let Session {
-            mut console,
-            mut pace,
-        } = self;
         let Resumption {
             controller,
             recorder,
             runs,
         } = begun;
-        let rt = console.rt;
+        let rt = self.console.rt;
         if controller.outcome().is_some() {
             // (no turn is left: a run whose controller has ended makes no further try)
             let line = LineEnd::Ran(Ran::Ended);
-            let end = console.end(&controller, line, Signs::none(), None, 0, settings);
-            return (Ok(end), Session { console, pace });
+            let end = self
+                .console
+                .end(&controller, line, Signs::none(), None, 0, settings);
+            return (Ok(end), self);
         }
-        console
-            .hand
-            .set_before(events_before(rt.alloc(), runs.as_slice(), &controller));
-        let stream = if settings.stay {
-            match console.connect_staying(address, &controller, &mut pace) {
-                Some(stream) => stream,
-                None => {
-                    let (line, left) = (LineEnd::NotBegun(Why::Stopped), settings.listens);
-                    let end = console.end(&controller, line, Signs::none(), None, left, settings);
-                    return (Ok(end), Session { console, pace });
-                }
-            }
-        } else {
-            match console.connect_in_time(address, &controller) {
-                Some(stream) => stream,
-                None => return (Err(Failure::Connect), Session { console, pace }),
-            }
+        let before = events_before(rt.alloc(), runs.as_slice(), &controller);
+        self.console.hand.set_before(before);
+        let Some(stream) = self.connect(address, &controller, settings) else {
+            return self.end_unconnected(&controller, settings);
         };
         let wire = StreamWire::with_limit(stream, silence_of(settings), limit_of(settings), rt);
+        let Ok(wire) = wire else {
+            let left = settings.listens;
+            let end = self.console.end(
+                &controller,
+                LineEnd::Failed,
+                Signs::none(),
+                None,
+                left,
+                settings,
+            );
+            return (Ok(end), self);
+        };
+        let Session { console, pace } = self;
         let playing = Playing {
             recorder,
             console,
             left: settings.listens,
             signs: Signs::at_first(),
         };
-        let (end, console) = playing.play_over(controller, wire, settings);
+        let (end, console, _) = playing.play_over(controller, wire, settings);
         let session = Session { console, pace };
         if end.line == LineEnd::NotBegun(Why::Occupied) {
             return (Err(Failure::NotEmpty), session);
         }
         (Ok(end), session)
+    }
+
+    // Nobody took the connection, or the operator stopped before.
+    fn end_unconnected<'a, S: Source>(
+        mut self,
+        controller: &Controller<Rest<S>>,
+        settings: RunSettings<'a>,
+    ) -> (Result<RunEnd<'a>, Failure<'a>>, Self)
+        ensures stopped { IfOk result.0 (λ end. (settings.entry.stay ≡ true) × (end.line ≡ LineEnd.NotBegun Why.Stopped)
+            × Reports controller.now.source.from controller.now.state end) }
+        ensures asrun { IfOk result.0 (HasAsrun settings.entry (S.items controller.now.source.source)) }
+        ensures refused { IfErr result.0 (λ failure. failure ≡ Failure.Connect) }
+    {
+        if !settings.stay {
+            return (Err(Failure::Connect), self);
+        }
+        let (line, left) = (LineEnd::NotBegun(Why::Stopped), settings.listens);
+        let end = self
+            .console
+            .end(controller, line, Signs::none(), None, left, settings);
+        (Ok(end), self)
     }
 }
 
@@ -139,40 +158,28 @@ impl<
     fn play_over<S: Source + Copy, W: Wire + Drop>(
         self,
         controller: Controller<Rest<S>>,
-        wire: io::Result<W>,
+        wire: W,
         settings: RunSettings<'a>,
-    ) -> (RunEnd<'a>, Console<'r, 'l, R, I, O, V>)
+    ) -> (RunEnd<'a>, Console<'r, 'l, R, I, O, V>, W)
         requires unit { settings.unit ≤ 15 }
         requires some { 1 ≤ settings.limit }
-        requires works { IfOk wire (λ w. W.failures w ≡ 0) }
-        ensures failed { OnErr wire ((result.0.line ≡ LineEnd.Failed)
-            × Reports controller.source.from controller.state result.0) }
-        ensures session { IfOk wire (λ w. TriesOver W.does F.safe settings.entry
-            (start_of S.items controller) w self.entry.recorder result.0) }
+        requires works { W.failures wire ≡ 0 }
+        ensures session { TriesOver W.does F.safe settings.entry (start_of S.items controller) wire result.2
+            self.entry.recorder result.0 }
         ensures asrun { HasAsrun settings.entry (S.items controller.source.source) result.0 }
     {
-        let Ok(wire) = wire else {
-            let Playing {
-                mut console,
-                left,
-                ..
-            } = self;
-            let end = console.end(
-                &controller,
-                LineEnd::Failed,
-                Signs::none(),
-                None,
-                left,
-                settings,
-            );
-            return (end, console);
-        };
-        let wire = Logged::new(wire, self.console.log, settings.hearing);
+        let logged = Logged::new(wire, self.console.log, settings.hearing);
         match settings.hearing {
             Hearing::AtSilences => {
-                self.play_in_turn(controller, AtSilences::new(), wire, settings)
+                let ear = AtSilences::new();
+                let (end, console, logged) = self.play_in_turn(controller, ear, logged, settings);
+                (end, console, logged.wire)
             }
-            Hearing::AtOnce => self.play_in_turn(controller, AtOnce::new(), wire, settings),
+            Hearing::AtOnce => {
+                let ear = AtOnce::new();
+                let (end, console, logged) = self.play_in_turn(controller, ear, logged, settings);
+                (end, console, logged.wire)
+            }
         }
     }
 
@@ -182,11 +189,11 @@ impl<
         ear: E,
         wire: W,
         settings: RunSettings<'a>,
-    ) -> (RunEnd<'a>, Console<'r, 'l, R, I, O, V>)
+    ) -> (RunEnd<'a>, Console<'r, 'l, R, I, O, V>, W)
         requires unit { settings.unit ≤ 15 }
         requires works { W.failures wire ≡ 0 }
         ensures session { HasTried W.does F.safe E.fold settings.entry (start_of S.items controller) ear
-            (over wire self.entry.recorder) result.0 }
+            (over wire self.entry.recorder) result.2 result.0 }
         ensures asrun { HasAsrun settings.entry (S.items controller.source.source) result.0 }
     {
         let Playing {
@@ -203,7 +210,7 @@ impl<
         } = console.ask_first(&controller, ear, wire, settings);
         if let Some(line) = line {
             let end = console.end(&controller, line, Signs::none(), None, left, settings);
-            return (end, console);
+            return (end, console, wire);
         }
         let playing = Playing {
             recorder,
@@ -220,11 +227,11 @@ impl<
         mut driver: Driver<Rest<S>, E, W>,
         turns: u32,
         settings: RunSettings<'a>,
-    ) -> (RunEnd<'a>, Console<'r, 'l, R, I, O, V>)
+    ) -> (RunEnd<'a>, Console<'r, 'l, R, I, O, V>, W)
         requires works { W.failures driver.wire ≡ 0 }
         requires fresh { self.signs ≡ signs_at_first }
         ensures plays { Plays W.does F.safe E.fold driver.ear driver.unit turns
-            (start_of S.items driver.controller) (over driver.wire self.entry.recorder) result.0 }
+            (start_of S.items driver.controller) (over driver.wire self.entry.recorder) result.2 result.0 }
         ensures asrun { HasAsrun settings.entry (S.items driver.controller.source.source) result.0 }
     {
         let ran = driver.run_with(u64::from(turns), &mut self);
@@ -237,7 +244,8 @@ impl<
         } = self;
         let unkept = close(&mut recorder, driver.controller(), line);
         let end = console.end(driver.controller(), line, signs, unkept, left, settings);
-        (end, console)
+        let (_, wire) = driver.into_parts();
+        (end, console, wire)
     }
 }
 

@@ -2,21 +2,25 @@ use Rattle.std.proofs.Common.{ℕ, List, ◌++◌, ◌∙◌, None, ap, refl, sy
 use Rattle.vdcp_wire.specs.Acts.{Act}
 use Rattle.vdcp_laws.specs.Sessions.{acts_asked, ends_asked}
 use Rattle.vdcp_journal.specs.Thinned.{whole}
-use Rattle.vdcp_laws.specs.TwoEnds.{Ends, begun, new_ends}
-use Rattle.vdcp_laws.proofs.CarriedRun.{carried_before, killed_so}
+use Rattle.vdcp_laws.specs.TwoEnds.{Ends, aired_now, begun, new_ends, port_now}
+use Rattle.vdcp_laws.proofs.CarriedRun.{carried_before, killed_so, stays_killed}
 use Rattle.vdcp_laws.proofs.KilledSession.{is_left_safe, steps_at}
-use Rattle.vdcp_laws.proofs.Mended.{Below}
+use Rattle.vdcp_laws.proofs.Mended.{Below, begins_again}
 use Rattle.vdcp_laws.proofs.OneRun.{led_on}
 use Rattle.vdcp_laws.proofs.Servers.{Laws, served_so}
 use Rattle.vdcp_laws.proofs.Tried.{asked_led}
 use Rattle.vdcp_laws.proofs.Tried as session
 use Rattle.vdcp_drive.specs.Traces.{acts_in}
+use Rattle.vdcp_drive.specs.Turns.{Turn}
 use Rattle.vdcp_run.specs.Asking.{Start}
 use Rattle.vdcp_run.specs.declared.settings.RunSettings.{RunSettings}
 use Rattle.vdcp_laws.proofs.sessions.a_killed_session_is_safe.Goals as goal
 
 pub returns-clause-new : goal.returns-clause-new
 returns-clause-new g c plan port = record { joined = begun; ready = refl; thinned = whole; unseen = refl }
+
+pub returns-clause-again : goal.returns-clause-again
+returns-clause-again g c = begins_again
 
 pub returns-clause-safe : goal.returns-clause-safe
 returns-clause-safe g c plan from settings port asked e last ear wire wire' left events rows out since turns below aired before waits
@@ -41,16 +45,20 @@ returns-clause-safe g c plan from settings port asked e last ear wire wire' left
       makes = c.a_journal_makes_the_automation.ensures.makes;
       told = c.a_journal_makes_the_automation.ensures.told;
     } in
-    is_left_safe below_laws c.steps_are_exchanges.ensures.bytes plan port asked e now questions _
+    let so = served_so laws e turns below aired served in
+    let downs : List Turn = e.downs ++ turns in
+    is_left_safe below_laws c.steps_are_exchanges.ensures.bytes plan port asked _ aired e now questions _
     (λ events rows out since last made may unsent acts.
     let done : List Act = acts_in (steps_at plan port now events) in
     let then = killed_so plan unit now last events rows out made may in record {
-      ends = record last { downs = e.downs ++ turns };
+      ends = record last { downs = downs };
       joined = led_on plan unit (new_ends port asked) e _ begins.joined
-          (asked_led tried given start e last ear wire wire' left (done ++ out) turns below aired refl begins.ready asks then.0
-          (served_so laws e turns below aired served)
+          (asked_led tried given start e last ear wire wire' left (done ++ out) turns below aired refl begins.ready asks then.0 so
           (carried_before plan unit e (questions ++ (done ++ out)) carried since
           (acts ∙ sym (append_assoc questions (done ++ out) since
           ∙ ap (λ (l : List Act). questions ++ l) (append_assoc done out since))) unsent));
+      port_is = stays_killed (λ p i. port_now (record e { port = p; downs = downs })) plan unit now last events rows out may;
+      aired_are = stays_killed (λ p i. aired_now (record e { port = p; downs = downs; aired_before = i })) plan unit now last
+          events rows out may ∙ so.aired_is;
       notes_are = then.1;
     }) can before waits earlier written part rest begins.thinned begins.unseen events rows out since last first more made may unsent refl kept w split

@@ -2,6 +2,7 @@ use Rattle.std.proofs.Common.{◌++◌, subst, refl}
 use Rattle.vdcp_laws.specs.EndsHeadline.{EndsHeadline}
 use Rattle.vdcp_laws.specs.Sessions.{log_tried, state_tried}
 use Rattle.vdcp_laws.specs.TwoEnds.{log_now, new_ends}
+use Rattle.vdcp_laws.proofs.AsrunRows.{reported_rows}
 use Rattle.vdcp_laws.proofs.OneRun.{led_on}
 use Rattle.vdcp_laws.proofs.Servers.{Laws, served_so}
 use Rattle.vdcp_laws.proofs.Tried.{asking_led, may_ask, tried_headline, tried_led}
@@ -26,23 +27,23 @@ tried_laws g c = record {
 }
 
 pub returns-clause-joined : goal.returns-clause-joined
-returns-clause-joined g c plan from settings port asked e wire recorder end turns below aired j none tried served carried =
+returns-clause-joined g c plan from settings port asked e wire last recorder end turns below aired j none tried served carried =
     led_on plan port.state.unit (new_ends port asked) e _ j
-    (tried_led (tried_laws g c) (record settings { unit = port.state.unit }) plan from e (over wire recorder) end turns below aired none tried
+    (tried_led (tried_laws g c) (record settings { unit = port.state.unit }) plan from e (over wire recorder) last end turns below aired none tried
     (served_so (laws g c) e turns below aired served) carried)
 
 pub returns-clause-headline : goal.returns-clause-headline
-returns-clause-headline g c plan from settings port asked e wire recorder end turns below aired start j none tried served carried =
+returns-clause-headline g c plan from settings port asked e wire last recorder end turns below aired start j none tried served carried =
     subst (EndsHeadline plan port.clips (state_tried tried) (log_now e ++ log_tried tried))
     (served_so (laws g c) e turns below aired served).aired_is
     (tried_headline (record {
       ends = c.two_ends_are_a_late_channel.ensures.ends;
       headline = c.a_late_line_keeps_the_headline.ensures;
-    }) settings plan from port asked e (over wire recorder) end (e.downs ++ turns) start tried
-    (returns-clause-joined g c plan from settings port asked e wire recorder end turns below aired j none tried served carried))
+    }) settings plan from port asked e (over wire recorder) last end (e.downs ++ turns) start tried
+    (returns-clause-joined g c plan from settings port asked e wire last recorder end turns below aired j none tried served carried))
 
 pub returns-clause-given : goal.returns-clause-given
-returns-clause-given g c settings start wire recorder end tried = tried
+returns-clause-given g c settings start wire last recorder end tried = tried
 
 pub returns-clause-asking : goal.returns-clause-asking
 returns-clause-asking g c plan from port asked questions e acts unsent turns below aired j none asks part served carried = (
@@ -56,5 +57,8 @@ returns-clause-asking g c plan from port asked questions e acts unsent turns bel
 )
 
 pub returns-clause-reported : goal.returns-clause-reported
-returns-clause-reported g c plan from settings e wire recorder end (played ear left world asked plays) = plays.reports
-returns-clause-reported g c plan from settings e wire recorder end (unbegun ear left world line asked is reports) = reports
+returns-clause-reported g c plan from settings e wire last recorder end (played ear left world asked plays) = plays.reports
+returns-clause-reported g c plan from settings e wire last recorder end (unbegun ear left line asked is reports) = reports
+
+pub returns-clause-asrun : goal.returns-clause-asrun
+returns-clause-asrun g c = reported_rows

@@ -8,25 +8,23 @@ use Rattle.vdcp_run.specs.Session.{HasTried, TriesBy, TriesOver}
 pub returns-in-AtSilences-clause-session : goal.returns-in-AtSilences-clause-session
 returns-in-AtSilences-clause-session g c =
     let start = start_of g.S.Source.items c.args.controller in
-    let world = over c.new-wire.result c.args.self.recorder in
-    let end = c.play_in_turn.result.0 in
-    rw c.in-Ok.is
-    (subst (λ w. TriesOver g.W.Wire.does g.F.Disk.safe c.args.settings start w c.args.self.recorder end) c.new-wire.ensures
+    let world = over c.new-logged.result c.args.self.recorder in
+    let done = c.play_in_turn-end.result in
+    subst (λ w. TriesOver g.W.Wire.does g.F.Disk.safe c.args.settings start w done.2.wire c.args.self.recorder done.0) c.new-logged.ensures
     (tries_by_seen (λ a old new. g.W.Wire.does a old.wire new.wire) g.W.Wire.does (λ w. w.wire) (λ a old new h. h) g.F.Disk.safe c.args.settings.hearing c.args.settings start
-    world end
-    (subst (λ hearing. TriesBy hearing (λ a old new. g.W.Wire.does a old.wire new.wire) g.F.Disk.safe c.args.settings start world end) (sym c.in-AtSilences.is)
-    (subst (λ ear. HasTried (λ a old new. g.W.Wire.does a old.wire new.wire) g.F.Disk.safe ears.at_silences c.args.settings start ear world end) c.new.ensures
-    c.play_in_turn.ensures.session))))
+    world done.2 done.0
+    (subst (λ hearing. TriesBy hearing (λ a old new. g.W.Wire.does a old.wire new.wire) g.F.Disk.safe c.args.settings start world done.2 done.0) (sym c.in-AtSilences.is)
+    (subst (λ ear. HasTried (λ a old new. g.W.Wire.does a old.wire new.wire) g.F.Disk.safe ears.at_silences c.args.settings start ear world done.2 done.0) c.new-ear.ensures
+    c.play_in_turn-end.ensures.session)))
 
 pub returns-in-AtOnce-clause-session : goal.returns-in-AtOnce-clause-session
 returns-in-AtOnce-clause-session g c =
     let start = start_of g.S.Source.items c.args.controller in
-    let world = over c.new-wire.result c.args.self.recorder in
-    let end = c.play_in_turn-in-AtOnce.result.0 in
-    rw c.in-Ok.is
-    (subst (λ w. TriesOver g.W.Wire.does g.F.Disk.safe c.args.settings start w c.args.self.recorder end) c.new-wire.ensures
+    let world = over c.new-logged.result c.args.self.recorder in
+    let done = c.play_in_turn-end-in-AtOnce.result in
+    subst (λ w. TriesOver g.W.Wire.does g.F.Disk.safe c.args.settings start w done.2.wire c.args.self.recorder done.0) c.new-logged.ensures
     (tries_by_seen (λ a old new. g.W.Wire.does a old.wire new.wire) g.W.Wire.does (λ w. w.wire) (λ a old new h. h) g.F.Disk.safe c.args.settings.hearing c.args.settings start
-    world end
-    (subst (λ hearing. TriesBy hearing (λ a old new. g.W.Wire.does a old.wire new.wire) g.F.Disk.safe c.args.settings start world end) (sym c.in-AtOnce.is)
-    (subst (λ ear. HasTried (λ a old new. g.W.Wire.does a old.wire new.wire) g.F.Disk.safe ears.at_once c.args.settings start ear world end) c.new-in-AtOnce.ensures
-    c.play_in_turn-in-AtOnce.ensures.session))))
+    world done.2 done.0
+    (subst (λ hearing. TriesBy hearing (λ a old new. g.W.Wire.does a old.wire new.wire) g.F.Disk.safe c.args.settings start world done.2 done.0) (sym c.in-AtOnce.is)
+    (subst (λ ear. HasTried (λ a old new. g.W.Wire.does a old.wire new.wire) g.F.Disk.safe ears.at_once c.args.settings start ear world done.2 done.0) c.new-ear-in-AtOnce.ensures
+    c.play_in_turn-end-in-AtOnce.ensures.session)))

@@ -1,14 +1,17 @@
-use Rattle.std.specs.Prelude.{None}
-use Rattle.vdcp_run.proofs.Seen.{limits_so, session_so}
+use Rattle.std.proofs.Common.{inl}
+use Rattle.std.proofs.lemmas.Result.{IfErr-weaker, IfOk-weaker}
+use Rattle.vdcp_run.proofs.Seen.{limits_so}
 use Rattle.vdcp_run.proofs.session.Session.play_at.Goals as goal
-use Rattle.vdcp_run.specs.Asking.{start_of}
+use Rattle.vdcp_run.specs.Session.{tried, unconnected}
 
-pub returns : goal.returns
-returns g c = record {
-  session = session_so (λ file. None) c.args.settings (start_of g.S.Source.items c.args.begun.controller)
-      c.args.begun.recorder c.play_over-end.result.0 c.with_limit-wire.result c.with_limit-wire.ensures.open
-      (limits_so _ _ c.with_limit-wire.result c.limit_of.ensures.limit c.limit_of.ensures.short c.with_limit-wire.ensures.limit)
-      c.play_over-end.ensures.session c.play_over-end.ensures.failed;
-  asrun = c.play_over-end.ensures.asrun;
-  refused = tt;
-}
+pub returns-in_default-clause-session : goal.returns-in_default-clause-session
+returns-in_default-clause-session g c =
+    IfOk-weaker c.end_unconnected.result.0 _ _ (λ end e. unconnected e.0 e.1 e.2) c.end_unconnected.ensures.stopped
+
+pub returns-in_default-clause-refused : goal.returns-in_default-clause-refused
+returns-in_default-clause-refused g c = IfErr-weaker c.end_unconnected.result.0 _ _ (λ failure e. inl e) c.end_unconnected.ensures.refused
+
+pub returns-clause-session : goal.returns-clause-session
+returns-clause-session g c = tried c.in-Ok.wire c.play_over-end.result.2 (rw c.in-Ok.is at c.with_limit-wire.ensures.open)
+    (limits_so _ _ c.in-Ok.wire c.limit_of.ensures.limit c.limit_of.ensures.short (rw c.in-Ok.is at c.with_limit-wire.ensures.limit))
+    c.play_over-end.ensures.session
