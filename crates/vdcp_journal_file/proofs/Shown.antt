@@ -7,7 +7,8 @@ use Rattle.vdcp_auto.specs.Plan.{Plan, View, plan_of}
 use Rattle.vdcp_auto.specs.State.{State}
 use Rattle.vdcp_auto.specs.declared.phase.Mode.{Mode}
 use Rattle.vdcp_journal.specs.Airings.{AreAirings, may_have_played, settled_in}
-use Rattle.vdcp_auto.specs.Turn.{awaited, start}
+use Rattle.vdcp_auto.specs.Turn.{awaited, outcome_of, start}
+use Rattle.vdcp_auto.specs.declared.outcome.Outcome.{Outcome}
 use Rattle.vdcp_journal.specs.RunsSoFar.{RunView}
 use Rattle.vdcp_journal.specs.Journals.{IsJournal, Journal}
 use Rattle.vdcp_journal.specs.Resume.{AllStand, AreTold, after_rows, log_of, timed_out}
@@ -18,7 +19,7 @@ use Rattle.vdcp_journal.specs.Runs.{Run, runs_of}
 use Rattle.vdcp_journal.specs.declared.airings.Airing.{Airing}
 use Rattle.vdcp_journal.specs.declared.row.Heading.{Heading}
 use Rattle.vdcp_journal_file.specs.Resuming.{IsMadeOrRefused, IsResumed, IsRunOn, plan_begun, plan_of_run}
-use Rattle.vdcp_journal_file.specs.Showing.{AreShown, ShowsJournal, ShowRuns, ShowsRun, heading_text, next_begin, open_text, reported_text, undecided}
+use Rattle.vdcp_journal_file.specs.Showing.{AreShown, ShowsJournal, ShowRuns, ShowsRun, heading_text, next_begin, open_text, reported_text, run_text, skipped_text, undecided, why_skipped}
 use Rattle.vdcp_journal_file.specs.declared.asrun.AsrunSettings.{AsrunSettings}
 use Rattle.vdcp_journal_file.specs.declared.asrun.Shown.{Shown}
 use Rattle.vdcp_list.specs.Rests.{FromEvent, items_left}
@@ -87,13 +88,20 @@ one_each items heading run plan state reported airings event resumed are count =
     are.one_each ∙ ap (λ (m : Mode). settled_in m run.rows) (ap (λ (p : Plan). p.mode) resumed.plan_is)
     ∙ sym resumed.lawful.is_settled ∙ sym count
 
+-- the rows that are written of a run
+abbrev written : AsrunSettings → List Item → Option ℕ → (from reported : ℕ) → List Airing → Option ℕ → Option Outcome → List ℕ
+written settings items next from reported airings event ended =
+    reported_text settings items from reported airings
+    ++ skipped_text settings items next (from + reported) (why_skipped event ended)
+
 pub run_shows_so : (settings : AsrunSettings) (items : List Item) (heading : Heading) (run : Run) (plan : Plan) (state : State)
-    (reported : ℕ) (airings : List Airing) (event : Option ℕ)
+    (reported : ℕ) (airings : List Airing) (event : Option ℕ) (ended : Option Outcome)
     → IsResumed (plan_of_run heading items run) run.rows plan state → AreAirings plan.mode run.rows airings event
-    → reported ≡ state.settled → run.from ≤ length items → AllStand (plan_begun heading items run) run.rows
-    → (next : Option ℕ) → ShowsRun settings items heading next run (reported_text settings items run.from reported airings)
+    → reported ≡ state.settled → ended ≡ outcome_of state.stage → run.from ≤ length items
+    → AllStand (plan_begun heading items run) run.rows → (next : Option ℕ)
+    → ShowsRun settings items heading next run (written settings items next run.from reported airings event ended)
     (open_text (run.begin + 1) (undecided next run.from event))
-run_shows_so settings items heading run plan state reported airings event resumed are count listed stand next = record {
+run_shows_so settings items heading run plan state reported airings event ended resumed are count end_is listed stand next = record {
   within = listed;
   stand = stand;
   are_told = resumed.told;
@@ -102,27 +110,30 @@ run_shows_so settings items heading run plan state reported airings event resume
   airings = airings;
   may_have_aired = event;
   are_airings = subst (λ (m : Mode). AreAirings m run.rows airings event) (ap (λ (p : Plan). p.mode) resumed.plan_is) are;
-  text_is = ap (λ (n : ℕ). reported_text settings items run.from n airings)
-      (count ∙ ap (λ (s : State). s.settled) resumed.state_is);
+  text_is = ap (λ (n : ℕ). written settings items next run.from n airings event ended) count
+      ∙ ap (λ (o : Option Outcome). written settings items next run.from state.settled airings event o) end_is
+      ∙ ap (λ (s : State). run_text settings items next run.from s airings event) resumed.state_is;
   told_is = refl;
 }
 
 -- what is shown of a run that goes on
 pub record ShownOf (settings : AsrunSettings) (list : List Item) (heading : Heading) (run : Run) (from reported : ℕ)
-    (airings : List Airing) (event : Option ℕ) : Type 0 where
+    (airings : List Airing) (event : Option ℕ) (ended : Option Outcome) : Type 0 where
   pub one_each : length airings ≡ reported
   pub listed : from + reported ≤ length list
   pub counts : IfSome event (λ k. from + k < 2 ^ 64)
-  pub shows : (next : Option ℕ) → ShowsRun settings list heading next run (reported_text settings list from reported airings)
+  pub shows : (next : Option ℕ)
+      → ShowsRun settings list heading next run (written settings list next from reported airings event ended)
       (open_text (run.begin + 1) (undecided next from event))
 
 pub shown_of : {S : Type 0} (settings : AsrunSettings) (items : S → List Item) (heading : Heading) (list : List Item) (run : Run)
     (controller : View (FromEvent S)) (asked : Option Command) (from reported : ℕ) (airings : List Airing) (event : Option ℕ)
+    (ended : Option Outcome)
     → IsRunOn items heading list run controller asked event → AreAirings heading.mode run.rows airings event
-    → from ≡ controller.source.from → reported ≡ controller.state.settled
+    → from ≡ controller.source.from → reported ≡ controller.state.settled → ended ≡ outcome_of controller.state.stage
     → reported ≤ length (items_left items controller.source) → length list < 2 ^ 64
-    → ShownOf settings list heading run from reported airings event
-shown_of settings items heading list run controller asked from reported airings event on are from_is count within few =
+    → ShownOf settings list heading run from reported airings event ended
+shown_of settings items heading list run controller asked from reported airings event ended on are from_is count end_is within few =
     let begin : from ≡ run.from = from_is ∙ on.from_is in
     let left : length (items_left items controller.source) ≡ length list - run.from =
     ap (λ (p : Plan). length p.list) on.resumes.plan_is ∙ length-drop run.from list in
@@ -135,10 +146,17 @@ shown_of settings items heading list run controller asked from reported airings 
       listed = omega (arith, begin, left, within, on.within);
       counts = subst (λ (n : ℕ). IfSome event (λ k. n + k < 2 ^ 64)) (sym begin)
           (unsettled_counts_in list heading run _ _ reported airings event on.resumes are_so count within on.within few);
-      shows = λ next. subst (λ (n : ℕ). ShowsRun settings list heading next run (reported_text settings list n reported airings)
-          (open_text (run.begin + 1) (undecided next n event))) (sym begin)
-          (run_shows_so settings list heading run _ _ reported airings event on.resumes are_so count on.within on.stand next);
+      shows = λ next. subst (λ (n : ℕ). ShowsRun settings list heading next run
+          (written settings list next n reported airings event ended) (open_text (run.begin + 1) (undecided next n event))) (sym begin)
+          (run_shows_so settings list heading run _ _ reported airings event ended on.resumes are_so count end_is on.within
+          on.stand next);
     }
+
+-- a text that gained two
+pub text_twice : (text first second text' text'' : List ℕ) → text' ≡ text ++ first → text'' ≡ text' ++ second
+    → text'' ≡ text ++ (first ++ second)
+text_twice text first second text' text'' one other =
+    other ∙ ap (λ (l : List ℕ). l ++ second) one ∙ append_assoc text first second
 
 -- a run more, of a list with a heading
 pub shown_more : (settings : AsrunSettings) (list : List Item) (heading : Heading) (next : Option ℕ) (runs : List Run) (run : Run)
@@ -158,7 +176,7 @@ shown_more settings list heading next runs run text told more more_told text' to
 pub shown_by_rows : {S : Type 0} (settings : AsrunSettings) (items : S → List Item) (heading : Heading) (list : List Item)
     (run : Run) (result : Result (RunView (FromEvent S)) Refusal) (made : RunView (FromEvent S))
     (controller : View (FromEvent S)) (asked : Option Command) (source : FromEvent S)
-    (from reported : ℕ) (airings : List Airing) (event : Option ℕ)
+    (from reported : ℕ) (airings : List Airing) (event : Option ℕ) (ended : Option Outcome)
     → ((plan : Plan) (rows : List Row) → 1 ≤ plan.limit → plan.limit ≤ 1000 → AreTold plan start rows
     → IsLawful plan (timed_out plan (after_rows plan start rows)) (log_of rows))
     → result ≡ Ok made → IsMadeOrRefused items heading list run result
@@ -167,14 +185,15 @@ pub shown_by_rows : {S : Type 0} (settings : AsrunSettings) (items : S → List 
     → asked ≡ awaited (plan_of (items_left items) made.controller) made.controller.state
     → AreAirings heading.mode run.rows airings event
     → source ≡ controller.source → from ≡ source.from → reported ≡ controller.state.settled
+    → ended ≡ outcome_of controller.state.stage
     → reported ≤ length (items_left items controller.source) → length list < 2 ^ 64
-    → ShownOf settings list heading run from reported airings event
-shown_by_rows {S} settings items heading list run result made controller asked source from reported airings event law is is_made
-    controller_is asked_is are source_is from_is count within few =
-    shown_of settings items heading list run controller asked from reported airings event
+    → ShownOf settings list heading run from reported airings event ended
+shown_by_rows {S} settings items heading list run result made controller asked source from reported airings event ended law is
+    is_made controller_is asked_is are source_is from_is count end_is within few =
+    shown_of settings items heading list run controller asked from reported airings event ended
     (runs_on items heading list run made controller asked event law
     (subst (IsMadeOrRefused items heading list run) is is_made) controller_is asked_is are.besides)
-    are (from_is ∙ ap (λ (s : FromEvent S). s.from) source_is) count within few
+    are (from_is ∙ ap (λ (s : FromEvent S). s.from) source_is) count end_is within few
 
 -- before the first run nothing stands but what is above the rows
 pub first_shown : {E : Type 0} (settings : AsrunSettings) (list : List Item) (heading : Heading) (next : Option ℕ)

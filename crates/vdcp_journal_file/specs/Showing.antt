@@ -2,9 +2,12 @@
 use Rattle.csv.specs.Writing.{default_writer, row_text}
 use Rattle.sha2.specs.Sha256.{sha256}
 use Rattle.std.specs.Io.KnownBytes.{Appends, Keeps}
-use Rattle.std.specs.Prelude.{ℕ, ◌≡◌, ◌≤◌, ◌+◌, ◌∷◌, ◌++◌, List, [], Option, None, Some, IfSome, false, codes, decimal, drop, if◌then◌else◌, length, nat_le, option_map, take}
+use Rattle.std.specs.Prelude.{ℕ, zero, suc, ◌≡◌, ◌≤◌, ◌+◌, ◌-◌, ◌∷◌, ◌++◌, List, [], Option, None, Some, IfSome, false, codes, decimal, drop, if◌then◌else◌, length, min, nat_le, option_map, replicate, take}
 use Rattle.vdcp_auto.specs.Law.{IsLawful}
-use Rattle.vdcp_auto.specs.Turn.{start}
+use Rattle.vdcp_auto.specs.State.{State}
+use Rattle.vdcp_auto.specs.Turn.{outcome_of, start}
+use Rattle.vdcp_auto.specs.declared.outcome.Outcome.{Outcome}
+use Rattle.vdcp_auto.specs.declared.outcome.Outcome.TheVariants as outcome
 use Rattle.vdcp_files.specs.Files.{File, bytes_of}
 use Rattle.vdcp_journal.specs.Airings.{AreAirings}
 use Rattle.vdcp_journal.specs.Journals.{IsJournal, Journal}
@@ -21,6 +24,8 @@ use Rattle.vdcp_list.specs.Timed.{timed_heading, timed_rows, times_of}
 use Rattle.vdcp_journal_file.specs.Resuming.{plan_begun, plan_of_run, state_after}
 use Rattle.vdcp_journal_file.specs.Torn.{closed}
 use Rattle.vdcp_journal_file.specs.declared.asrun.AsrunSettings.{AsrunSettings}
+use Rattle.vdcp_journal_file.specs.declared.skipped.Skipped.{Skipped}
+use Rattle.vdcp_journal_file.specs.declared.skipped.Skipped.TheVariants.{ByHand, Missing, Refused, Unsure}
 use Rattle.vdcp_text.specs.Failure.{failure_line, status_of}
 use Rattle.vdcp_text.specs.Text.{line}
 use Rattle.vdcp_text.specs.declared.failure.Failure.{Failure}
@@ -38,6 +43,41 @@ reported_text settings items from reported airings =
     then timed_rows (times_of (λ airing. clocked_text airing.played) (λ airing. clocked_text airing.known)
     (λ airing. ended_text airing.ended) (λ airing. end_text airing.ended)) settings.rate (has_part items) from (drop from items) airings
     else events_text settings.rate (has_part items) from (take reported (drop from items))
+
+-- what the row of an event that was left out ends with
+abbrev pub skipped_end : Skipped → List ℕ
+skipped_end Missing = codes "skipped: missing"
+skipped_end Refused = codes "skipped: refused"
+skipped_end Unsure = codes "skipped: unsure"
+skipped_end ByHand = codes "skipped: by hand"
+
+-- why the first event that a run doesn't report was left out: it may have aired, or else the run ended so, or else by hand
+abbrev pub why_skipped : (may_have_aired : Option ℕ) → Option Outcome → Skipped
+why_skipped (Some event) ended = Unsure
+why_skipped None (Some (outcome.Missing event)) = Missing
+why_skipped None (Some (outcome.Refused event)) = Refused
+why_skipped None ended = ByHand
+
+-- why each of so many events was left out: the first one for this reason, the others by hand
+abbrev pub reasons : ℕ → Skipped → List Skipped
+reasons zero first = []
+reasons (suc n) first = first ∷ replicate n ByHand
+
+-- with times, the rows of the events that were left out: from the first one that a run doesn't report up to the one with
+-- which the next run begins, or the list's end; after the last run there are none
+abbrev pub skipped_text : AsrunSettings → List Item → (next : Option ℕ) → (first : ℕ) → Skipped → List ℕ
+skipped_text settings items None first why = []
+skipped_text settings items (Some next) first why =
+    if settings.times
+    then timed_rows (times_of (λ skipped. []) (λ skipped. []) (λ skipped. []) skipped_end) settings.rate (has_part items) first
+    (drop first items) (reasons (min next (length items) - first) why) else []
+
+-- the rows of a run that begins with this event of the list, has come to this state, and has this event that may have aired:
+-- of what it reports, and then of what was left out
+abbrev pub run_text : AsrunSettings → List Item → (next : Option ℕ) → (from : ℕ) → State → List Airing → Option ℕ → List ℕ
+run_text settings items next from state airings may_have_aired =
+    reported_text settings items from state.settled airings
+    ++ skipped_text settings items next (from + state.settled) (why_skipped may_have_aired (outcome_of state.stage))
 
 -- what stands above them
 abbrev pub heading_text : AsrunSettings → List Item → List ℕ
@@ -57,8 +97,8 @@ undecided None from (Some k) = Some (from + k)
 undecided (Some event) from (Some k) = if nat_le (from + k) event then None else Some (from + k)
 
 -- a run of a journal of these items shows this text, and this is told of it: its rows are those of a controller of the
--- items from its first event on, and the text is the rows of what that one reports; its count is what the log of the
--- rows shows. The event that may have aired besides is told, unless the next run, if there is one, begins with it or behind it
+-- items from its first event on, and the text is the rows of what that one reports, its count being what the log of the
+-- rows shows, and of what was left out before the next run. The event that may have aired besides is told, unless the next run, if there is one, begins with it or behind it
 pub record ShowsRun (settings : AsrunSettings) (items : List Item) (heading : Heading) (next : Option ℕ) (run : Run)
     (text told : List ℕ) : Type 0 where
   pub within : run.from ≤ length items
@@ -69,8 +109,8 @@ pub record ShowsRun (settings : AsrunSettings) (items : List Item) (heading : He
   pub airings : List Airing
   pub may_have_aired : Option ℕ
   pub are_airings : AreAirings heading.mode run.rows airings may_have_aired
-  pub text_is : text ≡ reported_text settings items run.from
-      (state_after (plan_of_run heading items run) run.rows).settled airings
+  pub text_is : text ≡ run_text settings items next run.from
+      (state_after (plan_of_run heading items run) run.rows) airings may_have_aired
   pub told_is : told ≡ open_text (run.begin + 1) (undecided next run.from may_have_aired)
 
 -- the event with which the first of these runs begins, or else the one after them, if there is one

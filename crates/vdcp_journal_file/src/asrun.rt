@@ -7,7 +7,7 @@ ghost use Rattle.vdcp_journal.specs.Reading.{whole_lines};
 ghost use Rattle.vdcp_journal.specs.Runs.{Run};
 ghost use Rattle.vdcp_journal.specs.declared.row.Heading.{Heading};
 ghost use Rattle.vdcp_journal_file.specs.Resuming.{IsMadeOrRefused};
-ghost use Rattle.vdcp_journal_file.specs.Showing.{AreShown, IsAsrunOf, IsShown, IsShownAndTold, IsToldOnly, ShowsJournal, digest_of, heading_text, open_text, reported_text, undecided};
+ghost use Rattle.vdcp_journal_file.specs.Showing.{AreShown, IsAsrunOf, IsShown, IsShownAndTold, IsToldOnly, ShowsJournal, digest_of, heading_text, open_text, reported_text, skipped_text, undecided};
 ghost use Rattle.vdcp_journal_file.specs.Torn.{closed};
 ghost use Rattle.vdcp_journal_file.specs.declared.reading.Refusal.TheVariants as refusals;
 ghost use Rattle.vdcp_text.specs.Failure.{status_of};
@@ -16,6 +16,7 @@ ghost use Rattle.vdcp_text.specs.declared.failure.JournalFault.TheVariants as fa
 
 use crate::named::events_in;
 use crate::reading::{Refusal, begun, followed, read_refusal, refusal_of};
+use crate::skipped::{Skipped, reasons, why_skipped};
 use crate::torn::Closing;
 use std::alloc::Global;
 use std::fs::File;
@@ -35,12 +36,13 @@ use vdcp_value::Rate;
 #[derive(Clone, Copy, Debug)]
 pub struct AsrunSettings {
     pub rate: Rate,
-    /// Whether the list says of each event when it aired.
+    /// Whether the list says of each event when it aired, and of each that was left out why.
     pub times: bool,
 }
 
-/// Prints the as-run list that a journal of this list shows, run by run, with the times of each event if they are wanted. A
-/// torn last row counts only if it lacks just its line feed and may have put a clip to air. The list is read first.
+/// Prints the as-run list that a journal of this list shows, run by run. If times are wanted, each event has its times, and
+/// one that was left out between two runs has a row, too. A torn last row counts only if it lacks just its line feed and may
+/// have put a clip to air. The list is read first.
 ///
 /// The status is 0 if it is printed, 1 if a row is refused or the list isn't the journal's, and 3 if a file can't be read,
 /// memory was refused or a writer failed. `err` gets one line of each failure but a writer's; with status 0 it gets one of
@@ -297,6 +299,7 @@ fn with_run<'s, S: Source>(
     let Resumed { controller, .. } = run.resume();
     let from = controller.source().from();
     let reported = controller.settled();
+    let why = why_skipped(unsettled, controller.outcome());
     add_reported(
         alloc,
         events,
@@ -306,6 +309,8 @@ fn with_run<'s, S: Source>(
         settings,
         &mut text,
     )?;
+    let first = from + reported;
+    add_skipped(alloc, events, next, first, why, settings, &mut text)?;
     add_event(begin, undecided(next, from, unsettled), &mut told)?;
     Ok(Shown { text, told })
 }
@@ -363,6 +368,37 @@ fn add_reported<S: Source>(
     };
     // (the text is written to memory, and each part of a list was read at this rate)
     match added {
+        Ok(()) => Ok(()),
+        Err(_) => Err(Refusal::Memory),
+    }
+}
+
+// `first` is the first event that a run doesn't report. (`next` is as in `with_run`, and may be any number: if it is past the
+// list's end, that run is refused.)
+fn add_skipped<S: Source>(
+    alloc: Global,
+    events: &S,
+    next: Option<usize>,
+    first: usize,
+    why: Skipped,
+    settings: AsrunSettings,
+    text: &mut Vec<u8>,
+) -> Result<(), Refusal>
+    requires { first ≤ length (S.items events.now) }
+    ensures text { OnOk result (text.new.items ≡ text.old.items
+        ++ skipped_text settings (S.items events.now) next first why) }
+    ensures memory { IfErr result (λ f. f ≡ refusals.Memory) }
+{
+    let AsrunSettings { rate, times, .. } = settings;
+    let Some(next) = next else {
+        return Ok(());
+    };
+    if !times {
+        return Ok(());
+    }
+    let count = next.min(events.len()).saturating_sub(first);
+    let reasons = reasons(alloc, count, why)?;
+    match write_timed_events(alloc, events, rate, first, reasons.as_slice(), text) {
         Ok(()) => Ok(()),
         Err(_) => Err(Refusal::Memory),
     }
