@@ -11,7 +11,7 @@ mod told;
 
 use clap::ArgMatches;
 use clap::error::ErrorKind;
-use run::run_run;
+use run::{own_journal, run_run};
 use std::fs::File;
 use std::io::{BufWriter, IsTerminal, Write};
 use std::process::ExitCode;
@@ -75,12 +75,26 @@ fn run_subcommand<'a, W: Write>(
     let system = System::new(rt);
     let mut err = Told::new(rt.stderr());
     let status = if name == "run" {
-        status_of(run_run(&system, &*matches, out, &mut err), &mut err)
+        run_list(&system, matches, out, &mut err)
     } else {
         status_of(run_named(&system, name, matches, out, &mut err), &mut err)
     };
     explain(&system, reads_journal(name, matches), &mut err);
     status
+}
+
+fn run_list<W: Write, E: Write>(
+    system: &System<'_>,
+    matches: &ArgMatches<'_>,
+    out: &mut W,
+    err: &mut E,
+) -> u8 {
+    let own = match own_journal(system, matches) {
+        Ok(own) => own,
+        Err(failure) => return failure.report(err),
+    };
+    let name = own.as_ref().map(|name| name.as_str());
+    status_of(run_run(system, matches, name, out, err), err)
 }
 
 fn status_of<E: Write>(done: Result<u8, Failure<'_>>, err: &mut E) -> u8 {

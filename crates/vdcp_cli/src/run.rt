@@ -1,13 +1,18 @@
 //! The subcommand `run`, from the words of the command line to the call of its library.
-ghost use Rattle.std.specs.Prelude.{◌≤◌};
+ghost use Rattle.std.specs.Prelude.{◌≡◌, ◌≤◌};
 
 use crate::start::tell_start;
 use clap::ArgMatches;
 use std::alloc::{AllocError, Global};
 use std::io::{IsTerminal, Stderr, Stdin, Write};
+use std::path::Path;
+use std::rt::Clock;
 use std::time::Duration;
+use std::{env, fs};
 use vdcp_drive::Hearing;
-use vdcp_line::number::{from_of, limit_of, listens_of, poll_of, port_of, run_silence_of, unit_of};
+use vdcp_line::number::{
+    from_of, limit_of, listens_of, patience_of, poll_of, port_of, run_silence_of, unit_of,
+};
 use vdcp_line::rate::rate_of;
 use vdcp_line::{Output, Resumable, System, capture_of, open_file};
 use vdcp_list::Table;
@@ -15,20 +20,21 @@ use vdcp_log::{Screen, Telling};
 use vdcp_operator::{Hand, Keys, RunNames, RunPage, is_channel_name, start_of};
 use vdcp_options::mode_of;
 use vdcp_panel::open_panel;
-use vdcp_run::{RunJournal, RunSettings, Showing, do_run};
-use vdcp_text::Failure;
+use vdcp_run::{RunJournal, RunSettings, Showing, Staying, Unsure, do_run};
+use vdcp_text::{Failure, NameText};
 use vdcp_value::Rate;
 
-/// Gives the exit status; a failure isn't told yet.
+/// Gives the exit status; a failure isn't told yet. `own` is the name that `own_journal` gives.
 pub fn run_run<'a, W: Write, E: Write>(
     system: &'a System<'_>,
     matches: &'a ArgMatches<'_>,
+    own: Option<&'a str>,
     out: &mut W,
     err: &mut E,
 ) -> Result<u8, Failure<'a>> {
     let list = open_file(system, matches, "LIST")?;
     let address = matches.get_str("ADDR").unwrap_or("");
-    let settings = run_settings_of(matches);
+    let settings = with_journal(run_settings_of(matches), own);
     let clips = clips_of(system, matches, settings.rate)?;
     let hand = match hand_of(system, matches, settings, clips, err) {
         Ok(hand) => hand,
@@ -71,7 +77,37 @@ pub fn run_run<'a, W: Write, E: Write>(
     if let (Some(advice), true) = (advice, is_terminal) {
         let _ = writeln!(err, "  {advice}");
     }
+    if let Some(name) = own {
+        end_journal(system, name, status, err);
+    }
     Ok(status)
+}
+
+/// A run that stays goes on from a journal: without one of a name it has one in the folder for temporary files.
+pub fn own_journal(
+    system: &System<'_>,
+    matches: &ArgMatches<'_>,
+) -> Result<Option<String>, Failure<'static>> {
+    let has_name = matches.get_str("journal").is_some() || matches.get_str("resume").is_some();
+    if matches.get_str("stay").is_none() || has_name {
+        return Ok(None);
+    }
+    let Ok(mut path) = env::temp_dir(system.rt) else {
+        return Err(Failure::Memory);
+    };
+    let since = system.since_1970().unwrap_or(Duration::ZERO).as_nanos();
+    let name = format!(in system.alloc(); "vdcp-{since}.journal")?;
+    path.push(name.as_str())?;
+    Ok(Some(path.into_string()))
+}
+
+// It stays only if the run may have to be gone on with.
+fn end_journal<E: Write>(system: &System<'_>, name: &str, status: u8, err: &mut E) {
+    if status == 0 {
+        let _ = fs::remove_file(system, name);
+    } else if Path::new(name).exists(system) {
+        let _ = writeln!(err, "  the run's journal is {}", NameText(name));
+    }
 }
 
 fn clips_of<'a>(
@@ -117,7 +153,8 @@ fn hand_of<'a, E: Write>(
         None
     };
     let told = Screen::new(system, system.rt.stderr());
-    Ok(Hand::new(system, keys, told, page, start, least_poll_of(matches)))
+    let (poll, stays) = (least_poll_of(matches), settings.stay.is_some());
+    Ok(Hand::new(system, keys, told, page, start, poll, stays))
 }
 
 fn test_name<E: Write>(matches: &ArgMatches<'_>, err: &mut E) -> Result<(), u8> {
@@ -162,6 +199,19 @@ fn start_time<E: Write>(system: &System<'_>, text: &str, err: &mut E) -> Result<
     }
 }
 
+fn with_journal<'a>(settings: RunSettings<'a>, own: Option<&'a str>) -> RunSettings<'a>
+    ensures unit { result.unit ≡ settings.entry.unit }
+    ensures limit { result.limit ≡ settings.entry.limit }
+{
+    match own {
+        Some(name) => RunSettings {
+            journal: Some(RunJournal::New(name)),
+            ..settings
+        },
+        None => settings,
+    }
+}
+
 fn journal_of<'a>(matches: &'a ArgMatches<'_>) -> Option<RunJournal<'a>> {
     match (matches.get_str("resume"), matches.get_str("journal")) {
         (Some(name), _) if opens_again(matches) => Some(RunJournal::Again(name)),
@@ -169,6 +219,19 @@ fn journal_of<'a>(matches: &'a ArgMatches<'_>) -> Option<RunJournal<'a>> {
         (None, Some(name)) => Some(RunJournal::New(name)),
         (None, None) => None,
     }
+}
+
+fn staying_of(matches: &ArgMatches) -> Option<Staying> {
+    matches.get_str("stay")?;
+    Some(Staying {
+        skip: matches.get_flag("skip"),
+        unsure: match matches.get_str("unsure") {
+            Some("again") => Unsure::Again,
+            Some(_) => Unsure::Stop,
+            None => Unsure::LeaveOut,
+        },
+        patience: patience_of(matches),
+    })
 }
 
 // A run that begins with a named event opens the port again.
@@ -196,8 +259,7 @@ fn run_settings_of<'a>(matches: &'a ArgMatches<'_>) -> RunSettings<'a>
         from: from_of(matches),
         asrun: matches.get_str("asrun"),
         journal: journal_of(matches),
-        stay: matches.get_flag("stay"),
-        skip: matches.get_flag("skip"),
+        stay: staying_of(matches),
     }
 }
 

@@ -2,7 +2,7 @@
 use crate::number::{
     COPY, CUE_FRAMES, CUT, DAMAGE, FORGE, FROM, IDLE, LIMIT, LISTENS, LOSE, LOSSY_SILENCE,
     NumberOption, PORT, RUN_LIMIT, RUN_SILENCE, SEED, SERVE_SILENCE, TURNS, UNIT, WITHIN,
-    number_option, poll_option,
+    number_option, poll_option, stay_option,
 };
 use crate::rate::rate_option;
 use clap::{Arg, ArgAction, Command};
@@ -63,11 +63,11 @@ enum Argument {
     Rate,
     Poll,
     Only,
-    Journal,
     Resume,
     OpenAgain,
     Stay,
     Skip,
+    Unsure,
 }
 
 const LIST: Argument = Argument::Required("LIST", "The playlist's file");
@@ -208,15 +208,20 @@ static RUN: Subcommand = Subcommand {
             "FILE",
             "Makes this file at the end, with the as-run list; an older one of other bytes stays as FILE.~N~",
         ),
-        Argument::Journal,
+        Argument::Value(
+            "journal",
+            "FILE",
+            "Makes this file, and keeps each command there before it is sent",
+        ),
         Argument::Resume,
         Argument::OpenAgain,
         Argument::Number(&FROM),
         Argument::Stay,
         Argument::Skip,
+        Argument::Unsure,
         Argument::Flag(
             "operator",
-            "Reads calls from standard input, a line each: take, stop",
+            "Reads calls from standard input, a line each: take, stop, and with --stay skip EVENT, jump EVENT",
         ),
         Argument::Value(
             "at",
@@ -407,11 +412,11 @@ fn argument_of<'a>(alloc: Global, argument: &Argument) -> Result<Arg<'a>, AllocE
         Argument::Rate => Ok(rate_option(alloc)),
         Argument::Poll => poll_option(alloc),
         Argument::Only => Ok(only(alloc)),
-        Argument::Journal => journal(alloc),
         Argument::Resume => resume(alloc),
         Argument::OpenAgain => open_again(alloc),
-        Argument::Stay => stay(alloc),
+        Argument::Stay => Ok(stay_option(alloc)),
         Argument::Skip => skip(alloc),
+        Argument::Unsure => unsure(alloc),
     }
 }
 
@@ -437,19 +442,6 @@ fn only<'a>(alloc: Global) -> Arg<'a> {
         .help("Puts only the rows that can falsify no as-run list, or only the others")
 }
 
-// The group of the options that name a journal.
-const KEPT: &str = "kept";
-
-fn journal<'a>(alloc: Global) -> Result<Arg<'a>, AllocError> {
-    option(
-        alloc,
-        "journal",
-        "FILE",
-        "Makes this file, and keeps each command there before it is sent",
-    )
-    .group(KEPT)
-}
-
 fn resume<'a>(alloc: Global) -> Result<Arg<'a>, AllocError> {
     option(
         alloc,
@@ -457,17 +449,7 @@ fn resume<'a>(alloc: Global) -> Result<Arg<'a>, AllocError> {
         "FILE",
         "Goes on with a run that was killed or lost, from its journal",
     )
-    .group(KEPT)?
     .conflicts_with("journal")
-}
-
-fn stay<'a>(alloc: Global) -> Result<Arg<'a>, AllocError> {
-    flag(
-        alloc,
-        "stay",
-        "With a journal, doesn't end because the line does: connects again, and goes on from there",
-    )
-    .requires_arg(KEPT)
 }
 
 fn skip<'a>(alloc: Global) -> Result<Arg<'a>, AllocError> {
@@ -478,6 +460,17 @@ fn skip<'a>(alloc: Global) -> Result<Arg<'a>, AllocError> {
     )
     .requires_arg("stay")?
     .conflicts_with("confirm")
+}
+
+fn unsure<'a>(alloc: Global) -> Result<Arg<'a>, AllocError> {
+    Arg::new(alloc, "unsure")
+        .long("unsure")
+        .value_name("WORD")
+        .value_parser(["again", "stop"].as_slice())
+        .help(
+            "With --stay, an event that may have aired before the server lost its port isn't left out: again sends it again, so it may air twice; stop ends the run",
+        )
+        .requires_arg("stay")
 }
 
 fn open_again<'a>(alloc: Global) -> Result<Arg<'a>, AllocError> {

@@ -198,6 +198,15 @@ pub const FROM: NumberOption = NumberOption {
     help: "Begins with this event of the list, the first being 0; with --resume, whatever may have aired",
 };
 
+pub const STAY: NumberOption = NumberOption {
+    name: "stay",
+    value_name: "SECONDS",
+    least: 0,
+    most: u32::MAX,
+    default: None,
+    help: "Doesn't end because the line does: connects again, and goes on; with a number it gives up once nothing is heard for so many seconds",
+};
+
 pub fn number_option<'a>(alloc: Global, option: &NumberOption) -> Arg<'a> {
     let range = i64::from(option.least)..=i64::from(option.most);
     let arg = Arg::new(alloc, option.name)
@@ -214,6 +223,22 @@ pub fn number_option<'a>(alloc: Global, option: &NumberOption) -> Arg<'a> {
 /// `--poll` needs `--prompt`.
 pub fn poll_option<'a>(alloc: Global) -> Result<Arg<'a>, AllocError> {
     number_option(alloc, &POLL).requires_arg("prompt")
+}
+
+/// `--stay` may have a number, behind `=`; 0 stands for none.
+pub fn stay_option<'a>(alloc: Global) -> Arg<'a> {
+    number_option(alloc, &STAY)
+        .num_args(0..=1)
+        .require_equals(true)
+        .default_missing_value("0")
+}
+
+/// For how many seconds a run that stays tries while nothing is heard; None: for ever.
+pub fn patience_of(matches: &ArgMatches) -> Option<u32> {
+    match number_of(matches, &STAY) {
+        0 => None,
+        seconds => Some(seconds),
+    }
 }
 
 /// For how many seconds a connection may be idle; None: for ever.

@@ -39,7 +39,7 @@ PageCalls items c (Some page) call (Some page') = (commands : ℕ) × (start : O
 abbrev pub called_by : Option Said → Option Call
 called_by None = None
 called_by (Some (said.Call call)) = Some call
-called_by (Some said.Other) = None
+called_by (Some _) = None
 
 -- of what is typed, if it is read, the next line is this call, if it has come and is one
 abbrev pub TypedCalls : {I : Type 0} → (I → Option (List ℕ)) → Option (Typed I) → Option Call → Option (Typed I) → Type 0

@@ -1,5 +1,6 @@
 -- The definitions, file by file.
 pub mod Typed
+pub mod LeftOut
 pub mod Rows
 pub mod Seen
 pub mod Hands

@@ -1,17 +1,41 @@
 -- What the lines say that are typed.
-use Rattle.std.specs.Prelude.{ℕ, ◌≡◌, ◌||◌, ⊤, Option, None, Some, List, [], ◌∷◌, ◌++◌, bytes_eq, codes, nat_eq, if◌then◌else◌}
+use Rattle.std.specs.Prelude.{ℕ, ◌≡◌, ◌-◌, ◌^◌, ◌&&◌, ⊤, Option, None, Some, List, [], ◌∷◌, ◌++◌, bytes_eq, codes, decimal, drop, length, nat_eq, nat_lt, take, if◌then◌else◌}
+use Rattle.std.specs.Str.Parse.{digits_value}
 use Rattle.vdcp_drive.specs.declared.hooks.Call.TheVariants.{Take, Stop}
 use Rattle.vdcp_operator.specs.declared.typed.Got.{Got}
 use Rattle.vdcp_operator.specs.declared.typed.Got.TheVariants as got
 use Rattle.vdcp_operator.specs.declared.typed.Said.{Said}
 use Rattle.vdcp_operator.specs.declared.typed.Said.TheVariants as said
 
--- a word, which CR may follow
-abbrev pub said_in : List ℕ → Said
-said_in line =
-    if bytes_eq line (codes "take") || bytes_eq line (codes "take\r") then said.Call Take
-    else if bytes_eq line (codes "stop") || bytes_eq line (codes "stop\r") then said.Call Stop
+-- a line without the CR at its end, if it has one
+abbrev pub without_return : List ℕ → List ℕ
+without_return line =
+    let front = length line - 1 in
+    if bytes_eq (drop front line) (codes "\r") then take front line else line
+
+-- the number that these bytes write in decimal digits, if it is a usize
+abbrev pub number_in : List ℕ → Option ℕ
+number_in digits =
+    let number = digits_value 10 digits in
+    if nat_lt number (2 ^ 64) && bytes_eq digits (decimal number) then Some number else None
+
+-- what is said of this event
+abbrev pub said_of : (ℕ → Said) → Option ℕ → Said
+said_of saying None = said.Other
+said_of saying (Some event) = saying event
+
+-- a word, or one with the number of an event
+abbrev pub said_by_words : List ℕ → Said
+said_by_words words =
+    if bytes_eq words (codes "take") then said.Call Take
+    else if bytes_eq words (codes "stop") then said.Call Stop
+    else if bytes_eq (take 5 words) (codes "skip ") then said_of said.Skip (number_in (drop 5 words))
+    else if bytes_eq (take 5 words) (codes "jump ") then said_of said.Jump (number_in (drop 5 words))
     else said.Other
+
+-- the same, and CR may follow
+abbrev pub said_in : List ℕ → Said
+said_in line = said_by_words (without_return line)
 
 -- what these bytes say, line by line, behind a line that has begun so; the end ends the last one
 abbrev pub said_from : List ℕ → List ℕ → List Said

@@ -1,17 +1,20 @@
 //! The operator's part in a run: calls are taken, and commands wait.
 ghost use Rattle.std.specs.Duration.{as_nanos};
 ghost use Rattle.std.specs.Option.{unwrap_or};
-ghost use Rattle.std.specs.Prelude.{◌≡◌, ◌≢◌, ◌↔◌, ◌*◌, ◌+◌, ◌≤◌, min, IsSome, IsTrue, None, Option, Some, is_some, option_map, ℕ};
+ghost use Rattle.std.specs.Prelude.{◌≡◌, ◌≢◌, ◌↔◌, ◌*◌, ◌+◌, ◌≤◌, min, IsSome, IsTrue, [], None, Option, Some, is_some, option_map, ℕ};
 ghost use Rattle.vdcp_auto.specs.Plan.{plan_of};
 ghost use Rattle.vdcp_auto.specs.Turn.{given};
 ghost use Rattle.vdcp_drive.specs.declared.hooks.Call.{Call};
 ghost use Rattle.vdcp_list.specs.Rests.{items_left};
-ghost use Rattle.vdcp_operator.specs.Hands.{Asks, AwaitsLead, HasCome, IsNext, IsOver, PageCalls, TypedCalls, as_call, latest, millis_of, until_for};
+ghost use Rattle.vdcp_operator.specs.Hands.{Asks, AwaitsLead, HasCome, IsNext, IsOver, PageCalls, TypedCalls, as_call, called_by, latest, millis_of, until_for};
+ghost use Rattle.vdcp_operator.specs.LeftOut.{IsNextKept, LeavesOutAhead, Obeys, ahead_of};
 ghost use Rattle.vdcp_operator.specs.Polls.{Paces};
 ghost use Rattle.vdcp_operator.specs.declared.hand.Until.{Until};
 ghost use Rattle.vdcp_operator.specs.declared.shown.RunPage.{RunPage};
 ghost use Rattle.vdcp_words.specs.declared.command.Command.{Command};
 
+use crate::ahead::ahead_of;
+use crate::left_out::{LeftOut, Stretch};
 use crate::polling::Polling;
 use crate::seen::EventBefore;
 use crate::shown::RunPage;
@@ -50,6 +53,7 @@ pub struct Hand<'a, R: Clock, I: Read, E: Write> {
     slept: Stopwatch<&'a R>,
     polling: Polling<'a, R>,
     commands: u64,
+    left_out: LeftOut,
     /// A call that was made before the driver asked for it.
     pub held: Option<Call>,
 }
@@ -67,7 +71,7 @@ enum Until {
 
 impl<'a, R: Clock, I: Read + Drop, E: Write> Hand<'a, R, I, E> {
     /// Calls are read from `typed`, and `told` gets a line for what is no call. The first event goes to air at `start`,
-    /// since 1970. From one STATUS to the next at least `poll` milliseconds pass.
+    /// since 1970. From one STATUS to the next at least `poll` milliseconds pass. Only a run that stays leaves out events.
     pub fn new(
         clock: &'a R,
         typed: Option<I>,
@@ -75,6 +79,7 @@ impl<'a, R: Clock, I: Read + Drop, E: Write> Hand<'a, R, I, E> {
         page: Option<RunPage>,
         start: Option<Duration>,
         poll: u32,
+        stays: bool,
     ) -> Self
         ensures page { result.page ≡ page }
         ensures start { result.start ≡ start }
@@ -82,6 +87,8 @@ impl<'a, R: Clock, I: Read + Drop, E: Write> Hand<'a, R, I, E> {
         ensures held { result.held ≡ None }
         ensures least { result.polling.least ≡ poll * 1000000 }
         ensures due { result.polling.due ≡ 0 }
+        ensures stays { result.left_out.stays ≡ stays }
+        ensures none { result.left_out.stretches.items ≡ [] }
     {
         Hand {
             clock,
@@ -96,6 +103,7 @@ impl<'a, R: Clock, I: Read + Drop, E: Write> Hand<'a, R, I, E> {
             slept: Stopwatch::new(clock),
             polling: Polling::new(clock, poll),
             commands: 0,
+            left_out: LeftOut::new(stays),
             held: None,
         }
     }
@@ -104,6 +112,14 @@ impl<'a, R: Clock, I: Read + Drop, E: Write> Hand<'a, R, I, E> {
         ensures { result ≡ is_some self.now.start }
     {
         self.start.is_some()
+    }
+
+    /// The first event from this one on that isn't left out, by their numbers in the whole list. After `heed` and `call`
+    /// it may be another one than before.
+    pub fn next_kept(&self, event: usize) -> usize
+        ensures { IsNextKept self.now.left_out event result }
+    {
+        self.left_out.next_kept(event)
     }
 
     pub fn set_before(&mut self, before: Vec<EventBefore>)
@@ -139,6 +155,7 @@ impl<'a, R: Clock, I: Read + Drop, E: Write> Hand<'a, R, I, E> {
         ensures asks { self.old.held ≡ None →
             Asks S.items I.remaining controller.now self.old.page self.old.typed self.new.held self.new.page self.new.typed }
         ensures holds { (call : Call) → self.old.held ≡ Some call → self.new ≡ self.old }
+        ensures leaves { LeavesOutAhead (ahead_of S.items controller.now) self.old.left_out self.new.left_out }
     {
         let Some(until) = lead_until(self.start, self.held) else {
             return;
@@ -153,6 +170,7 @@ impl<'a, R: Clock, I: Read + Drop, E: Write> Hand<'a, R, I, E> {
         ensures asks { self.old.held ≢ Some Call.Stop → (said : Option Call)
             × IsNext S.items I.remaining controller.now self.old.page self.old.typed said self.new.page self.new.typed
             × (self.new.held ≡ latest said self.old.held) }
+        ensures leaves { LeavesOutAhead (ahead_of S.items controller.now) self.old.left_out self.new.left_out }
     {
         if let Some(Call::Stop) = self.held {
             return self.held;
@@ -186,6 +204,7 @@ impl<'a, R: Clock, I: Read + Drop, E: Write> Hand<'a, R, I, E> {
             self.old.polling self.new.polling }
         ensures hurries { IsSome result → self.new.polling.due ≡ 0 }
         ensures least { self.new.polling.least ≡ self.old.polling.least }
+        ensures leaves { LeavesOutAhead (ahead_of S.items controller.now) self.old.left_out self.new.left_out }
     {
         if self.is_alone() {
             // (where no STATUS has to wait the command isn't looked up)
@@ -240,6 +259,7 @@ impl<'a, R: Clock, I: Read + Drop, E: Write> Hand<'a, R, I, E> {
         ensures held { self.new.held ≡ self.old.held }
         ensures start { self.new.start ≡ self.old.start }
         ensures paces { Paces None self.old.polling self.new.polling }
+        ensures leaves { LeavesOutAhead (ahead_of S.items controller.now) self.old.left_out self.new.left_out }
         ensures waited { (time : Duration) → until ≡ Until.Time time → result ≡ None → HasCome time self.new.time }
     {
         'asks: for _ in 0..u64::MAX {
@@ -261,10 +281,11 @@ impl<'a, R: Clock, I: Read + Drop, E: Write> Hand<'a, R, I, E> {
         ensures held { self.new.held ≡ self.old.held }
         ensures start { self.new.start ≡ self.old.start }
         ensures polling { self.new.polling ≡ self.old.polling }
+        ensures leaves { LeavesOutAhead (ahead_of S.items controller.now) self.old.left_out self.new.left_out }
     {
         match self.page_call(controller) {
             Some(call) => Some(call_of(call)),
-            None => self.typed_call(),
+            None => self.typed_call(ahead_of(controller)),
         }
     }
 
@@ -280,22 +301,43 @@ impl<'a, R: Clock, I: Read + Drop, E: Write> Hand<'a, R, I, E> {
         page.next_call()
     }
 
-    fn typed_call(&mut self) -> Option<Call>
+    fn typed_call(&mut self, ahead: Stretch) -> Option<Call>
         ensures typed { TypedCalls I.remaining self.old.typed result self.new.typed }
-        ensures rest { self.new ≡ record self.old { typed = self.new.typed; told = self.new.told } }
+        ensures leaves { LeavesOutAhead ahead self.old.left_out self.new.left_out }
+        ensures rest { self.new ≡ record self.old { typed = self.new.typed; told = self.new.told; left_out = self.new.left_out } }
     {
         let Some(typed) = &mut self.typed else {
             return None;
         };
         match typed.next() {
-            Some(Said::Call(call)) => Some(call),
-            Some(Said::Other) => {
-                let _ = self.told.write_all(b"vdcp: no call: take, stop\n");
-                let _ = self.told.flush();
-                None
-            }
+            Some(said) => self.obey(said, ahead),
             None => None,
         }
+    }
+
+    // Gives a call, or leaves out events, and tells so or why not.
+    fn obey(&mut self, said: Said, ahead: Stretch) -> Option<Call>
+        ensures call { result ≡ called_by (Some said) }
+        ensures obeys { Obeys ahead said self.old.left_out self.new.left_out }
+        ensures rest { self.new ≡ record self.old { told = self.new.told; left_out = self.new.left_out } }
+    {
+        let _ = match said {
+            Said::Call(call) => return Some(call),
+            Said::Skip(event) => match self.left_out.skip(event, ahead) {
+                Ok(()) => writeln!(self.told, "vdcp: event {event} is left out"),
+                Err(fault) => writeln!(self.told, "vdcp: {fault}"),
+            },
+            Said::Jump(event) => match self.left_out.jump(event, ahead) {
+                Ok(()) => writeln!(self.told, "vdcp: going on with event {event}"),
+                Err(fault) => writeln!(self.told, "vdcp: {fault}"),
+            },
+            Said::Other => writeln!(
+                self.told,
+                "vdcp: no call: take, stop, skip EVENT, jump EVENT"
+            ),
+        };
+        let _ = self.told.flush();
+        None
     }
 
     fn wait_piece(&mut self, until: Until) -> bool

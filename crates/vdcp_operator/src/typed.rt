@@ -2,7 +2,7 @@
 ghost use Rattle.std.specs.Io.KnownBytes.{Consumes, IsAtEnd, Keeps};
 ghost use Rattle.std.specs.Option.{option_to_list};
 ghost use Rattle.std.specs.Prelude.{◌≡◌, ◌<◌, ◌≤◌, ◌∷◌, ◌++◌, [], IfOk, None, OnErr, length};
-ghost use Rattle.vdcp_operator.specs.Typed.{SaysOn, left, said_by, said_from, said_in};
+ghost use Rattle.vdcp_operator.specs.Typed.{SaysOn, left, number_in, said_by, said_from, said_in, without_return};
 
 use arrayvec::ArrayVec;
 use std::io::{self, Read};
@@ -14,6 +14,10 @@ const MOST_BYTES: usize = 64;
 #[derive(Clone, Copy, Debug, PartialEq, Eq)]
 pub enum Said {
     Call(Call),
+    /// This event of the list, counted from 0, is to be left out.
+    Skip(usize),
+    /// The list is to go on with this event.
+    Jump(usize),
     Other,
 }
 
@@ -25,7 +29,7 @@ enum Got {
     Nothing,
 }
 
-/// Calls that are typed, a line each: `take` and `stop`.
+/// What is typed, a line each: the calls `take` and `stop`, and `skip EVENT` and `jump EVENT`.
 #[derive(Drop)]
 pub struct Typed<I> {
     // None once it has ended.
@@ -124,11 +128,39 @@ fn next_byte<I: Read>(reader: &mut I) -> io::Result<Option<u8>>
 fn said_in(line: &[u8]) -> Said
     ensures { result ≡ said_in line.now }
 {
-    if line == "take".as_bytes() || line == "take\r".as_bytes() {
+    let words = without_return(line);
+    if words == "take".as_bytes() {
         Said::Call(Call::Take)
-    } else if line == "stop".as_bytes() || line == "stop\r".as_bytes() {
+    } else if words == "stop".as_bytes() {
         Said::Call(Call::Stop)
+    } else if let Some(digits) = words.strip_prefix(b"skip ") {
+        number_in(digits).map_or(Said::Other, Said::Skip)
+    } else if let Some(digits) = words.strip_prefix(b"jump ") {
+        number_in(digits).map_or(Said::Other, Said::Jump)
     } else {
         Said::Other
     }
+}
+
+fn without_return(line: &[u8]) -> &[u8]
+    ensures { result.now ≡ without_return line.now }
+{
+    line.strip_suffix(b"\r").unwrap_or(line)
+}
+
+// No sign or needless zero may stand before it.
+fn number_in(digits: &[u8]) -> Option<usize>
+    ensures { result ≡ number_in digits.now }
+{
+    let Ok(text) = str::from_utf8(digits) else {
+        return None;
+    };
+    let Ok(number) = text.parse::<usize>() else {
+        return None;
+    };
+    let mut buffer = itoa::Buffer::new();
+    if buffer.format(number) != text {
+        return None;
+    }
+    Some(number)
 }

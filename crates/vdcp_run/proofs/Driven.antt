@@ -1,23 +1,26 @@
 -- What a driver's run left, with what keeps it, and the end that it comes to.
-use Rattle.std.proofs.Common.{◌≡◌, ◌∙◌, ℕ, List, [], ◌∷◌, ap, subst}
-use Rattle.std.specs.Prelude.{Option, Result, refl}
+use Rattle.std.proofs.Common.{◌≡◌, ◌∙◌, ℕ, List, [], ◌∷◌, ◌++◌, ap, subst, sym}
+use Rattle.std.specs.Prelude.{Option, Result, Err, refl}
 use Rattle.vdcp_auto.specs.Plan.{Plan, View, plan_of}
+use Rattle.vdcp_auto.specs.State.{State}
 use Rattle.vdcp_auto.specs.Turn.{outcome_of}
 use Rattle.vdcp_auto.specs.declared.outcome.Outcome.{Outcome}
 use Rattle.vdcp_wire.specs.Acts.{Act}
-use Rattle.vdcp_drive.specs.Auto.{Auto, Driving, auto_of}
+use Rattle.vdcp_drive.specs.Auto.{Auto, Driving, Event, auto_of}
 use Rattle.vdcp_drive.specs.Ears.{Fold}
-use Rattle.vdcp_drive.specs.Leaves.{HasRun, RunLeaves, steps_in}
-use Rattle.vdcp_drive.specs.Steps.{Does, Happens, Rules, Step, World, acts, asks, keeps, misses}
+use Rattle.vdcp_drive.specs.Leaves.{Ending, HasRun, RunLeaves, by_hooks, by_itself, in_drop, in_keep, in_listen, in_send, steps_in}
+use Rattle.vdcp_drive.specs.Steps.{Does, Happens, Rules, Step, World, acts, asks, keeps, misses, steps_of}
 use Rattle.vdcp_drive.specs.Traces.{kept_in}
 use Rattle.vdcp_drive.specs.declared.hooks.BrokenOff.{BrokenOff}
+use Rattle.vdcp_drive.specs.declared.hooks.BrokenOff.TheVariants as fault
+use Rattle.vdcp_drive.specs.declared.hooks.Next.TheVariants as next
 use Rattle.vdcp_drive.specs.declared.line.Ran.{Ran}
 use Rattle.vdcp_list.specs.Rests.{FromEvent, items_left}
 use Rattle.vdcp_journal_file.specs.Recorded.{recorder_rules}
 use Rattle.vdcp_journal_file.specs.Recording.{Recording}
 use Rattle.vdcp_run.specs.Ends.{Reports, line_end_of}
 use Rattle.vdcp_run.specs.Asking.{Comes, over, start_of}
-use Rattle.vdcp_run.specs.Session.{IsClosed, Keeping, Plays, playing_rules, signs_at_first, signs_by}
+use Rattle.vdcp_run.specs.Session.{IsBeforeEvent, IsClosed, Keeping, Plays, playing_rules, signs_at_first, signs_by}
 use Rattle.vdcp_run.specs.declared.run_end.RunEnd.{RunEnd}
 use Rattle.vdcp_value.specs.declared.part.Item.{Item}
 
@@ -47,7 +50,7 @@ module _ {W F : Type 0} (does : Act → W → W → Type 0) (safe : F → Option
   step_recorded : (s : Step) (old new : World W (Keeping F)) → Does (playing_rules does safe) s old new
       → Does (recorder_rules does safe) s (recorded old) (recorded new)
   step_recorded (acts a) old new h = (h.0, ap recorded h.1)
-  step_recorded (asks s n) old new h = (ap (λ (k : Keeping F). k.recorder) h.0, ap recorded h.1)
+  step_recorded (asks s n) old new h = (ap (λ (k : Keeping F). k.recorder) h.0.0, ap recorded h.1)
   step_recorded (keeps r) old new h = (h.0.0, ap recorded h.1)
   step_recorded (misses r) old new h = (h.0.0, ap recorded h.1)
 
@@ -70,11 +73,37 @@ module _ {W F : Type 0} (does : Act → W → W → Type 0) (safe : F → Option
   signs_so (acts a ∷ later) old new (next, (done, is), rest) = signs_so later next new rest
       ∙ ap (λ (w : World W (Keeping F)). signs_by (kept_in later) w.keep.signs) is
   signs_so (asks s n ∷ later) old new (next, (asked, is), rest) = signs_so later next new rest
-      ∙ ap (λ (k : Keeping F). signs_by (kept_in later) k.signs) asked
+      ∙ ap (λ (k : Keeping F). signs_by (kept_in later) k.signs) asked.0
   signs_so (keeps r ∷ later) old new (next, (kept, is), rest) =
       signs_so later next new rest ∙ ap (signs_by (kept_in later)) kept.1
   signs_so (misses r ∷ later) old new (next, (lost, is), rest) =
       signs_so later next new rest ∙ ap (signs_by (kept_in later)) lost.1
+
+  -- a run that was left was left before an event
+
+  last_leaves : (steps : List Step) (s : State) (old new : World W (Keeping F))
+      → Happens (playing_rules does safe) (steps ++ asks s next.Leave ∷ []) old new → IsBeforeEvent s.stage
+  last_leaves [] s old new (then, one, rest) = one.0.1
+  last_leaves (first ∷ steps) s old new (then, one, rest) = last_leaves steps s then new rest
+
+  left_by : {E : Type 0} (fold : Fold E) (plan : Plan) (unit count : ℕ) (a a' : Auto E) (old new : World W (Keeping F))
+      (answer : Result Ran BrokenOff) (steps more : List Step) (events : List Event) (b : Auto E)
+      → Happens (playing_rules does safe) (steps ++ more) old new → Ending fold plan unit count events b answer more a'
+      → answer ≡ Err fault.Left → IsBeforeEvent a'.state.stage
+  left_by fold plan unit count a a' old new answer steps more events b h (by_itself r is runs none same) left = cc
+  left_by fold plan unit count a a' old new answer steps more events b h (by_hooks is none last same) left =
+      subst (λ (x : Auto _). IsBeforeEvent x.state.stage) (sym same) (last_leaves steps b.state old new
+      (subst (λ (l : List Step). Happens (playing_rules does safe) (steps ++ l) old new) last h))
+  left_by fold plan unit count a a' old new answer steps more events b h (in_keep r is none last same) left = cc
+  left_by fold plan unit count a a' old new answer steps more events b h (in_drop c is drops gives last same) left = cc
+  left_by fold plan unit count a a' old new answer steps more events b h (in_send c front rest is gives parts last same) left = cc
+  left_by fold plan unit count a a' old new answer steps more events b h (in_listen is last same) left = cc
+
+  left_so : {E : Type 0} (fold : Fold E) (plan : Plan) (unit count : ℕ) (a a' : Auto E) (old new : World W (Keeping F))
+      (answer : Result Ran BrokenOff) → HasRun (playing_rules does safe) fold plan unit count a a' old new answer
+      → answer ≡ Err fault.Left → IsBeforeEvent a'.state.stage
+  left_so fold plan unit count a a' old new answer h left = left_by fold plan unit count a a' old new answer
+      (steps_of fold plan unit a h.run.events) h.run.more h.run.events _ h.happened h.run.ending left
 
 -- ---- A new driver has run, and its journal was ended
 
@@ -87,7 +116,8 @@ pub record HasEnded {S E W F : Type 0} (items : S → List Item) (does : Act →
   pub fresh : keep.signs ≡ signs_at_first
   pub signs : end.signs ≡ keep'.signs
   pub works : failures old.wire ≡ 0
-  pub line : end.line ≡ line_end_of answer
+  pub behind : ℕ
+  pub line : end.line ≡ line_end_of answer behind
   pub reports : Reports new.controller.source.from new.controller.state end
   pub closed : IsClosed safe new.controller.state.stage end.line end.unkept keep'.recorder
 
@@ -114,6 +144,9 @@ module _ {S E W F : Type 0} (items : S → List Item) (does : Act → W → W �
     left = over new.wire keep'.recorder;
     runs = has_recorded;
     last_is = refl;
+    left_before = left_so does safe fold (plan_of (items_left items) old.controller) old.unit turns (auto_of old) (auto_of new)
+        (over old.wire keep) (over new.wire keep') answer has_run;
+    behind = h.behind;
     line_is = h.line;
     reports = subst (λ (from : ℕ). Reports from new.controller.state end)
         (ap (λ (c : View (FromEvent S)). c.source.from) h.leaves.controller) h.reports;

@@ -1,8 +1,10 @@
 -- With which event a run that stays begins anew.
-use Rattle.std.proofs.Common.{◌≡◌, ◌⊎◌, ◌∙◌, Bor, List, ℕ, ap, inl, inr, refl, subst, sym}
-use Rattle.std.specs.Prelude.{◌+◌, ◌&&◌, Bool, true, false, if◌then◌else◌, length, nat_lt, None, Option, Result, Ok, Err, Some}
+use Rattle.std.proofs.Common.{◌≡◌, ◌⊎◌, ◌∙◌, Bor, List, ℕ, ap, arith, inl, inr, refl, subst, sym}
+use Rattle.std.specs.Option.{option_map}
+use Rattle.std.specs.Prelude.{◌+◌, ◌-◌, ◌<◌, ◌&&◌, Bool, true, false, if◌then◌else◌, length, nat_le, nat_lt, None, Option, Result, Ok, Err, Some, IfSome}
 use Rattle.vdcp_auto.specs.Plan.{Plan}
 use Rattle.vdcp_auto.specs.State.{State}
+use Rattle.vdcp_auto.specs.declared.outcome.Outcome.{Outcome}
 use Rattle.vdcp_journal.specs.Runs.{Run}
 use Rattle.vdcp_journal.specs.declared.row.Heading.{Heading}
 use Rattle.vdcp_journal_file.specs.Recording.{IsUnbegun, IsUnopened, IsUnwritten as IsRowsUnwritten}
@@ -11,42 +13,71 @@ use Rattle.vdcp_journal_file.specs.Resuming.{IsReplayed, IsUnopenedAgain, IsUnre
 use Rattle.vdcp_journal_file.specs.declared.reading.Refusal.{Refusal}
 use Rattle.vdcp_journal_file.specs.declared.reading.Refusal.TheVariants as refusal
 use Rattle.vdcp_list.specs.Rows.{FileBytes}
-use Rattle.vdcp_run.specs.Run.{BeginsBehind, CameTo, IsJournalRefused, IsPlaceRefused, IsUnkept, IsUntried, beginning_anew, going_on, has_lost_port, heading_for, is_by_line, is_unplayable, later_after, later_by, leaving_out, may_try, not_kept, occupied, skipping, told_outcome, turns_left, unconnected, unsure_event}
+use Rattle.vdcp_run.specs.Run.{BeginsBehind, CameTo, IsJournalRefused, IsPlaceRefused, IsUnkept, IsUntried, SendsAgain, beginning_anew, behind_left_out, behind_with, first_once, going_on, has_lost_port, heading_for, is_by_line, is_unplayable, later_after, later_by, leaving_out, may_try, not_kept, occupied, once_unsure_by, told_outcome, turns_left, unconnected, unsure_event}
+use Rattle.vdcp_run.specs.declared.run_end.LineEnd.{LineEnd}
+use Rattle.vdcp_run.specs.declared.run_end.LineEnd.TheVariants as line_end
 use Rattle.vdcp_run.specs.declared.run_end.RunEnd.{RunEnd}
+use Rattle.vdcp_run.specs.declared.run_end.Signs.{Signs}
 use Rattle.vdcp_run.specs.declared.settings.RunJournal.{RunJournal}
 use Rattle.vdcp_run.specs.declared.settings.RunJournal.TheVariants as journals
 use Rattle.vdcp_run.specs.declared.settings.RunSettings.{RunSettings}
+use Rattle.vdcp_run.specs.declared.settings.Staying.{Staying}
+use Rattle.vdcp_run.specs.declared.settings.Unsure.{Unsure}
+use Rattle.vdcp_run.specs.declared.settings.Unsure.TheVariants as unsure
 use Rattle.vdcp_text.specs.declared.failure.Failure.{Failure}
 use Rattle.vdcp_value.specs.declared.part.Item.{Item}
 
 -- ---- after an end: with the first that isn't reported, or behind it
 
-chosen : (may by lost left_out : Bool) (on anew behind next : RunSettings) (of name : Bor (List ℕ)) (event : ℕ)
-    → on.journal ≡ Some (journals.Older of) → anew.from ≡ None → behind.from ≡ Some event
-    → (if may then (if by then Some on else (if lost then Some anew else (if left_out then Some behind else None))) else None)
-    ≡ Some next
-    → next.journal ≡ Some (journals.Again name) → (next.from ≡ None) ⊎ (next.from ≡ Some event)
-chosen false by lost left_out on anew behind next of name event older none some e again = cc
-chosen true true lost left_out on anew behind next of name event older none some e again =
+guarded : (b : Bool) (first reported : ℕ) → (b ≡ true → reported < first)
+    → IfSome (if b then Some first else None) (λ n. reported < n)
+guarded true first reported more = more refl
+guarded false first reported more = tt
+
+left : (a b : Bool) → (a && b) ≡ true → a ≡ true
+left true b e = refl
+left false b e = cc e
+
+above : (n m : ℕ) → nat_lt n m ≡ true → n < m
+above n m is = grind arith
+
+behind_more : (line : LineEnd) (signs : Signs) (outcome : Option Outcome) (reported : ℕ) (skips : Bool) (count : ℕ)
+    → IfSome (behind_with line signs outcome reported skips count) (λ first. reported < first)
+behind_more (line_end.LeftOut kept) signs outcome reported skips count =
+    guarded (nat_lt reported kept && nat_le kept count) kept reported
+    (λ is. above reported kept (left (nat_lt reported kept) (nat_le kept count) is))
+behind_more line signs outcome reported skips count =
+    guarded (skips && (is_unplayable line signs outcome && nat_lt reported count)) (reported + 1) reported (λ is. omega arith)
+
+chosen : (may by lost : Bool) (on anew next : RunSettings) (leaving : ℕ → RunSettings) (behind : Option ℕ)
+    (of name : Bor (List ℕ)) (reported : ℕ) → on.journal ≡ Some (journals.Older of) → anew.from ≡ None
+    → ((first : ℕ) → (leaving first).from ≡ Some first) → IfSome behind (λ first. reported < first)
+    → (if may then (if by then Some on else (if lost then Some anew else option_map leaving behind)) else None) ≡ Some next
+    → next.journal ≡ Some (journals.Again name)
+    → (next.from ≡ None) ⊎ ((first : ℕ) × (next.from ≡ Some first) × (reported < first))
+chosen false by lost on anew next leaving behind of name reported older none some more e again = cc
+chosen true true lost on anew next leaving behind of name reported older none some more e again =
     let same : on ≡ next = cc e in
     let both : Some (journals.Older of) ≡ Some (journals.Again name) =
     sym older ∙ ap (λ (s : RunSettings). s.journal) same ∙ again in cc
-chosen true false true left_out on anew behind next of name event older none some e again =
+chosen true false true on anew next leaving behind of name reported older none some more e again =
     let same : anew ≡ next = cc e in inl (sym (ap (λ (s : RunSettings). s.from) same) ∙ none)
-chosen true false false true on anew behind next of name event older none some e again =
-    let same : behind ≡ next = cc e in inr (sym (ap (λ (s : RunSettings). s.from) same) ∙ some)
-chosen true false false false on anew behind next of name event older none some e again = cc
+chosen true false false on anew next leaving None of name reported older none some more e again = cc
+chosen true false false on anew next leaving (Some first) of name reported older none some more e again =
+    let same : leaving first ≡ next = cc e in
+    inr (first, sym (ap (λ (s : RunSettings). s.from) same) ∙ some first, more)
 
-after_end : (before next : RunSettings) (count : ℕ) (journal : Option RunJournal) (end : RunEnd) (name : Bor (List ℕ))
-    → later_by before count journal end ≡ Some next → next.journal ≡ Some (journals.Again name)
-    → (next.from ≡ None) ⊎ (next.from ≡ Some (end.reported + 1))
-after_end before next count None end name e again = cc
-after_end before next count (Some journal) end name e again =
-    let left : ℕ = turns_left before end in
+after_end : (before next : RunSettings) (count : ℕ) (stay : Option Staying) (journal : Option RunJournal) (end : RunEnd)
+    (name : Bor (List ℕ)) → later_by before count stay journal end ≡ Some next → next.journal ≡ Some (journals.Again name)
+    → (next.from ≡ None) ⊎ ((first : ℕ) × (next.from ≡ Some first) × (end.reported < first))
+after_end before next count None journal end name e again = cc
+after_end before next count (Some stay) None end name e again = cc
+after_end before next count (Some stay) (Some journal) end name e again =
+    let turns : ℕ = turns_left before end in
     chosen (may_try before end) (is_by_line end.line (told_outcome end.line end.outcome)) (has_lost_port journal end)
-    (before.skip && (is_unplayable end.line end.signs end.outcome && nat_lt end.reported count))
-    (going_on before journal left) (beginning_anew before journal None left)
-    (skipping before journal end.reported left) next _ name (end.reported + 1) refl refl refl e again
+    (going_on before journal turns) (beginning_anew before journal None turns) next
+    (λ first. leaving_out before journal first turns) (behind_left_out stay.skip count end) _ name end.reported refl refl
+    (λ first. refl) (behind_more end.line end.signs end.outcome end.reported stay.skip count) e again
 
 -- ---- after a refusal: behind the event that may have aired
 
@@ -131,24 +162,41 @@ unsure_untried settings items failure event is (unconnected e) = sure_not failur
 unsure_untried settings items failure event is (occupied e) = sure_not failure event is (ap unsure_event e)
 
 -- what the next try has
-left_so : (may : Bool) (settings next : RunSettings) → (if may then Some settings else None) ≡ Some next → settings ≡ next
-left_so true settings next e = cc e
-left_so false settings next e = cc
+next_so : (may : Bool) (how : Unsure) (event : ℕ) (with_first : ℕ → RunSettings) (next : RunSettings)
+    → (if may then option_map with_first (first_once how event) else None) ≡ Some next
+    → (with_first (event + 1) ≡ next) ⊎ ((how ≡ unsure.Again) × (with_first event ≡ next))
+next_so false how event with_first next e = cc
+next_so true unsure.LeaveOut event with_first next e = inl (cc e)
+next_so true unsure.Again event with_first next e = inr (refl, cc e)
+next_so true unsure.Stop event with_first next e = cc
 
-after_refusal : (before next : RunSettings) (items : List Item) (failure : Failure) (event : Option ℕ)
-    → unsure_event failure ≡ event → IsUntried before items failure → leaving_out before (length items) event ≡ Some next
+-- behind that event, or with it
+begun_so : (before next : RunSettings) (items : List Item) (failure : Failure) (stay : Staying) (event : ℕ)
+    → before.stay ≡ Some stay → IsNextOf items (heading_for before items) event
+    → (let first_of : ℕ → RunSettings = λ first. record before { from = Some first; listens = before.listens - 1 } in
+    (first_of (event + 1) ≡ next) ⊎ ((stay.unsure ≡ unsure.Again) × (first_of event ≡ next)))
     → BeginsBehind items (Err failure) next
-after_refusal before next items failure None is untried e = cc
-after_refusal before next items failure (Some event) is untried e =
-    let (lines, run, ended, end, replayed, event_is) = unsure_untried before items failure event is untried in
-    subst (λ (s : RunSettings). BeginsBehind items (Err failure) s)
-    (left_so (before.stay && (nat_lt event (length items) && nat_lt 1 before.listens)) _ next e)
-    (lines, run, ended, end, replayed, ap (λ (k : ℕ). Some (k + 1)) event_is)
+begun_so before next items failure stay event is (lines, run, ended, end, replayed, event_is) (inl same) =
+    subst (λ (s : RunSettings). BeginsBehind items (Err failure) s) same
+    (lines, run, ended, end, replayed, inl (ap (λ (k : ℕ). Some (k + 1)) event_is))
+begun_so before next items failure stay event is (lines, run, ended, end, replayed, event_is) (inr (again, same)) =
+    subst (λ (s : RunSettings). BeginsBehind items (Err failure) s) same
+    (lines, run, ended, end, replayed, inr (subst (λ (s : Option Staying). SendsAgain s) (sym is) again, ap (λ (k : ℕ). Some k) event_is))
+
+after_refusal : (before next : RunSettings) (items : List Item) (failure : Failure) (stay : Option Staying) (event : Option ℕ)
+    → before.stay ≡ stay → unsure_event failure ≡ event → IsUntried before items failure
+    → once_unsure_by before (length items) stay event ≡ Some next → BeginsBehind items (Err failure) next
+after_refusal before next items failure None event stays is untried e = cc
+after_refusal before next items failure (Some stay) None stays is untried e = cc
+after_refusal before next items failure (Some stay) (Some event) stays is untried e =
+    begun_so before next items failure stay event stays (unsure_untried before items failure event is untried)
+    (next_so (nat_lt event (length items) && nat_lt 1 before.listens) stay.unsure event
+    (λ first. record before { from = Some first; listens = before.listens - 1 }) next e)
 
 pub begins_behind : (before next : RunSettings) (items : List Item) (end : Result RunEnd Failure) (name : Bor (List ℕ))
     → CameTo before items end → later_after before (length items) end ≡ Some next → next.journal ≡ Some (journals.Again name)
     → BeginsBehind items end next
 begins_behind before next items (Ok end) name came e again =
-    after_end before next (length items) before.journal end name e again
+    after_end before next (length items) before.stay before.journal end name e again
 begins_behind before next items (Err failure) name came e again =
-    after_refusal before next items failure (unsure_event failure) refl came e
+    after_refusal before next items failure before.stay (unsure_event failure) refl refl came e

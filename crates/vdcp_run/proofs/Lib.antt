@@ -2,6 +2,7 @@
 pub mod EarlierRuns
 mod Begun
 mod Driven
+mod Ending
 mod LeftOut
 mod Tries
 pub mod Seen

@@ -2,7 +2,7 @@
 use Rattle.std.proofs.Common.{◌≡◌, ◌∙◌, ℕ, List, [], ◌∷◌, ap}
 use Rattle.std.proofs.Math.Nat.{min-eq_left}
 use Rattle.std.specs.Option.{option_map}
-use Rattle.std.specs.Prelude.{◌≤◌, ◌^◌, ◌-◌, min, IfOk, OnErr, None, Some, Option, Result, Ok, Err}
+use Rattle.std.specs.Prelude.{◌≤◌, ◌^◌, ◌-◌, min, None, Some, Option, Result}
 use Rattle.vdcp_auto.specs.Plan.{Plan}
 use Rattle.vdcp_auto.specs.State.{State}
 use Rattle.vdcp_auto.specs.declared.outcome.Outcome.{Outcome}
@@ -19,16 +19,13 @@ use Rattle.vdcp_drive.specs.declared.line.Ran.{Ran}
 use Rattle.vdcp_drive.specs.declared.hearing.Hearing.{Hearing}
 use Rattle.vdcp_drive.specs.declared.hearing.Hearing.TheVariants as hears
 use Rattle.vdcp_journal_file.specs.Recording.{Recording}
-use Rattle.vdcp_run.specs.Session.{HasSession, HasTried, Limits, Plays, TriesBy, TriesOver, longest_answer, no_wire, played, tried, unbegun}
-use Rattle.vdcp_run.specs.Ends.{Reports}
+use Rattle.vdcp_run.specs.Session.{HasTried, Limits, Plays, TriesBy, played, unbegun}
 use Rattle.vdcp_run.specs.Asking.{Asker, Comes, HasAsked, Start, asker_of}
 use Rattle.vdcp_run.specs.declared.run_end.LineEnd.{LineEnd}
-use Rattle.vdcp_run.specs.declared.run_end.LineEnd.TheVariants as line_end
 use Rattle.vdcp_run.specs.declared.run_end.RunEnd.{RunEnd}
 use Rattle.vdcp_run.specs.declared.settings.RunSettings.{RunSettings}
 use Rattle.vdcp_wire.specs.Acts.{Act}
-use Rattle.vdcp_wire.specs.Streams.{StreamDoes, Streamed}
-use Rattle.vdcp_wire.specs.declared.stream.Connection.TheVariants as connection
+use Rattle.vdcp_wire.specs.Streams.{Streamed}
 
 -- what one wire does, another one does below it: a session
 module _ {W W' : Type 0} (does : Act → W → W → Type 0) (does' : Act → W' → W' → Type 0) (w : W → W')
@@ -101,6 +98,8 @@ module _ {W W' : Type 0} (does : Act → W → W → Type 0) (does' : Act → W'
       left = below plays.left;
       runs = run_seen _ _ _ fold start.plan unit listens _ plays.auto world plays.left plays.ran plays.runs;
       last_is = ap w plays.last_is;
+      left_before = plays.left_before;
+      behind = plays.behind;
       line_is = plays.line_is;
       reports = plays.reports;
       signs_are = plays.signs_are;

@@ -10,8 +10,11 @@ use Rattle.vdcp_run.specs.declared.advice.Next.{Next}
 use Rattle.vdcp_run.specs.declared.advice.Next.TheVariants.{Resume, OpenAgain, LoadedAgain, From, Loaded}
 use Rattle.vdcp_run.specs.declared.advice.Reason.{Reason}
 use Rattle.vdcp_run.specs.declared.advice.Reason.TheVariants as reasons
+use Rattle.vdcp_run.specs.declared.run_end.LineEnd.{LineEnd}
+use Rattle.vdcp_run.specs.declared.run_end.LineEnd.TheVariants as line_end
 use Rattle.vdcp_run.specs.declared.run_end.RunEnd.{RunEnd}
 use Rattle.vdcp_run.specs.declared.run_end.Signs.{Signs}
+use Rattle.vdcp_run.specs.declared.run_end.Why.TheVariants as why
 use Rattle.vdcp_run.specs.declared.settings.RunJournal.{RunJournal}
 use Rattle.vdcp_run.specs.declared.settings.RunSettings.{RunSettings}
 use Rattle.vdcp_value.specs.declared.clip_id.ClipId.{ClipId}
@@ -55,8 +58,13 @@ reason_with mode signs missing (Some (Refused k)) =
 reason_with mode signs missing (Some (Foreign k)) = Some (reasons.Foreign k)
 reason_with mode signs missing (Some (Strange k)) = Some (reasons.Strange k)
 
+-- nothing was heard of the server for as long as a run that stays tries; or what the outcome means
+abbrev pub reason_by : Mode → LineEnd → RunEnd → Option Reason
+reason_by mode (line_end.NotBegun why.GivenUp) end = Some reasons.Unreached
+reason_by mode line end = reason_with mode end.signs end.missing (told_outcome line end.outcome)
+
 abbrev pub reason_of : Mode → RunEnd → Option Reason
-reason_of mode end = reason_with mode end.signs end.missing (told_outcome end.line end.outcome)
+reason_of mode end = reason_by mode end.line end
 
 abbrev pub advice_of : Option Reason → Option Next → Option Advice
 advice_of reason None = None

@@ -1,5 +1,5 @@
 -- How the controller of a session ended, by the numbers of the whole list, and how its line did.
-use Rattle.std.specs.Prelude.{ℕ, ◌≡◌, ◌+◌, ◌-◌, ◌^◌, min, Option, option_map, Result, Ok, Err}
+use Rattle.std.specs.Prelude.{ℕ, ◌≡◌, ◌+◌, ◌-◌, ◌^◌, min, Option, None, option_map, Result, Ok, Err}
 use Rattle.vdcp_auto.specs.State.{State}
 use Rattle.vdcp_auto.specs.Turn.{outcome_of}
 use Rattle.vdcp_auto.specs.declared.outcome.Outcome.{Outcome}
@@ -10,7 +10,6 @@ use Rattle.vdcp_drive.specs.declared.line.Ran.{Ran}
 use Rattle.vdcp_run.specs.declared.run_end.LineEnd.{LineEnd}
 use Rattle.vdcp_run.specs.declared.run_end.LineEnd.TheVariants as line_end
 use Rattle.vdcp_run.specs.declared.run_end.RunEnd.{RunEnd}
-use Rattle.vdcp_run.specs.declared.run_end.Why.TheVariants as why
 
 -- the event that is this many after the one that the controller began with; no number is above the largest
 abbrev pub event_in_list : (from k : ℕ) → ℕ
@@ -30,15 +29,17 @@ outcome_with from (Strange k) = Strange (event_in_list from k)
 abbrev pub outcome_in_list : ℕ → Option Outcome → Option Outcome
 outcome_in_list from outcome = option_map (outcome_with from) outcome
 
--- how the line ended, by what the driver's run answered
-abbrev pub line_end_of : Result Ran BrokenOff → LineEnd
-line_end_of (Ok r) = line_end.Ran r
-line_end_of (Err fault.Device) = line_end.Failed
-line_end_of (Err fault.Unkept) = line_end.Unkept
-line_end_of (Err fault.Left) = line_end.NotBegun why.Stopped
+-- how the line ended, by what the driver's run answered; it is left before an event that the operator leaves out, and then this
+-- is the next one that isn't
+abbrev pub line_end_of : Result Ran BrokenOff → (kept : ℕ) → LineEnd
+line_end_of (Ok r) kept = line_end.Ran r
+line_end_of (Err fault.Device) kept = line_end.Failed
+line_end_of (Err fault.Unkept) kept = line_end.Unkept
+line_end_of (Err fault.Left) kept = line_end.LeftOut kept
 
 -- the outcome and the first event that isn't reported are those of this state, whose controller began with this event
 pub record Reports (from : ℕ) (state : State) (end : RunEnd) : Type 0 where
   pub from_is : end.from ≡ from
   pub outcome_is : end.outcome ≡ outcome_in_list from (outcome_of state.stage)
   pub reported_is : end.reported ≡ from + state.settled
+  pub unfailed : end.failed ≡ None

@@ -1,7 +1,8 @@
 -- How a run begins, tries again and ends.
 use Rattle.std.specs.Borrow.{Bor}
 use Rattle.std.specs.declared.fs.File.{File as StdFile}
-use Rattle.std.specs.Prelude.{ℕ, ◌≡◌, ◌⊎◌, ◌+◌, ◌-◌, ◌≤◌, Bool, true, false, not, ◌&&◌, is_some, min, nat_lt, List, drop, length, take, Option, None, Some, unwrap_or, Result, Ok, Err, IfSome, IsSome, if◌then◌else◌}
+use Rattle.std.specs.Option.{option_map}
+use Rattle.std.specs.Prelude.{ℕ, ◌≡◌, ◌⊎◌, ◌+◌, ◌-◌, ◌*◌, ◌<◌, ◌≤◌, Bool, true, false, not, ◌&&◌, is_some, min, nat_le, nat_lt, List, drop, length, take, Option, None, Some, unwrap_or, Result, Ok, Err, IfSome, IsSome, if◌then◌else◌}
 use Rattle.vdcp_value.specs.declared.part.Item.{Item}
 use Rattle.vdcp_value.specs.declared.rate.Rate.{Rate}
 use Rattle.vdcp_auto.specs.Course.{Reached}
@@ -40,6 +41,9 @@ use Rattle.vdcp_run.specs.declared.run_end.Signs.{Signs}
 use Rattle.vdcp_run.specs.declared.run_end.Why.TheVariants as why
 use Rattle.vdcp_run.specs.declared.saved.SavedText.{SavedText}
 use Rattle.vdcp_run.specs.declared.settings.RunSettings.{RunSettings}
+use Rattle.vdcp_run.specs.declared.settings.Staying.{Staying}
+use Rattle.vdcp_run.specs.declared.settings.Unsure.{Unsure}
+use Rattle.vdcp_run.specs.declared.settings.Unsure.TheVariants as unsure
 
 -- what the controller is made with for these items
 abbrev pub plan_for : RunSettings → List Item → Plan
@@ -71,11 +75,14 @@ line_failure line_end.Unkept = None
 line_failure (line_end.NotBegun why.Occupied) = Some failures.NotEmpty
 line_failure (line_end.NotBegun why.Unanswered) = None
 line_failure (line_end.NotBegun why.Stopped) = None
+line_failure (line_end.NotBegun why.GivenUp) = Some failures.Connect
+line_failure (line_end.LeftOut kept) = Some failures.Spent
 
--- how the run ended, as it is told: a port that didn't answer its questions is lost, and a run that the operator stopped without
--- a command is stopped
+-- how the run ended, as it is told: a port that didn't answer its questions, or not for too long, is lost, and a run that the
+-- operator stopped without a command is stopped
 abbrev pub told_outcome : LineEnd → Option Outcome → Option Outcome
 told_outcome (line_end.NotBegun why.Unanswered) outcome = Some Lost
+told_outcome (line_end.NotBegun why.GivenUp) outcome = Some Lost
 told_outcome (line_end.NotBegun why.Stopped) outcome = Some Stopped
 told_outcome line outcome = outcome
 
@@ -89,6 +96,7 @@ name_of (journals.Again name) = name
 
 -- it ended by its line: the controller was lost, or else the line closed or failed before that had ended
 abbrev pub is_by_line : LineEnd → Option Outcome → Bool
+is_by_line (line_end.NotBegun why.GivenUp) outcome = false
 is_by_line line (Some Lost) = true
 is_by_line (line_end.Ran ran.Closed) None = true
 is_by_line line_end.Failed None = true
@@ -117,10 +125,11 @@ has_lost_port (journals.New name) end = false
 has_lost_port (journals.Older name) end = end.signs.unopened && is_refused end.line end.outcome
 has_lost_port (journals.Again name) end = false
 
--- a run with these settings may try again after this end: it stays, nobody stopped it, its journal is whole, and a turn is left
+-- a run that stays, with these settings, may try again after this end: nobody stopped it, its journal is whole, and a turn is
+-- left
 abbrev pub may_try : RunSettings → RunEnd → Bool
 may_try settings end =
-    settings.stay && (not end.signs.stopped && (not (is_some end.unkept) && nat_lt 0 (turns_left settings end)))
+    not end.signs.stopped && (not (is_some end.unkept) && nat_lt 0 (turns_left settings end))
 
 -- the settings of a run that goes on from the journal that it has, with so many turns
 abbrev pub going_on : RunSettings → RunJournal → ℕ → RunSettings
@@ -131,43 +140,71 @@ abbrev pub beginning_anew : RunSettings → RunJournal → Option ℕ → ℕ �
 beginning_anew settings journal from left =
     record settings { journal = Some (journals.Again (name_of journal)); from = from; listens = left }
 
--- or behind this event, without asking the port, where the clip before may play
-abbrev pub skipping : RunSettings → RunJournal → (event left : ℕ) → RunSettings
-skipping settings journal event left = record (beginning_anew settings journal (Some (event + 1)) left) { ask = false }
+-- the event of so many with which the list goes on behind one that is left out, if that is: by the operator, or since it
+-- can't be played, if such events are skipped
+abbrev pub behind_with : LineEnd → Signs → Option Outcome → (reported : ℕ) → (skips : Bool) → (count : ℕ) → Option ℕ
+behind_with (line_end.LeftOut kept) signs outcome reported skips count =
+    if nat_lt reported kept && nat_le kept count then Some kept else None
+behind_with line signs outcome reported skips count =
+    if skips && (is_unplayable line signs outcome && nat_lt reported count) then Some (reported + 1) else None
 
--- the first goes on after an end by the line; the second begins with the next event after the loss of the port, or behind it
--- if it can't be played
-abbrev pub next_by : RunSettings → ℕ → RunJournal → RunEnd → Option RunSettings
-next_by settings count journal end =
+abbrev pub behind_left_out : (skips : Bool) → (count : ℕ) → RunEnd → Option ℕ
+behind_left_out skips count end = behind_with end.line end.signs end.outcome end.reported skips count
+
+-- and behind it, without asking the port, where the clip before may play
+abbrev pub leaving_out : RunSettings → RunJournal → (first left : ℕ) → RunSettings
+leaving_out settings journal first left = record (beginning_anew settings journal (Some first) left) { ask = false }
+
+-- the first goes on after an end by the line; the second begins with the next event after the loss of the port; the third
+-- behind it, if it is left out
+abbrev pub next_by : RunSettings → Staying → ℕ → RunJournal → RunEnd → Option RunSettings
+next_by settings stay count journal end =
     if is_by_line end.line (told_outcome end.line end.outcome) then Some (going_on settings journal (turns_left settings end))
     else (if has_lost_port journal end then Some (beginning_anew settings journal None (turns_left settings end))
-    else (if settings.skip && (is_unplayable end.line end.signs end.outcome && nat_lt end.reported count)
-    then Some (skipping settings journal end.reported (turns_left settings end)) else None))
+    else option_map (λ first. leaving_out settings journal first (turns_left settings end))
+    (behind_left_out stay.skip count end))
 
-abbrev pub later_by : RunSettings → ℕ → Option RunJournal → RunEnd → Option RunSettings
-later_by settings count None end = None
-later_by settings count (Some journal) end = if may_try settings end then next_by settings count journal end else None
+abbrev pub later_by : RunSettings → ℕ → Option Staying → Option RunJournal → RunEnd → Option RunSettings
+later_by settings count None journal end = None
+later_by settings count (Some stay) None end = None
+later_by settings count (Some stay) (Some journal) end =
+    if may_try settings end then next_by settings stay count journal end else None
 
 -- the settings with which it tries again, if it does, to play a list of so many events
 abbrev pub later_of : RunSettings → ℕ → RunEnd → Option RunSettings
-later_of settings count end = later_by settings count settings.journal end
+later_of settings count end = later_by settings count settings.stay settings.journal end
 
 -- the event with which no run begins, since it may have aired
 abbrev pub unsure_event : Failure → Option ℕ
 unsure_event (failures.MayHaveAired event) = Some event
 unsure_event _ = None
 
--- a run that stays leaves out such an event of so many, and one turn
-abbrev pub leaving_out : RunSettings → ℕ → Option ℕ → Option RunSettings
-leaving_out settings count None = None
-leaving_out settings count (Some event) =
-    if settings.stay && (nat_lt event count && nat_lt 1 settings.listens)
-    then Some (record settings { from = Some (event + 1); listens = settings.listens - 1 }) else None
+-- a run begins behind such an event, or with it again, or not at all
+abbrev pub first_once : Unsure → ℕ → Option ℕ
+first_once unsure.LeaveOut event = Some (event + 1)
+first_once unsure.Again event = Some event
+first_once unsure.Stop event = None
+
+-- a run that stays, of so many events, which leaves out one turn
+abbrev pub once_unsure_by : RunSettings → ℕ → Option Staying → Option ℕ → Option RunSettings
+once_unsure_by settings count None event = None
+once_unsure_by settings count (Some stay) None = None
+once_unsure_by settings count (Some stay) (Some event) = if nat_lt event count && nat_lt 1 settings.listens
+    then option_map (λ first. record settings { from = Some first; listens = settings.listens - 1 }) (first_once stay.unsure event)
+    else None
+
+abbrev pub once_unsure : RunSettings → ℕ → Option ℕ → Option RunSettings
+once_unsure settings count event = once_unsure_by settings count settings.stay event
 
 -- the settings of the next try of a list of so many events
 abbrev pub later_after : RunSettings → ℕ → Result RunEnd Failure → Option RunSettings
 later_after settings count (Ok end) = later_of settings count end
-later_after settings count (Err failure) = leaving_out settings count (unsure_event failure)
+later_after settings count (Err failure) = once_unsure settings count (unsure_event failure)
+
+-- since this moment nothing was heard for so many seconds, by a stopwatch; that is never so without a number
+abbrev pub IsSilentFor : Option ℕ → (since now : ℕ) → Type 0
+IsSilentFor None since now = ⊥
+IsSilentFor (Some seconds) since now = seconds * 1000000000 ≤ now - since
 
 -- ---- the as-run file
 
@@ -304,7 +341,8 @@ status_unless (Some wrong) status = 3
 abbrev pub run_status : RunEnd → ℕ
 run_status end =
     status_unless (asrun_failure end.asrun)
-    (status_unless end.unkept (status_unless (line_failure end.line) (outcome_status (told_outcome end.line end.outcome))))
+    (status_unless end.unkept (status_unless end.failed
+    (status_unless (line_failure end.line) (outcome_status (told_outcome end.line end.outcome)))))
 
 -- ---- the whole
 
@@ -375,14 +413,20 @@ abbrev pub CameTo : RunSettings → List Item → Result RunEnd Failure → Type
 CameTo settings items (Ok end) = IsTried settings items end
 CameTo settings items (Err failure) = IsUntried settings items failure
 
+-- the run sends an event again that may have aired
+abbrev pub SendsAgain : Option Staying → Type 0
+SendsAgain None = ⊥
+SendsAgain (Some stay) = stay.unsure ≡ unsure.Again
+
 -- How a run begins anew in its journal after what a try came to. After an end it begins with the first event that this doesn't
 -- report, which can't have aired (`BeginsAfter`), or behind it. After a refusal it begins behind the first event that the last
--- run of a journal of these items doesn't report.
+-- run of a journal of these items doesn't report, or with it, if it is to be sent again.
 abbrev pub BeginsBehind : List Item → Result RunEnd Failure → RunSettings → Type 0
-BeginsBehind items (Ok end) next = (next.from ≡ None) ⊎ (next.from ≡ Some (end.reported + 1))
+BeginsBehind items (Ok end) next = (next.from ≡ None) ⊎ ((first : ℕ) × (next.from ≡ Some first) × (end.reported < first))
 BeginsBehind items (Err failure) next = (lines : FileBytes) × (run : Run) × (ended : Plan) × (end : State)
     × IsReplayed items (heading_for next items) lines run ended end
-    × (next.from ≡ Some (next_event (heading_for next items) run + 1))
+    × ((next.from ≡ Some (next_event (heading_for next items) run + 1))
+    ⊎ (SendsAgain next.stay × (next.from ≡ Some (next_event (heading_for next items) run))))
 
 -- with which settings a run tries: with its own first, and then with those that follow from what the last try came to
 pub data IsTry (settings : RunSettings) (items : List Item) : RunSettings → Type 0 where
@@ -397,11 +441,42 @@ pub record IsLastTry (settings : RunSettings) (items : List Item) (end : RunEnd)
   pub tried : IsTried last items end
   pub over : later_of last (length items) end ≡ None
 
+-- the last of two ends, if there is one
+abbrev pub latest_end : Result RunEnd Failure → (earlier : Option RunEnd) → Option RunEnd
+latest_end (Ok end) earlier = Some end
+latest_end (Err failure) earlier = earlier
+
+-- this is the end of one of its tries
+pub record IsEarlier (settings : RunSettings) (items : List Item) (end : RunEnd) : Type 0 where
+  pub with_settings : RunSettings
+  pub tries : IsTry settings items with_settings
+  pub tried : IsTried with_settings items end
+
+-- Its last try came to nothing, and it doesn't try again. This is the end of one before, with the as-run file of its journal.
+pub record CameToNothing (settings : RunSettings) (items : List Item) (failure : Failure) (end : RunEnd) : Type 0 where
+  pub last : RunSettings
+  pub tries : IsTry settings items last
+  pub untried : IsUntried last items failure
+  pub over : later_after last (length items) (Err failure) ≡ None
+  pub before : RunEnd
+  pub earlier : IsEarlier settings items before
+  pub end_is : end ≡ record before { asrun = end.asrun; failed = Some failure }
+  pub asrun : IfSome last.journal (λ journal. IsAsrunMade last.rate (Some (journals.Again (name_of journal))) items end.from
+      end.reported last.asrun end.asrun)
+
+abbrev pub IsEndWith : RunSettings → List Item → Option Failure → RunEnd → Type 0
+IsEndWith settings items None end = IsLastTry settings items end
+IsEndWith settings items (Some failure) end = CameToNothing settings items failure end
+
+-- this is the run's end
+abbrev pub IsEnd : RunSettings → List Item → RunEnd → Type 0
+IsEnd settings items end = IsEndWith settings items end.failed end
+
 -- the file is a playlist, and this is the end of a controller that plays it, from an event on
 pub record IsPlayed (settings : RunSettings) (list : File) (end : RunEnd) : Type 0 where
   pub items : List Item
   pub lists : IsListOf settings.rate (bytes_of list) items
-  pub plays : IsLastTry settings items end
+  pub plays : IsEnd settings items end
 
 -- the list was played to its end, or until the operator stopped, and nothing failed
 pub record IsRun (settings : RunSettings) (list : File) : Type 0 where

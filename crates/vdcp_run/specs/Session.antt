@@ -1,11 +1,12 @@
 -- What a session did: it asked the port, if it was to, and ran a driver, with the journal that it has, if it has one.
 use Rattle.std.specs.Option.{option_map}
-use Rattle.std.specs.Prelude.{ℕ, ◌≡◌, ◌≢◌, ◌*◌, Bool, true, false, ◌&&◌, List, [], ◌∷◌, Option, None, Some, IsSome, Result}
+use Rattle.std.specs.Prelude.{ℕ, ◌≡◌, ◌≢◌, ◌*◌, Bool, true, false, ◌&&◌, List, [], ◌∷◌, Option, None, Some, IfSome, IsSome, Result, Err}
 use Rattle.vdcp_auto.specs.Commands.{is_cue_command}
-use Rattle.vdcp_auto.specs.State.{Stage}
+use Rattle.vdcp_auto.specs.State.{Stage, Ready}
 use Rattle.vdcp_auto.specs.Turn.{is_awaiting, outcome_of}
 use Rattle.vdcp_auto.specs.declared.exchange.Heard.{Heard}
 use Rattle.vdcp_auto.specs.declared.exchange.Heard.TheVariants as heard
+use Rattle.vdcp_auto.specs.declared.phase.Phase.TheVariants as phase
 use Rattle.vdcp_drive.specs.Auto.{Auto}
 use Rattle.vdcp_drive.specs.Ears.{Fold}
 use Rattle.vdcp_drive.specs.Hearing as ears
@@ -15,9 +16,12 @@ use Rattle.vdcp_drive.specs.Reading.{holds}
 use Rattle.vdcp_drive.specs.Steps.{Rules, World}
 use Rattle.vdcp_drive.specs.Traces.{kept_in}
 use Rattle.vdcp_drive.specs.declared.hooks.BrokenOff.{BrokenOff}
+use Rattle.vdcp_drive.specs.declared.hooks.BrokenOff.TheVariants as fault
 use Rattle.vdcp_drive.specs.declared.hooks.Call.TheVariants.{Take, Stop}
 use Rattle.vdcp_drive.specs.declared.hooks.Kept.{Kept}
 use Rattle.vdcp_drive.specs.declared.hooks.Kept.TheVariants as kept
+use Rattle.vdcp_drive.specs.declared.hooks.Next.{Next}
+use Rattle.vdcp_drive.specs.declared.hooks.Next.TheVariants as next
 use Rattle.vdcp_drive.specs.declared.line.Ran.{Ran}
 use Rattle.vdcp_drive.specs.declared.line.Ran.TheVariants as ran
 use Rattle.vdcp_journal.specs.declared.moment.Moment.{Moment}
@@ -32,6 +36,7 @@ use Rattle.vdcp_run.specs.declared.run_end.LineEnd.{LineEnd}
 use Rattle.vdcp_run.specs.declared.run_end.LineEnd.TheVariants as line_end
 use Rattle.vdcp_run.specs.declared.run_end.RunEnd.{RunEnd}
 use Rattle.vdcp_run.specs.declared.run_end.Signs.{Signs}
+use Rattle.vdcp_run.specs.declared.run_end.Why.{Why}
 use Rattle.vdcp_run.specs.declared.run_end.Why.TheVariants as why
 use Rattle.vdcp_run.specs.declared.settings.RunSettings.{RunSettings}
 use Rattle.vdcp_wire.specs.Acts.{Act}
@@ -78,10 +83,20 @@ KeepsOn safe one old new = MayKeep (Notes safe) one old.recorder new.recorder
 abbrev pub LosesIn : {F : Type 0} → (F → Option (List ℕ)) → Kept → Keeping F → Keeping F → Type 0
 LosesIn safe one old new = MayLose (Loses safe) one old.recorder new.recorder × (new.signs ≡ old.signs)
 
+-- the controller asks about an event next
+abbrev pub IsBeforeEvent : Stage → Type 0
+IsBeforeEvent (Ready (phase.Exists k)) = Unit {0}
+IsBeforeEvent stage = ⊥
+
+-- the line is left only then
+abbrev pub LeavesBefore : Stage → Next → Type 0
+LeavesBefore stage next.Leave = IsBeforeEvent stage
+LeavesBefore stage n = Unit {0}
+
 abbrev pub playing_rules : {W F : Type 0} → (Act → W → W → Type 0) → (F → Option (List ℕ)) → Rules W (Keeping F)
 playing_rules does safe = record {
   does = does;
-  asks = λ _ _ before after. after ≡ before;
+  asks = λ state n before after. (after ≡ before) × LeavesBefore state.stage n;
   adds = KeepsOn safe;
   loses = LosesIn safe;
 }
@@ -112,7 +127,9 @@ pub record Plays {E W F : Type 0} (does : Act → W → W → Type 0) (safe : F 
   pub runs : HasRun (recorder_rules does safe) fold start.plan unit listens (record { ear = ear; state = start.state }) auto world
       left ran
   pub last_is : left.wire ≡ last
-  pub line_is : end.line ≡ line_end_of ran
+  pub left_before : ran ≡ Err fault.Left → IsBeforeEvent auto.state.stage
+  pub behind : ℕ
+  pub line_is : end.line ≡ line_end_of ran behind
   pub reports : Reports start.from auto.state end
   pub signs_are : end.signs ≡ signs_by (kept_in (steps_in runs.run)) signs_at_first
   pub closed : IsClosed safe auto.state.stage end.line end.unkept left.keep
@@ -159,15 +176,20 @@ longest_answer settings = settings.silence * silences_of settings.hearing * 1000
 abbrev pub Limits : Streamed → ℕ → Type 0
 Limits wire time = option_map (λ l. l.most) wire.answer ≡ Some time
 
--- a session of a connection: nothing went out if its controller had ended before, the connection was no wire, or the operator
--- of a run that stays stopped before there was one
+-- why a run that stays isn't connected: the operator stopped before, or it tries only for so long
+abbrev pub IsUnconnected : (patience : Option ℕ) → Why → Type 0
+IsUnconnected patience why.Stopped = Unit {0}
+IsUnconnected patience why.GivenUp = IsSome patience
+IsUnconnected patience other = ⊥
+
+-- a session of a connection: nothing went out if its controller had ended before, the connection was no wire, or there was none
 pub data HasSession {F : Type 0} (safe : F → Option (List ℕ)) (settings : RunSettings) (start : Start)
     (recorder : Option (Recording F)) (end : RunEnd) : Type 0 where
   had_ended : IsSome (outcome_of start.state.stage) → end.line ≡ line_end.Ran ran.Ended → end.signs ≡ no_signs
       → Reports start.from start.state end → HasSession safe settings start recorder end
   no_wire : end.line ≡ line_end.Failed → Reports start.from start.state end → HasSession safe settings start recorder end
-  unconnected : settings.stay ≡ true → end.line ≡ line_end.NotBegun why.Stopped → Reports start.from start.state end
-      → HasSession safe settings start recorder end
+  unconnected : (why : Why) → IfSome settings.stay (λ stay. IsUnconnected stay.patience why) → IsSome settings.stay
+      → end.line ≡ line_end.NotBegun why → Reports start.from start.state end → HasSession safe settings start recorder end
   tried : (wire last : Streamed) → wire.connection ≡ connection.Open → Limits wire (longest_answer settings)
       → TriesOver StreamDoes safe settings start wire last recorder end
       → HasSession safe settings start recorder end

@@ -4,7 +4,7 @@ ghost use Rattle.vdcp_run.specs.Advice.{advice_after, next_after, reason_of};
 ghost use Rattle.vdcp_run.specs.declared.advice.Next.TheVariants as next;
 
 use crate::lack::journal_left;
-use crate::run_end::RunEnd;
+use crate::run_end::{LineEnd, RunEnd, Why};
 use crate::settings::{RunJournal, RunSettings};
 use std::fmt;
 use vdcp_auto::{Mode, Outcome};
@@ -32,6 +32,8 @@ pub enum Reason {
     Denied,
     /// Nothing came over the line.
     Unheard,
+    /// Nothing was heard of the server for as long as the run tries.
+    Unreached,
     Lost,
 }
 
@@ -105,6 +107,9 @@ impl Reason {
     fn of(end: &RunEnd<'_>, mode: Mode) -> Option<Reason>
         ensures { result ≡ reason_of mode end.now }
     {
+        if end.line == LineEnd::NotBegun(Why::GivenUp) {
+            return Some(Reason::Unreached);
+        }
         let loses_cues = end.signs.cueing || mode == Mode::Confirming;
         match end.told_outcome()? {
             Outcome::Missing(k) => match end.missing {
@@ -164,6 +169,10 @@ impl fmt::Display for Reason {
             Reason::Unheard => write!(
                 f,
                 "connected, but nothing answers: has the server stopped, or does another automation drive the port?"
+            ),
+            Reason::Unreached => write!(
+                f,
+                "nothing was heard of the server for as long as --stay says"
             ),
             Reason::Lost => write!(
                 f,

@@ -1,7 +1,8 @@
 //! How the as-run file of a run is made.
 ghost use Rattle.std.specs.Io.KnownBytes.{Appends};
-ghost use Rattle.std.specs.Prelude.{◌≡◌, ◌+◌, IfErr, IfOk, OnOk};
-ghost use Rattle.vdcp_run.specs.Run.{IsAsrunMade, IsListed, IsSaved, IsUnlisted, IsUnwritten, reported_text, wanted_after};
+ghost use Rattle.std.specs.Prelude.{◌≡◌, ◌+◌, ℕ, IfErr, IfOk, IfSome, OnOk, Some};
+ghost use Rattle.vdcp_run.specs.Run.{IsAsrunMade, IsListed, IsSaved, IsUnlisted, IsUnwritten, name_of, reported_text, wanted_after};
+ghost use Rattle.vdcp_run.specs.declared.settings.RunJournal.TheVariants as journals;
 
 use crate::place::{Place, make_beside, not_made};
 use crate::run_end::{LineEnd, Why};
@@ -34,6 +35,22 @@ pub fn save_asrun<'a, R: Files + AllocGlobal, S: Source>(
     }
     let name = settings.asrun?;
     match listed(rt, controller, settings) {
+        Ok(text) => Some(save_text(rt, name, text)),
+        Err(failure) => Some(Err(failure)),
+    }
+}
+
+/// That of a run whose last try came to nothing: its journal has all that it reports.
+pub fn save_asrun_of_journal<'a, R: Files + AllocGlobal, S: Source>(
+    rt: &R,
+    events: &S,
+    settings: RunSettings<'a>,
+) -> Option<Result<SavedText<'a>, Failure<'a>>>
+    ensures { IfSome settings.entry.journal (λ journal. (from reported : ℕ) → IsAsrunMade settings.entry.rate
+        (Some (journals.Again (name_of journal))) (S.items events.now) from reported settings.entry.asrun result) }
+{
+    let (name, journal) = (settings.asrun?, settings.journal?);
+    match asrun_of_journal(rt, journal.name(), events, settings.rate) {
         Ok(text) => Some(save_text(rt, name, text)),
         Err(failure) => Some(Err(failure)),
     }

@@ -1,5 +1,9 @@
 //! How a run connects; one that stays tries until somebody takes the connection.
+ghost use Rattle.std.specs.Prelude.{IfErr, IfSome};
+ghost use Rattle.vdcp_run.specs.Session.{IsUnconnected};
+
 use crate::console::Console;
+use crate::run_end::Why;
 use crate::session::Session;
 use crate::settings::RunSettings;
 use crate::staying::Pace;
@@ -25,24 +29,30 @@ impl<
     O: io::Write + Drop,
     V: io::Write + Drop,
 > Session<'r, 'l, R, I, O, V> {
-    /// Connects once it is time. None if nobody takes the connection then, or, in a run that stays, if the operator stops before
-    /// somebody does.
+    /// Connects once it is time. The error is `GivenUp` if nobody takes the connection then, or, in a run that stays, if that
+    /// tries only for so long; and `Stopped` if it stays and the operator stops before somebody does.
     pub fn connect<S: Source>(
         &mut self,
         address: SocketAddrV4,
         controller: &Controller<Rest<S>>,
         settings: RunSettings<'_>,
-    ) -> Option<R::Stream> {
+    ) -> Result<R::Stream, Why>
+        ensures { IfErr result (λ why. IfSome settings.entry.stay (λ stay. IsUnconnected stay.patience why)) }
+    {
         self.console.hand.note_connecting();
-        let stream = if settings.stay {
-            self.console
-                .connect_staying(address, controller, &mut self.pace)?
-        } else {
-            self.console.connect_in_time(address, controller)?
+        let stream = match settings.stay {
+            Some(stay) => {
+                self.console
+                    .connect_staying(address, controller, &mut self.pace, stay.patience)?
+            }
+            None => match self.console.connect_in_time(address, controller) {
+                Some(stream) => stream,
+                None => return Err(Why::GivenUp),
+            },
         };
         self.console.hand.note_connected();
         self.console.tell_up();
-        Some(stream)
+        Ok(stream)
     }
 }
 
@@ -71,18 +81,29 @@ impl<
         address: SocketAddrV4,
         controller: &Controller<Rest<S>>,
         pace: &mut Pace<'r, R>,
-    ) -> Option<R::Stream> {
+        patience: Option<u32>,
+    ) -> Result<R::Stream, Why>
+        ensures { IfErr result (IsUnconnected patience) }
+    {
         if self.stops_meanwhile(controller, pace) {
-            return None;
+            return Err(Why::Stopped);
         }
         pace.begin();
-        if let Some(stream) = self.await_time(address, controller) {
-            return Some(stream);
+        let awaits = self.hand.awaits_start();
+        let early = self.await_time(address, controller);
+        if awaits {
+            pace.note_heard();
+        }
+        if let Some(stream) = early {
+            return Ok(stream);
         }
         let mut is_told = false;
         'tries: for _ in 0..u64::MAX {
+            if pace.is_spent(patience) {
+                return Err(Why::GivenUp);
+            }
             match connect(self.rt, address, CONNECTING_AGAIN) {
-                Ok(stream) => return Some(stream),
+                Ok(stream) => return Ok(stream),
                 Err(error) if !is_told => {
                     self.tell_down(&format_args!(
                         "cannot connect ({error}); trying again each second"
@@ -92,11 +113,11 @@ impl<
                 Err(_) => {}
             }
             if self.has_stopped(controller) || self.stops_meanwhile(controller, pace) {
-                return None;
+                return Err(Why::Stopped);
             }
             pace.begin();
         }
-        None
+        Err(Why::Stopped)
     }
 
     // Waits until the next try may begin, unless the operator stops.

@@ -1,16 +1,17 @@
 //! The operator's side of a run: calls, page, progress line and what is told.
-ghost use Rattle.std.specs.Prelude.{◌≡◌};
+ghost use Rattle.std.specs.Prelude.{◌≡◌, IsTrue};
 ghost use Rattle.vdcp_run.specs.Ends.{Reports};
 ghost use Rattle.vdcp_run.specs.Run.{HasAsrun};
+ghost use Rattle.vdcp_run.specs.Session.{IsBeforeEvent};
 
 use crate::lack::Lack;
 use crate::run_end::{LineEnd, RunEnd, Signs, ended};
-use crate::settings::RunSettings;
+use crate::settings::{RunSettings, Staying, Unsure};
 use crate::stalling::Stalling;
 use crate::staying::later_of;
 use std::rt::{Clock, Files};
 use std::{fmt, io};
-use vdcp_auto::{Controller, Heard, Phase, Source};
+use vdcp_auto::{Controller, Heard, Phase, Source, Standing};
 use vdcp_list::Rest;
 use vdcp_log::Log;
 use vdcp_operator::{Hand, Progress};
@@ -89,21 +90,52 @@ impl<
         }
     }
 
+    /// Whether the controller asks next about an event that the operator leaves out.
+    pub fn leaves_out_next<S: Source>(&self, controller: &Controller<Rest<S>>) -> bool
+        ensures { IsTrue result → IsBeforeEvent controller.now.state.stage }
+    {
+        match controller.snapshot().standing {
+            Standing::Ready(Phase::Exists(event)) => {
+                let event = controller.source().from().saturating_add(event);
+                self.hand.next_kept(event) != event
+            }
+            _ => false,
+        }
+    }
+
     /// Tells how the run goes on after this try.
     pub fn tell_again(&mut self, end: &Result<RunEnd<'_>, Failure<'_>>, later: RunSettings<'_>) {
         let end = match end {
             Ok(end) => end,
             Err(failure) => {
-                self.tell(&format_args!("left out: {failure}"));
+                self.tell_unsure(failure, later);
                 return;
             }
         };
+        if let LineEnd::LeftOut(kept) = end.line {
+            self.tell(&format_args!("left out: by hand; going on with event {kept}"));
+            return;
+        }
         let (event, outcome) = (end.reported, OutcomeText(end.told_outcome()));
         match end.line.failure() {
             Some(failure) => self.tell_down(&format_args!("{failure}; connecting again")),
             None if end.is_by_line() => self.tell_down(&"lost; connecting again"),
             None if later.from.is_some() => self.tell(&format_args!("left out: {outcome}")),
             None => self.tell(&format_args!("port lost: going on with event {event}")),
+        }
+    }
+
+    fn tell_unsure(&self, failure: &Failure<'_>, later: RunSettings<'_>) {
+        match later.stay {
+            Some(
+                Staying {
+                    unsure: Unsure::Again,
+                    ..
+                },
+            ) => {
+                self.tell(&format_args!("sent again: {failure}"));
+            }
+            _ => self.tell(&format_args!("left out: {failure}")),
         }
     }
 

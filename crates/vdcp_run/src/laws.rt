@@ -1,6 +1,6 @@
 //! The laws of what is asked before a list's own commands, and of the tries of a run. The functions do nothing.
 ghost use Rattle.std.specs.Borrow.{Bor};
-ghost use Rattle.std.specs.Prelude.{◌≡◌, ℕ, Bool, List, Result, Some, false, length};
+ghost use Rattle.std.specs.Prelude.{◌≡◌, ℕ, Bool, List, None, Result, Some, length};
 ghost use Rattle.vdcp_drive.specs.Auto.{Auto};
 ghost use Rattle.vdcp_drive.specs.Leaves.{HasRun, steps_in};
 ghost use Rattle.vdcp_drive.specs.Steps.{World};
@@ -27,8 +27,9 @@ pub fn only_questions_are_asked<E: Ear, W: Wire>()
         AreAsked start (commands_kept (kept_in (steps_in h.run))) }
 {}
 
-/// A run that stays and begins anew in its journal begins behind all that aired or may have aired before. It begins with
-/// the first event that isn't reported. If that event may have aired, or can't be played, it begins with the next one.
+/// A run that stays and begins anew in its journal begins behind all that aired or may have aired before, unless it is to
+/// send an event again that may have aired. It begins with the first event that isn't reported. If that event may have
+/// aired, can't be played or is left out by the operator, it begins behind it.
 pub fn a_new_run_begins_behind()
     ensures { (before next : RunSettings) (items : List Item) (end : Result RunEnd Failure) (name : Bor (List ℕ))
         → CameTo before items end → later_after before (length items) end ≡ Some next
@@ -37,6 +38,6 @@ pub fn a_new_run_begins_behind()
 
 /// A run that doesn't stay makes one try: with the settings that it has.
 pub fn a_run_makes_one_try()
-    ensures { (settings last : RunSettings) (items : List Item) → settings.stay ≡ false → IsTry settings items last
+    ensures { (settings last : RunSettings) (items : List Item) → settings.stay ≡ None → IsTry settings items last
         → last ≡ settings }
 {}

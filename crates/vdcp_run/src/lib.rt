@@ -26,4 +26,4 @@ mod staying;
 
 pub use advice::{Advice, Next, Reason};
 pub use run::do_run;
-pub use settings::{RunJournal, RunSettings, Showing};
+pub use settings::{RunJournal, RunSettings, Showing, Staying, Unsure};

@@ -27,13 +27,13 @@ impl<
     V: io::Write + Drop,
 > Hooks<Rest<S>> for Playing<'_, '_, '_, R, F, I, O, V> {
     ghost use Rattle.std.specs.Prelude.{◌≡◌};
-    ghost use Rattle.vdcp_run.specs.Session.{Keeping, KeepsOn, LosesIn};
+    ghost use Rattle.vdcp_run.specs.Session.{Keeping, KeepsOn, LeavesBefore, LosesIn};
 
     ghost Journal = { Keeping F };
 
     ghost journal = { λ p. record { recorder = p.recorder; signs = p.signs } };
 
-    ghost asks = { λ _ _ _ old new. new ≡ old };
+    ghost asks = { λ _ state n old new. (new ≡ old) × LeavesBefore state.stage n };
 
     ghost adds = { KeepsOn F.safe };
 
@@ -43,6 +43,7 @@ impl<
         self.left = self.left.saturating_sub(1);
         match self.console.hand.call(controller) {
             Some(call) => Next::Call(call),
+            None if self.console.leaves_out_next(controller) => Next::Leave,
             None => Next::GoOn,
         }
     }

@@ -3,16 +3,17 @@ ghost use Rattle.std.specs.Prelude.{◌≡◌, ◌<◌, ◌≤◌, IfErr, IfOk, 
 ghost use Rattle.vdcp_files.specs.Files.{file};
 ghost use Rattle.vdcp_list.specs.List.{items_of};
 ghost use Rattle.vdcp_list.specs.Playlists.{IsListOf};
-ghost use Rattle.vdcp_run.specs.Run.{IsApart, IsLastTry, IsPlayed, IsRun, IsTried, IsUntried, first_event, later_after, unbegun_journal};
+ghost use Rattle.vdcp_run.specs.Run.{IsApart, IsEnd, IsPlayed, IsRun, IsTried, IsUntried, first_event, later_after, latest_end, unbegun_journal};
 
 use crate::advice::Advice;
+use crate::asrun::save_asrun_of_journal;
 use crate::begin::begin;
 use crate::console::Console;
 use crate::place::{Apart, tell_place};
 use crate::run_end::RunEnd;
 use crate::session::Session;
 use crate::settings::{RunJournal, RunSettings, Showing};
-use crate::staying::{Pace, later_of, leaving_out};
+use crate::staying::{Pace, later_of, once_unsure};
 use std::fs::{self, File};
 use std::io;
 use std::net::{Net, SocketAddrV4};
@@ -35,8 +36,8 @@ use vdcp_wire::address_of;
 /// The status is 3 if `out` or `err` failed, which then gets no more; else it is
 /// - 0 if the controller ended Done or Stopped, or the operator stopped while the port was asked;
 /// - 1 if it ended Denied, Missing, Refused, Foreign or Strange;
-/// - 3 if it ended Lost, the other end closed, the turns are used up, the line failed, or the as-run list or a row of
-///   the journal isn't written.
+/// - 3 if it ended Lost, the other end closed, the turns are used up, the line failed, the as-run list or a row of
+///   the journal isn't written, or a run that stays couldn't go on: then `err` says why.
 ///
 /// If a run doesn't come to this, no file is made, `out` gets nothing and `err` one fault line. The status is then
 /// - 1 if the port isn't empty, a row of list or journal is refused, or the event to begin with isn't there or may have
@@ -73,7 +74,10 @@ pub fn do_run<
 {
     match run_shown(rt, address, list, settings, showing, hand) {
         Ok(end) => {
-            *advice = Advice::of_end(&end, settings);
+            *advice = match end.failed {
+                Some(failure) => Advice::of_failure(failure),
+                None => Advice::of_end(&end, settings),
+            };
             end.tell(out, err).unwrap_or(3)
         }
         Err(failure) => {
@@ -158,18 +162,27 @@ impl<
         requires some { 1 ≤ settings.limit }
         requires few { settings.limit ≤ 1000 }
         requires listed { first_event settings.from ≤ length (items_of events.now) }
-        ensures { IfOk result (IsLastTry settings.entry (items_of events.now)) }
+        ensures { IfOk result (IsEnd settings.entry (items_of events.now)) }
     {
         let mut settings = settings;
+        let mut earlier = None;
         let (mut end, mut session) = self.try_events(address, events, settings);
         'tries: while let Some(later) = later_after(&end, events.len(), settings) {
             session.console.tell_again(&end, later);
             settings = later;
             let (next, rest) = session.try_events(address, events, settings);
+            earlier = latest_end(end, earlier);
             end = next;
             session = rest;
         }
-        end
+        match (end, earlier) {
+            (Err(failure), Some(before)) => Ok(RunEnd {
+                asrun: save_asrun_of_journal(session.console.rt, events, settings),
+                failed: Some(failure),
+                ..before
+            }),
+            (end, _) => end,
+        }
     }
 
     fn try_events<'a>(
@@ -198,7 +211,6 @@ impl<
     }
 }
 
-// An event that may have aired isn't sent again: a run that stays leaves it out.
 fn later_after<'a>(
     end: &Result<RunEnd<'_>, Failure<'_>>,
     count: usize,
@@ -211,8 +223,20 @@ fn later_after<'a>(
 {
     match end {
         Ok(end) => later_of(end, count, settings),
-        Err(Failure::MayHaveAired(event)) => leaving_out(*event, count, settings),
+        Err(Failure::MayHaveAired(event)) => once_unsure(*event, count, settings),
         Err(_) => None,
+    }
+}
+
+fn latest_end<'a>(
+    end: Result<RunEnd<'a>, Failure<'a>>,
+    earlier: Option<RunEnd<'a>>,
+) -> Option<RunEnd<'a>>
+    ensures { result ≡ latest_end end.entry earlier.entry }
+{
+    match end {
+        Ok(end) => Some(end),
+        Err(_) => earlier,
     }
 }
 

@@ -1,10 +1,10 @@
 //! How a run ended, what is printed of that, and its exit status.
-ghost use Rattle.std.specs.Prelude.{◌≡◌, IfOk};
+ghost use Rattle.std.specs.Prelude.{◌≡◌, ◌≤◌, IfOk, IfSome};
 ghost use Rattle.vdcp_drive.specs.declared.hooks.Kept.TheVariants as kept;
 ghost use Rattle.vdcp_run.specs.Advice.{missing_in};
 ghost use Rattle.vdcp_run.specs.Ends.{Reports, line_end_of};
 ghost use Rattle.vdcp_run.specs.Session.{no_signs, signs_after, signs_at_first};
-ghost use Rattle.vdcp_run.specs.Run.{HasAsrun, asrun_failure, has_lost_port, is_by_line, is_refused, is_unplayable, line_failure, run_status, told_outcome};
+ghost use Rattle.vdcp_run.specs.Run.{HasAsrun, asrun_failure, behind_left_out, has_lost_port, is_by_line, is_refused, is_unplayable, line_failure, run_status, told_outcome};
 
 use crate::asrun::save_asrun;
 use crate::in_list::{outcome_in_list, reported_in_list};
@@ -31,6 +31,8 @@ pub enum LineEnd {
     Unkept,
     /// The list wasn't begun.
     NotBegun(Why),
+    /// The operator leaves out the next event: the list goes on with this one.
+    LeftOut(usize),
 }
 
 #[derive(Clone, Copy, PartialEq, Eq)]
@@ -41,17 +43,20 @@ pub enum Why {
     Unanswered,
     /// The operator stopped before.
     Stopped,
+    /// Nothing was heard of the server for as long as the run tries.
+    GivenUp,
 }
 
 impl LineEnd {
-    pub fn of_run(ran: Result<Ran, BrokenOff>) -> LineEnd
-        ensures { result ≡ line_end_of ran }
+    /// A run is left before an event that the operator leaves out; `kept` is the next one that isn't.
+    pub fn of_run(ran: Result<Ran, BrokenOff>, kept: usize) -> LineEnd
+        ensures { result ≡ line_end_of ran kept }
     {
         match ran {
             Ok(ran) => LineEnd::Ran(ran),
             Err(BrokenOff::Device) => LineEnd::Failed,
             Err(BrokenOff::Unkept) => LineEnd::Unkept,
-            Err(BrokenOff::Left) => LineEnd::NotBegun(Why::Stopped),
+            Err(BrokenOff::Left) => LineEnd::LeftOut(kept),
         }
     }
 
@@ -62,9 +67,10 @@ impl LineEnd {
     {
         match self {
             LineEnd::Ran(Ran::Closed) => Some(Failure::LineClosed),
-            LineEnd::Ran(Ran::Spent) => Some(Failure::Spent),
+            LineEnd::Ran(Ran::Spent) | LineEnd::LeftOut(_) => Some(Failure::Spent),
             LineEnd::Failed => Some(Failure::LineFailed),
             LineEnd::NotBegun(Why::Occupied) => Some(Failure::NotEmpty),
+            LineEnd::NotBegun(Why::GivenUp) => Some(Failure::Connect),
             LineEnd::Ran(Ran::Ended) | LineEnd::Unkept => None,
             LineEnd::NotBegun(Why::Unanswered | Why::Stopped) => None,
         }
@@ -148,6 +154,8 @@ pub struct RunEnd<'a> {
     pub unkept: Option<Lack<'a>>,
     /// How many turns were left then; none if the controller had ended before.
     pub left: u32,
+    /// Why the run's last try came to nothing: this is the end of the one before.
+    pub failed: Option<Failure<'a>>,
 }
 
 impl<'a> RunEnd<'a> {
@@ -170,15 +178,17 @@ impl<'a> RunEnd<'a> {
         out.flush()
     }
 
-    /// The printed outcome: Lost if the port didn't answer its questions, Stopped if the operator stopped meanwhile.
+    /// The printed outcome: Lost if the port didn't answer its questions, or nothing was heard for too long; Stopped if the
+    /// operator stopped meanwhile.
     pub fn told_outcome(&self) -> Option<Outcome>
         ensures { result ≡ told_outcome self.now.line self.now.outcome }
     {
         match self.line {
-            LineEnd::NotBegun(Why::Unanswered) => Some(Outcome::Lost),
+            LineEnd::NotBegun(Why::Unanswered | Why::GivenUp) => Some(Outcome::Lost),
             LineEnd::NotBegun(Why::Stopped) => Some(Outcome::Stopped),
             LineEnd::NotBegun(Why::Occupied) => self.outcome,
-            LineEnd::Ran(_) | LineEnd::Failed | LineEnd::Unkept => self.outcome,
+            LineEnd::Ran(_) | LineEnd::Failed | LineEnd::Unkept | LineEnd::LeftOut(_) =>
+                self.outcome,
         }
     }
 
@@ -187,6 +197,7 @@ impl<'a> RunEnd<'a> {
         ensures { result ≡ is_by_line self.now.line (told_outcome self.now.line self.now.outcome) }
     {
         match (self.line, self.told_outcome()) {
+            (LineEnd::NotBegun(Why::GivenUp), _) => false,
             (_, Some(Outcome::Lost)) => true,
             (LineEnd::Ran(Ran::Closed) | LineEnd::Failed, None) => true,
             _ => false,
@@ -212,8 +223,22 @@ impl<'a> RunEnd<'a> {
         }
     }
 
-    /// Whether the server doesn't have the clip of the next event, or refused its cue.
-    pub fn is_unplayable(&self) -> bool
+    /// If the next event is left out, by the operator or since it can't be played, the event with which the list of so many
+    /// goes on.
+    pub fn behind_left_out(&self, skips: bool, count: usize) -> Option<usize>
+        ensures behind { result ≡ behind_left_out skips count self.now }
+        ensures listed { IfSome result (λ first. first ≤ count) }
+    {
+        match self.line {
+            LineEnd::LeftOut(kept) if self.reported < kept && kept <= count => Some(kept),
+            LineEnd::LeftOut(_) => None,
+            _ if skips && self.is_unplayable() && self.reported < count => Some(self.reported + 1),
+            _ => None,
+        }
+    }
+
+    // Whether the server doesn't have the clip of the next event, or refused its cue.
+    fn is_unplayable(&self) -> bool
         ensures { result ≡ is_unplayable self.now.line self.now.signs self.now.outcome }
     {
         match (self.line, self.outcome) {
@@ -235,13 +260,16 @@ impl<'a> RunEnd<'a> {
     fn write_faults<E: io::Write>(&self, err: &mut E) -> io::Result<()> {
         write_fault(self.unwritten(), err)?;
         write_lack(self.unkept, err)?;
-        write_fault(self.line.failure(), err)
+        write_fault(self.failed.or(self.line.failure()), err)
     }
 
     fn status(&self) -> u8
         ensures { result ≡ run_status self.now }
     {
-        if self.unwritten().is_some() || self.unkept.is_some() || self.line.failure().is_some() {
+        if self.unwritten().is_some() || self.unkept.is_some() || self.failed.is_some() {
+            return 3;
+        }
+        if self.line.failure().is_some() {
             return 3;
         }
         match self.told_outcome() {
@@ -309,6 +337,7 @@ pub fn ended<'a, R: Files + AllocGlobal, S: Source>(
         asrun: None,
         unkept,
         left,
+        failed: None,
     };
     match later_of(&end, controller.source().whole().len(), settings) {
         Some(_) => end,

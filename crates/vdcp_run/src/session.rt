@@ -1,15 +1,16 @@
 //! One session: plays a list over a connection, and says what came of it.
 ghost use Rattle.std.specs.Duration.{as_nanos};
-ghost use Rattle.std.specs.Prelude.{◌≡◌, ◌⊎◌, ◌≤◌, ◌*◌, ◌^◌, ◌-◌, IfErr, IfOk, None, true};
+ghost use Rattle.std.specs.Prelude.{◌≡◌, ◌⊎◌, ◌≤◌, ◌*◌, ◌^◌, ◌-◌, IfErr, IfOk, IfSome, IsSome, None};
 ghost use Rattle.vdcp_run.specs.Ends.{Reports};
 ghost use Rattle.vdcp_run.specs.Run.{HasAsrun};
 ghost use Rattle.vdcp_run.specs.Asking.{over, start_of};
 ghost use Rattle.vdcp_auto.specs.Turn.{is_awaiting};
-ghost use Rattle.vdcp_run.specs.Session.{EndsOpen, HasSession, HasTried, IsClosed, Plays, TriesOver, longest_answer, signs_at_first};
+ghost use Rattle.vdcp_run.specs.Session.{EndsOpen, HasSession, HasTried, IsClosed, IsUnconnected, Plays, TriesOver, longest_answer, signs_at_first};
 
 use crate::asking::Asked;
 use crate::before::events_before;
 use crate::console::Console;
+use crate::in_list::reported_in_list;
 use crate::lack::Lack;
 use crate::playing::Playing;
 use crate::run_end::{LineEnd, RunEnd, Signs, Why};
@@ -75,8 +76,9 @@ impl<
         }
         let before = events_before(rt.alloc(), runs.as_slice(), &controller);
         self.console.hand.set_before(before);
-        let Some(stream) = self.connect(address, &controller, settings) else {
-            return self.end_unconnected(&controller, settings);
+        let stream = match self.connect(address, &controller, settings) {
+            Ok(stream) => stream,
+            Err(why) => return self.end_unconnected(&controller, why, settings),
         };
         let wire = StreamWire::with_limit(stream, silence_of(settings), limit_of(settings), rt);
         let Ok(wire) = wire else {
@@ -99,7 +101,10 @@ impl<
             signs: Signs::at_first(),
         };
         let (end, console, _) = playing.play_over(controller, wire, settings);
-        let session = Session { console, pace };
+        let mut session = Session { console, pace };
+        if end.signs.heard {
+            session.pace.note_heard();
+        }
         if end.line == LineEnd::NotBegun(Why::Occupied) {
             return (Err(Failure::NotEmpty), session);
         }
@@ -110,17 +115,20 @@ impl<
     fn end_unconnected<'a, S: Source>(
         mut self,
         controller: &Controller<Rest<S>>,
+        why: Why,
         settings: RunSettings<'a>,
     ) -> (Result<RunEnd<'a>, Failure<'a>>, Self)
-        ensures stopped { IfOk result.0 (λ end. (settings.entry.stay ≡ true) × (end.line ≡ LineEnd.NotBegun Why.Stopped)
+        requires { IfSome settings.stay (λ stay. IsUnconnected stay.patience why) }
+        ensures ended { IfOk result.0 (λ end. IfSome settings.entry.stay (λ stay. IsUnconnected stay.patience why)
+            × IsSome settings.entry.stay × (end.line ≡ LineEnd.NotBegun why)
             × Reports controller.now.source.from controller.now.state end) }
         ensures asrun { IfOk result.0 (HasAsrun settings.entry (S.items controller.now.source.source)) }
         ensures refused { IfErr result.0 (λ failure. failure ≡ Failure.Connect) }
     {
-        if !settings.stay {
+        if settings.stay.is_none() {
             return (Err(Failure::Connect), self);
         }
-        let (line, left) = (LineEnd::NotBegun(Why::Stopped), settings.listens);
+        let (line, left) = (LineEnd::NotBegun(why), settings.listens);
         let end = self
             .console
             .end(controller, line, Signs::none(), None, left, settings);
@@ -235,7 +243,8 @@ impl<
         ensures asrun { HasAsrun settings.entry (S.items driver.controller.source.source) result.0 }
     {
         let ran = driver.run_with(u64::from(turns), &mut self);
-        let line = LineEnd::of_run(ran);
+        let reported = reported_in_list(driver.controller());
+        let line = LineEnd::of_run(ran, self.console.hand.next_kept(reported));
         let Playing {
             mut recorder,
             mut console,

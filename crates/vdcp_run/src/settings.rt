@@ -30,9 +30,27 @@ pub struct RunSettings<'a> {
     pub asrun: Option<&'a str>,
     pub journal: Option<RunJournal<'a>>,
     /// A run with a journal connects again when its line ends it, and goes on from the journal.
-    pub stay: bool,
-    /// A run that stays leaves out an event whose clip the server doesn't have, or whose cue it refuses.
+    pub stay: Option<Staying>,
+}
+
+/// How a run stays.
+#[derive(Clone, Copy)]
+pub struct Staying {
+    /// It leaves out an event whose clip the server doesn't have, or whose cue it refuses.
     pub skip: bool,
+    pub unsure: Unsure,
+    /// For how many seconds it tries while nothing is heard of the server; without a number it tries for ever.
+    pub patience: Option<u32>,
+}
+
+/// What becomes of an event that may have aired before the server lost the port.
+#[derive(Clone, Copy, PartialEq, Eq)]
+pub enum Unsure {
+    LeaveOut,
+    /// It is sent again, so it may air twice.
+    Again,
+    /// The run ends there.
+    Stop,
 }
 
 /// The journal of a run, by the name of its file.

@@ -1,9 +1,9 @@
 //! A run that stays: whether it tries again, and when.
-ghost use Rattle.std.specs.Prelude.{◌≡◌, ◌+◌, ◌-◌, ◌^◌, ◌<◌, ◌≤◌, IfSome, IsTrue, Some, min};
-ghost use Rattle.vdcp_run.specs.Run.{first_event, later_of, leaving_out};
+ghost use Rattle.std.specs.Prelude.{◌≡◌, ◌↔◌, ◌+◌, ◌-◌, ◌^◌, ◌<◌, ◌≤◌, IfSome, IsTrue, Some, min};
+ghost use Rattle.vdcp_run.specs.Run.{IsSilentFor, first_event, later_of, once_unsure};
 
 use crate::run_end::RunEnd;
-use crate::settings::{RunJournal, RunSettings};
+use crate::settings::{RunJournal, RunSettings, Unsure};
 use std::rt::Clock;
 use vdcp_wire::Stopwatch;
 
@@ -15,8 +15,8 @@ const PIECE: u64 = 20_000_000;
 
 /// The settings of the next try of a list of `count` events. There is one only if the run stays, nobody stopped it, its
 /// journal is whole and a turn is left. If the line ended this try, the next one goes on from the journal. If the server has
-/// lost the port, a new run begins there. If the next event can't be played, and such events are skipped, a new run begins
-/// behind it. A connection takes at least one turn.
+/// lost the port, a new run begins there. If the next event is left out, a new run begins behind it. A connection takes at
+/// least one turn.
 pub fn later_of<'a>(
     end: &RunEnd<'_>,
     count: usize,
@@ -27,9 +27,9 @@ pub fn later_of<'a>(
     ensures listed { first_event settings.entry.from ≤ count → IfSome result (λ later. first_event later.from ≤ count) }
     ensures fewer { IfSome result (λ later. later.listens < settings.entry.listens) }
 {
-    let journal = settings.journal?;
+    let (stay, journal) = (settings.stay?, settings.journal?);
     let left = end.left.min(settings.listens.saturating_sub(1));
-    if !settings.stay || end.signs.stopped || end.unkept.is_some() || left == 0 {
+    if end.signs.stopped || end.unkept.is_some() || left == 0 {
         return None;
     }
     let anew = RunSettings {
@@ -48,37 +48,39 @@ pub fn later_of<'a>(
     if end.has_lost_port(journal) {
         return Some(anew);
     }
-    if settings.skip && end.is_unplayable() && end.reported < count {
-        // (what plays there is this list's)
-        return Some(RunSettings {
-            ask: false,
-            from: Some(end.reported + 1),
-            ..anew
-        });
-    }
-    None
+    let first = end.behind_left_out(stay.skip, count)?;
+    Some(RunSettings {
+        ask: false,
+        from: Some(first),
+        ..anew
+    })
 }
 
-/// The settings of a run that stays and leaves out this one of so many events, since it may have aired.
-pub fn leaving_out<'a>(
+/// The settings of a run that stays, of so many events, once this one may have aired.
+pub fn once_unsure<'a>(
     event: usize,
     count: usize,
     settings: RunSettings<'a>,
 ) -> Option<RunSettings<'a>>
-    ensures out { result ≡ leaving_out settings.entry count (Some event) }
-    ensures same { IfSome result (λ later. (later.unit ≡ settings.entry.unit) × (later.limit ≡ settings.entry.limit)
-        × (later.from ≡ Some (event + 1)) × (event < count)) }
+    ensures later { result ≡ once_unsure settings.entry count (Some event) }
+    ensures same { IfSome result (λ later. (later.unit ≡ settings.entry.unit) × (later.limit ≡ settings.entry.limit)) }
+    ensures listed { IfSome result (λ later. first_event later.from ≤ count) }
     ensures fewer { IfSome result (λ later. later.listens < settings.entry.listens) }
 {
-    if settings.stay && event < count && settings.listens > 1 {
-        Some(RunSettings {
-            from: Some(event + 1),
-            listens: settings.listens - 1,
-            ..settings
-        })
-    } else {
-        None
+    let stay = settings.stay?;
+    if event >= count || settings.listens <= 1 {
+        return None;
     }
+    let first = match stay.unsure {
+        Unsure::LeaveOut => event + 1,
+        Unsure::Again => event,
+        Unsure::Stop => return None,
+    };
+    Some(RunSettings {
+        from: Some(first),
+        listens: settings.listens - 1,
+        ..settings
+    })
 }
 
 /// When a run that stays connects: at once, and then a second after it last did.
@@ -86,20 +88,27 @@ pub fn leaving_out<'a>(
 pub struct Pace<'r, R: Clock> {
     stopwatch: Stopwatch<&'r R>,
     due: u64,
+    // Since when nothing is heard of the server.
+    silent: u64,
 }
 
 impl<'r, R: Clock> Pace<'r, R> {
     pub fn new(clock: &'r R) -> Self
-        ensures { result.due ≡ 0 }
+        ensures due { result.due ≡ 0 }
+        ensures silent { result.silent ≡ result.stopwatch.now }
     {
+        let mut stopwatch = Stopwatch::new(clock);
+        let silent = stopwatch.read();
         Pace {
-            stopwatch: Stopwatch::new(clock),
+            stopwatch,
             due: 0,
+            silent,
         }
     }
 
     pub fn begin(&mut self)
-        ensures { self.new.due ≡ min (self.new.stopwatch.now + 1000000000) (2 ^ 64 - 1) }
+        ensures due { self.new.due ≡ min (self.new.stopwatch.now + 1000000000) (2 ^ 64 - 1) }
+        ensures silent { self.new.silent ≡ self.old.silent }
     {
         self.due = self.stopwatch.read().saturating_add(PACE);
     }
@@ -115,5 +124,25 @@ impl<'r, R: Clock> Pace<'r, R> {
         }
         self.stopwatch.sleep(left.min(PIECE));
         false
+    }
+
+    /// Something was heard of the server just now, or it is waited for from now on.
+    pub fn note_heard(&mut self)
+        ensures silent { self.new.silent ≡ self.new.stopwatch.now }
+        ensures due { self.new.due ≡ self.old.due }
+    {
+        self.silent = self.stopwatch.read();
+    }
+
+    /// Whether nothing was heard for so many seconds. Without a number that is never so.
+    pub fn is_spent(&mut self, patience: Option<u32>) -> bool
+        ensures spent { IsTrue result ↔ IsSilentFor patience self.old.silent self.new.stopwatch.now }
+        ensures stays { (self.new.due ≡ self.old.due) × (self.new.silent ≡ self.old.silent) }
+    {
+        let Some(seconds) = patience else {
+            return false;
+        };
+        let silent = self.stopwatch.read().saturating_sub(self.silent);
+        silent >= u64::from(seconds) * 1_000_000_000
     }
 }

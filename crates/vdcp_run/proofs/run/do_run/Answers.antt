@@ -14,6 +14,6 @@ whole_run : {E : Type 0} (settings : RunSettings) (list : File) (end : RunEnd) (
 whole_run settings list end (Ok status) played is none = record { end = end; played = played; whole = sym is ∙ none }
 whole_run settings list end (Err e) played is none = absurd (omega (arith, none))
 
-pub returns-in-Ok : goal.returns-in-Ok
-returns-in-Ok g c = λ none.
+pub returns-after-end : goal.returns-after-end
+returns-after-end g c = λ none.
     whole_run c.args.settings _ c.in-Ok.end c.tell.result c.in-Ok.ensures c.tell.ensures (sym c.unwrap_or.ensures ∙ none)

@@ -23,11 +23,12 @@ returns g c =
             works = c.requires.works;
             fresh = c.requires.fresh;
             signs = c.end-end.ensures.signs;
+            behind = c.next_kept.result;
             line = c.end-end.ensures.line ∙ c.of_run-line.ensures;
-            reports = subst (λ v. Reports v.source.from v.state end) c.controller-2.ensures c.end-end.ensures.reports;
+            reports = subst (λ v. Reports v.source.from v.state end) c.controller-3.ensures c.end-end.ensures.reports;
             closed = subst (λ v. IsClosed g.F.Disk.safe v.state.stage end.line end.unkept run.new.hooks.recorder)
-                c.controller.ensures (rw (c.end-end.ensures.kept, c.end-end.ensures.line) c.close-unkept.ensures);
+                c.controller-2.ensures (rw (c.end-end.ensures.kept, c.end-end.ensures.line) c.close-unkept.ensures);
           }));
       asrun = subst (λ v. HasAsrun c.args.settings (g.S.Source.items v.source.source) end)
-          (c.controller-2.ensures ∙ run.ensures.leaves.controller) c.end-end.ensures.asrun;
+          (c.controller-3.ensures ∙ run.ensures.leaves.controller) c.end-end.ensures.asrun;
     }

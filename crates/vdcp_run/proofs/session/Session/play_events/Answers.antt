@@ -1,9 +1,11 @@
-use Rattle.std.proofs.Common.{◌≡◌, ◌≤◌, arith, subst, sym}
-use Rattle.std.specs.Prelude.{Some}
+use Rattle.std.proofs.Common.{◌≡◌, ◌∙◌, ◌≤◌, arith, subst, sym}
+use Rattle.std.specs.Prelude.{IfOk, IfSome, None, Some}
 use Rattle.vdcp_list.specs.List.{items_of}
+use Rattle.vdcp_run.proofs.Ending.{came_to_nothing, last_ends, latest_is}
 use Rattle.vdcp_run.proofs.Tries.{tries_later}
 use Rattle.vdcp_run.proofs.session.Session.play_events.Goals as goal
-use Rattle.vdcp_run.specs.Run.{first, first_event, later_after}
+use Rattle.vdcp_run.proofs.session.Session.play_events.Goals.{in_default-2, in_default-2-2}
+use Rattle.vdcp_run.specs.Run.{IsEarlier, IsEnd, first, first_event, later_after}
 
 pub tries-init : goal.tries-init
 tries-init g c = record {
@@ -14,6 +16,7 @@ tries-init g c = record {
   tries = first;
   played = c.try_events-end.ensures.played;
   untried = c.try_events-end.ensures.untried;
+  earlier = tt;
 }
 
 pub tries-preserved : goal.tries-preserved
@@ -32,4 +35,28 @@ tries-preserved g c =
           (sym c.in-Some.ensures.later));
       played = c.try_events-next.ensures.played;
       untried = c.try_events-next.ensures.untried;
+      earlier = subst (λ end. IfSome end (IsEarlier c.args.settings (items_of c.args.events.now))) (sym c.latest_end-earlier.ensures)
+          (latest_is c.args.settings c.tries.settings (items_of c.args.events.now) c.tries.end c.tries.earlier before.tries
+          before.played before.earlier);
     }
+
+pub returns-in-Err-Some : goal.returns-in-Err-Some
+returns-in-Err-Some g c =
+    let at = c.in-Err-Some in
+    let last = c.tries.invariant in
+    let over = subst (λ n. later_after c.tries.settings n c.tries.end ≡ None) c.len.ensures
+    (sym c.later_after.ensures.later ∙ c.in_default.is) in
+    came_to_nothing c.args.settings c.tries.settings (items_of c.args.events.now) at.failure at.before
+    c.save_asrun_of_journal.result last.tries (rw at.is-0 at last.untried) (rw at.is-0 at over) (rw at.is-1 at last.earlier)
+    c.save_asrun_of_journal.ensures
+
+pub returns : goal.returns
+returns g c =
+    let over = subst (λ n. later_after c.tries.settings n c.tries.end ≡ None) c.len.ensures
+    (sym c.later_after.ensures.later ∙ c.in_default.is) in
+    let ends = last_ends c.args.settings c.tries.settings (items_of c.args.events.now) c.tries.end c.tries.invariant.tries
+    c.tries.invariant.played over in
+    elim c.match-end.branch [
+      | in_default-2 w ↦ subst (λ r. IfOk r (IsEnd c.args.settings (items_of c.args.events.now))) (sym w.result-is) tt
+      | in_default-2-2 w ↦ subst (λ r. IfOk r (IsEnd c.args.settings (items_of c.args.events.now))) (sym w.result-is) ends
+    ]

@@ -1,9 +1,9 @@
 -- So far all tries ended by the line, and the last one was made with these settings.
 use Rattle.std.proofs.Common.{◌≤◌}
-use Rattle.std.specs.Prelude.{IfErr, IfOk, length}
+use Rattle.std.specs.Prelude.{IfErr, IfOk, IfSome, length}
 use Rattle.vdcp_list.specs.List.{items_of}
 use Rattle.vdcp_run.proofs.session.Session.play_events.Given as goal
-use Rattle.vdcp_run.specs.Run.{IsTried, IsTry, IsUntried, first_event}
+use Rattle.vdcp_run.specs.Run.{IsEarlier, IsTried, IsTry, IsUntried, first_event}
 
 abbrev pub invariant-tries : goal.invariant-tries
 invariant-tries g l = record {
@@ -14,6 +14,7 @@ invariant-tries g l = record {
   tries : IsTry l.initial.settings (items_of l.events) l.settings;
   played : IfOk l.end (IsTried l.settings (items_of l.events));
   untried : IfErr l.end (IsUntried l.settings (items_of l.events));
+  earlier : IfSome l.earlier (IsEarlier l.initial.settings (items_of l.events));
 }
 
 abbrev pub decreases-tries : goal.decreases-tries

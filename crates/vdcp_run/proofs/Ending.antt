@@ -1,0 +1,79 @@
+-- How a run ends over all its tries.
+use Rattle.std.proofs.Common.{◌≡◌, ℕ, List, refl, subst, sym}
+use Rattle.std.specs.Prelude.{IfOk, IfSome, None, Option, Result, Ok, Err, Some, length}
+use Rattle.vdcp_drive.specs.declared.hearing.Hearing.{Hearing}
+use Rattle.vdcp_drive.specs.declared.hearing.Hearing.TheVariants as hears
+use Rattle.vdcp_drive.specs.Ears.{Fold}
+use Rattle.vdcp_drive.specs.Steps.{World}
+use Rattle.vdcp_journal_file.specs.Recording.{Recording}
+use Rattle.vdcp_run.specs.Asking.{Start}
+use Rattle.vdcp_run.specs.Run.{IsAsrunMade, IsEarlier, IsEnd, IsEndWith, IsTried, IsTry, IsUntried, later_after, later_of, latest_end, name_of}
+use Rattle.vdcp_run.specs.Session.{HasSession, HasTried, TriesBy, had_ended, no_wire, played, tried, unbegun, unconnected}
+use Rattle.vdcp_run.specs.declared.run_end.RunEnd.{RunEnd}
+use Rattle.vdcp_run.specs.declared.saved.SavedText.{SavedText}
+use Rattle.vdcp_run.specs.declared.settings.RunJournal.{RunJournal}
+use Rattle.vdcp_run.specs.declared.settings.RunJournal.TheVariants as journals
+use Rattle.vdcp_run.specs.declared.settings.RunSettings.{RunSettings}
+use Rattle.vdcp_text.specs.declared.failure.Failure.{Failure}
+use Rattle.vdcp_value.specs.declared.part.Item.{Item}
+use Rattle.vdcp_wire.specs.Acts.{Act}
+
+-- a session's end is of no later try
+tried_unfailed : {E W F : Type 0} (does : Act → W → W → Type 0) (safe : F → Option (List ℕ)) (fold : Fold E)
+    (settings : RunSettings) (start : Start) (ear : E) (world : World W (Option (Recording F))) (last : W) (end : RunEnd)
+    → HasTried does safe fold settings start ear world last end → end.failed ≡ None
+tried_unfailed does safe fold settings start ear world last end (played ear' wire left asked plays) = plays.reports.unfailed
+tried_unfailed does safe fold settings start ear world last end (unbegun ear' left line asked is reports) = reports.unfailed
+
+tries_unfailed : {W F : Type 0} (hearing : Hearing) (does : Act → W → W → Type 0) (safe : F → Option (List ℕ))
+    (settings : RunSettings) (start : Start) (world : World W (Option (Recording F))) (last : W) (end : RunEnd)
+    → TriesBy hearing does safe settings start world last end → end.failed ≡ None
+tries_unfailed hears.AtSilences does safe settings start world last end h = tried_unfailed does safe _ settings start _ world last end h
+tries_unfailed hears.AtOnce does safe settings start world last end h = tried_unfailed does safe _ settings start _ world last end h
+
+unfailed : {F : Type 0} (safe : F → Option (List ℕ)) (settings : RunSettings) (start : Start)
+    (recorder : Option (Recording F)) (end : RunEnd) → HasSession safe settings start recorder end → end.failed ≡ None
+unfailed safe settings start recorder end (had_ended ended line signs reports) = reports.unfailed
+unfailed safe settings start recorder end (no_wire line reports) = reports.unfailed
+unfailed safe settings start recorder end (unconnected why is stays line reports) = reports.unfailed
+unfailed safe settings start recorder end (tried wire last opened limits tries) =
+    tries_unfailed settings.hearing _ safe settings start _ last end tries
+
+last_end : (settings last : RunSettings) (items : List Item) (end : RunEnd) → IsTry settings items last
+    → IsTried last items end → later_of last (length items) end ≡ None → IsEnd settings items end
+last_end settings last items end tries try over =
+    subst (λ (failed : Option Failure). IsEndWith settings items failed end) (sym (unfailed _ last try.start try.recorder end try.session))
+    (record { last = last; tries = tries; tried = try; over = over })
+
+pub last_ends : (settings last : RunSettings) (items : List Item) (end : Result RunEnd Failure) → IsTry settings items last
+    → IfOk end (IsTried last items) → later_after last (length items) end ≡ None → IfOk end (IsEnd settings items)
+last_ends settings last items (Ok end) tries try over = last_end settings last items end tries try over
+last_ends settings last items (Err failure) tries try over = tt
+
+pub latest_is : (settings last : RunSettings) (items : List Item) (end : Result RunEnd Failure) (earlier : Option RunEnd)
+    → IsTry settings items last → IfOk end (IsTried last items) → IfSome earlier (IsEarlier settings items)
+    → IfSome (latest_end end earlier) (IsEarlier settings items)
+latest_is settings last items (Ok end) earlier tries try before = record { with_settings = last; tries = tries; tried = try }
+latest_is settings last items (Err failure) earlier tries try before = before
+
+pub came_to_nothing : (settings last : RunSettings) (items : List Item) (failure : Failure) (before : RunEnd)
+    (asrun : Option (Result SavedText Failure)) → IsTry settings items last → IsUntried last items failure
+    → later_after last (length items) (Err failure) ≡ None → IsEarlier settings items before
+    → IfSome last.journal (λ journal. (from reported : ℕ)
+    → IsAsrunMade last.rate (Some (journals.Again (name_of journal))) items from reported last.asrun asrun)
+    → IsEnd settings items (record before { asrun = asrun; failed = Some failure })
+came_to_nothing settings last items failure before asrun tries untried over earlier made = record {
+  last = last;
+  tries = tries;
+  untried = untried;
+  over = over;
+  before = before;
+  earlier = earlier;
+  end_is = refl;
+  asrun = made_so last.journal made;
+} where
+  made_so : (journal : Option RunJournal) → IfSome journal (λ j. (from reported : ℕ)
+      → IsAsrunMade last.rate (Some (journals.Again (name_of j))) items from reported last.asrun asrun)
+      → IfSome journal (λ j. IsAsrunMade last.rate (Some (journals.Again (name_of j))) items before.from before.reported last.asrun asrun)
+  made_so None h = h
+  made_so (Some j) h = h before.from before.reported
