@@ -6,7 +6,7 @@ use std::alloc::{AllocError, Global};
 use vdcp_auto::Outcome;
 use vdcp_list::Timed;
 
-/// Why a run didn't report an event, though the next run began behind it.
+/// Why an event was left out: the next run began behind it.
 #[derive(Clone, Copy, Debug)]
 pub(crate) enum Skipped {
     /// The run ended since the server didn't have its clip.
@@ -66,7 +66,7 @@ pub(crate) fn why_skipped(unsettled: Option<usize>, outcome: Option<Outcome>) ->
     }
 }
 
-/// Why each of so many events was left out, of which the first was for this reason.
+/// The reason for each of so many events that were left out: the first has this one, all others were left out by hand.
 pub(crate) fn reasons(
     alloc: Global,
     count: usize,

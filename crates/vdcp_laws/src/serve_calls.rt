@@ -22,7 +22,7 @@ use vdcp_wire::Wire;
 /// What `Server::serve` leaves is what the laws of both ends take of a server (`IsServed`), with the port and the items that
 /// it leaves, if it hears at once (`prompt`), or at silences none of which tears a command (`untorn`, of what `serves` of
 /// `ServeLeaves` gives). It goes on from these ends, or has just begun (`new`). If the wire failed in the answer to a message,
-/// what came behind that message counts as never come.
+/// the law takes what came behind that message as lost.
 pub fn what_is_left_is_served<C: Catalogue, B: Wire, H: ServerHooks<C>>()
     ensures new { (hearing : Hearing) → HasRead hearing (new_ear hearing) (reading 0 []) }
     ensures prompt { (e : Ends) (count : ℕ) (server server' : Serving B) (h h' : H) (result : Result TurnsEnd DriveFault) →

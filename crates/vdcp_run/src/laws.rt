@@ -28,8 +28,8 @@ pub fn only_questions_are_asked<E: Ear, W: Wire>()
 {}
 
 /// A run that stays and begins anew in its journal begins behind all that aired or may have aired before, unless it is to
-/// send an event again that may have aired. It begins with the first event that isn't reported. If that event may have
-/// aired, can't be played or is left out by the operator, it begins behind it.
+/// send an event again that may have aired. It begins with the first event that isn't reported, or behind it: if that
+/// event may have aired, if it can't be played, or if the operator leaves it out.
 pub fn a_new_run_begins_behind()
     ensures { (before next : RunSettings) (items : List Item) (end : Result RunEnd Failure) (name : Bor (List ℕ))
         → CameTo before items end → later_after before (length items) end ≡ Some next
