@@ -4,16 +4,16 @@ use Rattle.vdcp_auto.specs.Plan.{Plan}
 use Rattle.vdcp_auto.specs.Turn.{start}
 use Rattle.vdcp_auto.specs.declared.phase.Mode.{Mode}
 use Rattle.vdcp_auto.specs.declared.phase.Mode.TheVariants.{Plain, Confirming}
-use Rattle.vdcp_drive.specs.Bursts.{ended_bursts, open_burst, finished_bursts}
 use Rattle.vdcp_drive.specs.Auto.{Auto, Event, after, arrives, calls}
-use Rattle.vdcp_drive.specs.Served.{served, after_bursts}
+use Rattle.vdcp_drive.specs.Served.{only, served}
+use Rattle.vdcp_drive.specs.Serving.{begins, left_by}
 use Rattle.vdcp_port.specs.Clock.{ClockedPort, new_port}
-use Rattle.vdcp_drive.specs.Courses.{new_auto}
+use Rattle.vdcp_drive.specs.declared.hearing.Hearing.TheVariants.{AtSilences}
 use Rattle.vdcp_drive.specs.declared.hooks.Call.TheVariants as call
-use Rattle.vdcp_drive.specs.Hearing.{Burst, at_once, at_silences}
+use Rattle.vdcp_drive.specs.Hearing.{Burst, begun, at_once, at_silences}
 use Rattle.vdcp_drive.specs.Reading.{Held, holds, skips, completed, held_after}
 use Rattle.vdcp_drive.specs.Steps.{opening, steps_of}
-use Rattle.vdcp_drive.specs.Traces.{acts_in, drops_in, sent_in}
+use Rattle.vdcp_drive.specs.Traces.{acts_in, sent_in}
 use Rattle.vdcp_wire.specs.Wires.{Arrival, bytes, silence, close}
 
 -- commands to port 1 of unit 0, and replies from it
@@ -40,6 +40,11 @@ idle_bytes = 0x02 ∷ 0x04 ∷ 0x30 ∷ 0x85 ∷ 0x01 ∷ 0x01 ∷ 0x49 ∷ []
 abbrev port : ClockedPort
 port = new_port [] 0 1 1
 
+-- the port once it was opened and selected
+abbrev selected : ClockedPort
+selected =
+    (left_by (begins AtSilences port) (only (bytes open_bytes ∷ silence ∷ bytes select_bytes ∷ silence ∷ []))).port
+
 -- OPEN; SELECT in two pieces; STATUS; the close
 opening_is_served : served port (bytes open_bytes ∷ silence ∷ bytes (0x02 ∷ 0x03 ∷ 0x20 ∷ []) ∷ bytes
     (0x22 ∷ 0x01 ∷ 0xBD ∷ []) ∷ silence
@@ -47,26 +52,14 @@ opening_is_served : served port (bytes open_bytes ∷ silence ∷ bytes (0x02 �
 opening_is_served = refl
 
 -- of a burst that the close cuts off, the whole messages are answered
-cut_off_burst_is_given_up : served (after_bursts port (open_bytes ∷ select_bytes ∷ []))
+cut_off_burst_is_given_up : served selected
     (bytes (0x02 ∷ 0x02 ∷ 0x10 ∷ 0x01 ∷ 0xEF ∷ 0x02 ∷ 0x02 ∷ 0x10 ∷ []) ∷ close ∷ []) ≡ 0x04 ∷ []
 cut_off_burst_is_given_up = refl
 
 -- at a silence its end would be answered too
-ended_burst_is_answered : served (after_bursts port (open_bytes ∷ select_bytes ∷ []))
+ended_burst_is_answered : served selected
     (bytes (0x02 ∷ 0x02 ∷ 0x10 ∷ 0x01 ∷ 0xEF ∷ 0x02 ∷ 0x02 ∷ 0x10 ∷ []) ∷ silence ∷ []) ≡ 0x04 ∷ 0x05 ∷ 0x80 ∷ []
 ended_burst_is_answered = refl
-
--- the bursts of what came
-bursts_are_cut_at_silences : ended_bursts (bytes (1 ∷ []) ∷ bytes (2 ∷ []) ∷ silence ∷ silence ∷ bytes (3 ∷ []) ∷ [])
-    ≡ (1 ∷ 2 ∷ []) ∷ [] ∷ []
-bursts_are_cut_at_silences = refl
-
-last_burst_is_open : open_burst (bytes (1 ∷ []) ∷ silence ∷ bytes (2 ∷ []) ∷ bytes (3 ∷ []) ∷ []) ≡ 2 ∷ 3 ∷ []
-last_burst_is_open = refl
-
-close_finishes_a_burst : finished_bursts (bytes (1 ∷ []) ∷ silence ∷ bytes (2 ∷ []) ∷ close ∷ [])
-    ≡ (1 ∷ []) ∷ (2 ∷ []) ∷ []
-close_finishes_a_burst = refl
 
 -- the plan of an empty playlist for port 1, with limit 3
 abbrev plan : Mode → Plan
@@ -77,7 +70,10 @@ abbrev answers : List Arrival
 answers = bytes granted_bytes ∷ silence ∷ bytes (0x04 ∷ []) ∷ silence ∷ bytes idle_bytes ∷ silence ∷ bytes (0x04 ∷ [])
     ∷ silence ∷ []
 
--- a new automation, what it has sent for all that came, and how many bytes had gone out before each drop
+-- a new automation, and what it has sent for all that came
+
+abbrev new_auto : Auto Burst
+new_auto = record { ear = begun (holds []); state = start }
 
 abbrev new_at_once : Auto Held
 new_at_once = record { ear = holds []; state = start }
@@ -85,14 +81,8 @@ new_at_once = record { ear = holds []; state = start }
 abbrev sent : Mode → List Arrival → List ℕ
 sent mode came = sent_in (acts_in (steps_of at_silences (plan mode) 0 new_auto (map arrives came)))
 
-abbrev dropped : Mode → List Arrival → List ℕ
-dropped mode came = drops_in 0 (acts_in (steps_of at_silences (plan mode) 0 new_auto (map arrives came)))
-
 empty_playlist_is_played : sent Plain answers ≡ open_bytes ++ select_bytes ++ status_bytes ++ close_bytes
 empty_playlist_is_played = refl
-
-each_command_has_a_drop : dropped Plain answers ≡ 0 ∷ 7 ∷ 13 ∷ 19 ∷ []
-each_command_has_a_drop = refl
 
 -- in confirm mode the three answers after SELECT end nothing, and SELECT is still awaited
 receipts_confirm_nothing : sent Confirming answers ≡ open_bytes ++ select_bytes
@@ -113,14 +103,14 @@ close_is_a_time_out = refl
 
 -- the operator stops after a run that ended inside the answer to OPEN: the next one hears the rest of it, and then
 -- sends STOP and CLOSE
-abbrev begun : Auto Burst
-begun = after at_silences (plan Plain) 0 new_auto (arrives (bytes (0x02 ∷ 0x03 ∷ 0x30 ∷ [])) ∷ [])
+abbrev torn : Auto Burst
+torn = after at_silences (plan Plain) 0 new_auto (arrives (bytes (0x02 ∷ 0x03 ∷ 0x30 ∷ [])) ∷ [])
 
 abbrev since : List Event
 since = calls call.Stop ∷ arrives (bytes (0x81 ∷ 0x01 ∷ 0x4E ∷ [])) ∷ arrives silence ∷ arrives (bytes (0x04 ∷ []))
     ∷ arrives silence ∷ arrives (bytes (0x04 ∷ [])) ∷ arrives silence ∷ []
 
-stop_goes_out_after_a_torn_answer : sent_in (acts_in (steps_of at_silences (plan Plain) 0 begun since))
+stop_goes_out_after_a_torn_answer : sent_in (acts_in (steps_of at_silences (plan Plain) 0 torn since))
     ≡ (0x02 ∷ 0x02 ∷ 0x10 ∷ 0x00 ∷ 0xF0 ∷ []) ++ close_bytes
 stop_goes_out_after_a_torn_answer = refl
 

@@ -2,17 +2,16 @@
 use Rattle.std.proofs.Common.{ℕ, ◌≡◌, Bool, true, false, List, [], ◌∷◌, ◌++◌, map, refl, sym, ap, subst, ◌∙◌, append_assoc, append-nil}
 use Rattle.std.specs.Prelude.{Option, Some, Result, Err}
 use Rattle.vdcp_auto.specs.Plan.{Plan}
-use Rattle.vdcp_auto.specs.State.{State}
-use Rattle.vdcp_auto.specs.Turn.{given, ticked}
+use Rattle.vdcp_auto.specs.State.{State, Stage, Ready, Awaiting, Ended}
+use Rattle.vdcp_auto.specs.Turn.{given, ticked, tick_in}
 use Rattle.vdcp_auto.specs.declared.exchange.Exchange.{Exchange}
 use Rattle.vdcp_wire.specs.Acts.{Act, sends, brings, fails, Tells}
 use Rattle.vdcp_wire.specs.Wires.{Arrival, Told}
-use Rattle.vdcp_drive.specs.Auto.{Auto, Event, after, arrivals, arrives, calls, ended, gives, heeds, listens, log_of}
+use Rattle.vdcp_drive.specs.Auto.{Auto, Event, after, arrives, calls, ended, gives, heeds, listens, log_of}
 use Rattle.vdcp_drive.specs.Ears.{Fold, inputs}
 use Rattle.vdcp_drive.specs.Keeping.{HasKept, KeepsRun, notes_of}
 use Rattle.vdcp_drive.specs.Leaves.{Ending, by_itself, asked_before, by_hooks, in_keep, in_drop, in_send, in_listen, HasRun, steps_in}
 use Rattle.vdcp_drive.specs.Steps.{Chain, Step, acts, asks, keeps, misses, Rules, World, Does, Happens, command_bytes, dropping, sending, given_notes, ended_notes, opening, round, steps_of}
-use Rattle.vdcp_drive.specs.Tells.{told_after_all}
 use Rattle.vdcp_drive.specs.Traces.{acts_in, kept_in, sent_in, came_in, commands_kept, bytes_of, exchanged, kept_of, awaited_notes}
 use Rattle.vdcp_drive.specs.declared.hooks.Kept.{Kept}
 use Rattle.vdcp_drive.specs.declared.hooks.Next.{Next}
@@ -20,9 +19,16 @@ use Rattle.vdcp_drive.specs.declared.hooks.BrokenOff.{BrokenOff}
 use Rattle.vdcp_drive.specs.declared.hooks.BrokenOff.TheVariants as fault
 use Rattle.vdcp_drive.specs.declared.line.Ran.{Ran}
 use Rattle.vdcp_drive.proofs.Chains.{chain_split}
-use Rattle.vdcp_drive.proofs.Coursing.{ticked_twice}
-use Rattle.vdcp_drive.proofs.Telling.{came_told, run_carries, sent_told}
+use Rattle.vdcp_drive.proofs.Telling.{came_told, run_carries, sent_told, told_after_all}
 use Rattle.vdcp_drive.proofs.Tracing.{acts_of_acts, exchanged_both, given_exchanged, gives_notes, rows_both, rows_of_acts, sending_bytes, sending_came, steps_bytes, steps_came, steps_kept, traces}
+
+ticked_at : (stage : Stage) (s : State) → s.stage ≡ stage → ticked (tick_in stage s) ≡ tick_in stage s
+ticked_at (Ready p) s is = refl
+ticked_at (Awaiting p) s is = ap (λ (x : Stage). tick_in x s) is
+ticked_at (Ended outcome) s is = ap (λ (x : Stage). tick_in x s) is
+
+ticked_twice : (s : State) → ticked (ticked s) ≡ ticked s
+ticked_twice s = ticked_at s.stage s refl
 
 -- all commands of these steps are kept
 abbrev MissesNone : List Step → Type 0
@@ -128,11 +134,11 @@ record Last {E : Type 0} (fold : Fold E) (plan : Plan) (unit : ℕ) (b a' : Auto
   sent : sent_in (acts_in more) ++ unsent ≡ bytes_of unit (commands_kept (kept_in more))
   nothing_came : came_in (acts_in more) ≡ []
 
-pub send_sent : (first : Bool) (front : List ℕ) → sent_in (dropping first ++ sends front ∷ []) ≡ front
+send_sent : (first : Bool) (front : List ℕ) → sent_in (dropping first ++ sends front ∷ []) ≡ front
 send_sent true front = append-nil front
 send_sent false front = append-nil front
 
-pub send_came : (first : Bool) (front : List ℕ) → came_in (dropping first ++ sends front ∷ []) ≡ []
+send_came : (first : Bool) (front : List ℕ) → came_in (dropping first ++ sends front ∷ []) ≡ []
 send_came true front = refl
 send_came false front = refl
 

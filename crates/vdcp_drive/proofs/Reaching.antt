@@ -1,5 +1,5 @@
 -- A run leads to states that calls of a controller lead to.
-use Rattle.std.proofs.Common.{ℕ, ◌≡◌, ◌≢◌, Bool, List, length, [], ◌∷◌, ◌++◌, refl, sym, subst, append_assoc, append-nil, arith}
+use Rattle.std.proofs.Common.{ℕ, ◌≡◌, ◌≢◌, List, length, [], ◌∷◌, ◌++◌, refl, sym, subst, append_assoc, append-nil, arith}
 use Rattle.std.specs.Option.{option_to_list}
 use Rattle.std.specs.Prelude.{◌↔◌, if◌then◌else◌, Option, Some, None, Result, Ok, Err, IfOk, IsSome}
 use Rattle.vdcp_value.specs.declared.part.Item.{Item}
@@ -33,7 +33,7 @@ receives_reached plan (x ∷ hs) s log h =
     simp append_assoc at (receives_reached plan hs (came_to plan x s) (log ++ option_to_list (ended_by plan x s))
     (rw logged_so at (called h (Receive x))))
 
-pub run_reached : {E : Type 0} (fold : Fold E) (plan : Plan) (unit : ℕ) (a : Auto E) (events : List Event)
+run_reached : {E : Type 0} (fold : Fold E) (plan : Plan) (unit : ℕ) (a : Auto E) (events : List Event)
     (log : List Exchange) → Reached plan a.state log
     → Reached plan (after fold plan unit a events).state (log ++ log_of fold plan unit a events)
 run_reached fold plan unit a [] log h = subst (Reached plan a.state) (sym (append-nil log)) h

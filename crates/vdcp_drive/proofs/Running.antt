@@ -1,5 +1,5 @@
 -- A run: one turn of it, and one turn more.
-use Rattle.std.proofs.Common.{ℕ, ◌≡◌, ◌+◌, ◌<◌, ◌≢◌, Bool, true, false, List, [], ◌∷◌, ◌++◌, length, map, refl, sym, ap, ap₂, subst, ◌∙◌, append_assoc, append-nil, length-append, arith}
+use Rattle.std.proofs.Common.{ℕ, ◌≡◌, ◌+◌, ◌<◌, ◌≢◌, false, List, [], ◌∷◌, ◌++◌, length, map, refl, sym, ap, ap₂, subst, ◌∙◌, append_assoc, append-nil, length-append, arith}
 use Rattle.std.proofs.lemmas.List.Elements.{All-append, All-cons, All-nil}
 use Rattle.std.specs.Prelude.{All, Option, Some, None, Result, Ok, Err, IsNone, IsSome}
 use Rattle.vdcp_words.specs.declared.command.Command.{Command}
@@ -23,19 +23,18 @@ use Rattle.vdcp_drive.specs.declared.hooks.BrokenOff.{BrokenOff}
 use Rattle.vdcp_drive.specs.declared.hooks.BrokenOff.TheVariants as fault
 use Rattle.vdcp_drive.specs.declared.hooks.Kept.TheVariants as row
 use Rattle.vdcp_drive.specs.declared.line.Line.{Line}
-use Rattle.vdcp_drive.specs.declared.line.Line.TheVariants as line
 use Rattle.vdcp_drive.specs.declared.line.Ran.{Ran}
 use Rattle.vdcp_drive.specs.declared.line.Ran.TheVariants as ran
 use Rattle.vdcp_drive.proofs.Chains.{chain_both, at, on_line, on_journal}
 
 -- a run that goes on
-pub after_both : {E : Type 0} (fold : Fold E) (plan : Plan) (unit : ℕ) (a : Auto E) (xs ys : List Event)
+after_both : {E : Type 0} (fold : Fold E) (plan : Plan) (unit : ℕ) (a : Auto E) (xs ys : List Event)
     → after fold plan unit a (xs ++ ys) ≡ after fold plan unit (after fold plan unit a xs) ys
 after_both fold plan unit a [] ys = refl
 after_both fold plan unit a (arrives x ∷ xs) ys = after_both fold plan unit (listens fold plan unit x (gives a)) xs ys
 after_both fold plan unit a (calls c ∷ xs) ys = after_both fold plan unit (heeds c a) xs ys
 
-pub steps_both : {E : Type 0} (fold : Fold E) (plan : Plan) (unit : ℕ) (a : Auto E) (xs ys : List Event)
+steps_both : {E : Type 0} (fold : Fold E) (plan : Plan) (unit : ℕ) (a : Auto E) (xs ys : List Event)
     → steps_of fold plan unit a (xs ++ ys)
     ≡ steps_of fold plan unit a xs ++ steps_of fold plan unit (after fold plan unit a xs) ys
 steps_both fold plan unit a [] ys = refl
@@ -274,23 +273,6 @@ last_both : (xs ys : List Arrival) → has_closed xs ≡ false → until_close y
 last_both [] ys h last = last
 last_both (close ∷ xs) ys h last = cc
 last_both (x ∷ xs) ys h last = ap (λ (l : List Arrival). x ∷ l) (last_both xs ys h last)
-
-abbrev pub closing : Line → Bool
-closing line.More = false
-closing line.Ended = false
-closing line.Closed = true
-
-one_closed : (what : Arrival) → has_closed (what ∷ []) ≡ closing (line_of what)
-one_closed (bytes piece) = refl
-one_closed what = refl
-
-pub closed_more : (came : List Arrival) (what : Arrival) → has_closed came ≡ false
-    → has_closed (came ++ what ∷ []) ≡ closing (line_of what)
-closed_more came what h = closed_both came (what ∷ []) h ∙ one_closed what
-
-pub last_more : (came : List Arrival) (what : Arrival) → has_closed came ≡ false
-    → until_close (came ++ what ∷ []) ≡ came ++ what ∷ []
-last_more came what h = last_both came (what ∷ []) h (one_closes what)
 
 happened_both : {E W J : Type 0} (rules : Rules W J) (fold : Fold E) (plan : Plan) (unit : ℕ) (made : ℕ) (a b : Auto E)
     (world world' world₂ : World W J) (ys : List Event) (more : List Step)

@@ -7,9 +7,8 @@ use Rattle.vdcp_auto.specs.State.{State}
 use Rattle.vdcp_auto.specs.Turn.{given, ticked}
 use Rattle.vdcp_auto.specs.declared.exchange.Exchange.{Exchange}
 use Rattle.vdcp_auto.specs.declared.exchange.Heard.{Heard}
-use Rattle.vdcp_wire.specs.Wires.{Arrival}
 use Rattle.vdcp_wire.specs.Acts.{sends, brings, fails}
-use Rattle.vdcp_drive.specs.Auto.{Auto, Event, after, arrivals, arrives, calls, ended, gives, heeds, listens}
+use Rattle.vdcp_drive.specs.Auto.{Auto, Event, after, arrives, calls, ended, gives, heeds, listens}
 use Rattle.vdcp_drive.specs.Ears.{Fold, inputs}
 use Rattle.vdcp_drive.specs.Leaves.{Ending, by_itself, by_hooks, in_keep, in_drop, in_send, in_listen, IsRun, steps_in}
 use Rattle.vdcp_drive.specs.Safe.{AreSafe, IsFrontOf, IsCut, here, within, on}

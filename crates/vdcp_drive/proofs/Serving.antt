@@ -18,7 +18,7 @@ use Rattle.vdcp_drive.specs.ServeLeaves.{HasTurned, ServeLeaves, Serves, ServesT
 use Rattle.vdcp_drive.specs.Below.{Below}
 use Rattle.vdcp_drive.specs.Steps.{Chain}
 use Rattle.vdcp_drive.specs.ServerEars.{ServerEar, HasRead, after_rest, in_burst, in_stream, rests, says}
-use Rattle.vdcp_drive.specs.Serving.{HookStep, IsCutShort, Look, Service, Serving, acts_of, asked, broken_steps, hook_steps, items_in, left_by, lent, look_at, serves, turn_acts}
+use Rattle.vdcp_drive.specs.Serving.{HookStep, IsCutShort, Look, Service, Serving, acts_of, asked, broken_steps, hook_steps, left_by, lent, look_at, serves, turn_acts}
 use Rattle.vdcp_drive.specs.declared.hearing.Hearing.{Hearing}
 use Rattle.vdcp_drive.specs.declared.hearing.Hearing.TheVariants.{AtSilences, AtOnce}
 use Rattle.vdcp_drive.specs.declared.line.DriveFault.{DriveFault}
@@ -41,7 +41,7 @@ cut_so does can hearing s wire (Ok t) port' reader' aired' wire' is done cut act
 cut_so does can hearing s wire (Err e) port' reader' aired' wire' is done cut acted = (done, cut, acted)
 
 -- a reader's end is that of its burst
-pub ends_alike : (law : Below) (one : (burst : List ℕ) (ms ns : List Content) (end : End) (ended : Ended)
+ends_alike : (law : Below) (one : (burst : List ℕ) (ms ns : List Content) (end : End) (ended : Ended)
     → Reads burst ms end → ReadsAs burst ns ended → end_answers end ≡ option_to_list (reply_at_end ended))
     → (ear : ServerEar) (reader : Progress) → HasRead AtSilences ear reader
     → option_to_list (reply_at_end (ended_of reader)) ≡ says ear
@@ -50,34 +50,23 @@ ends_alike law one (in_burst burst) reader h =
     (law.read burst (messages_of burst) reader h.follows))
 ends_alike law one (in_stream held) reader h = absurd h
 
-pub begins_burst : (law : Below) (ear : ServerEar) (reader : Progress) → HasRead AtSilences ear reader
+begins_burst : (law : Below) (ear : ServerEar) (reader : Progress) → HasRead AtSilences ear reader
     → HasRead AtSilences (rests ear) (reading 0 [])
 begins_burst law (in_burst burst) reader h = record { octets = All-nil (λ b. b < 256); follows = law.start }
 begins_burst law (in_stream held) reader h = absurd h
 
 -- in a stream, after a fault and else
-pub says_fault : (ear : ServerEar) (reader : Progress) → HasRead AtOnce ear reader → is_failed reader ≡ true
+says_fault : (ear : ServerEar) (reader : Progress) → HasRead AtOnce ear reader → is_failed reader ≡ true
     → option_to_list (reply_at_end (ended_of reader)) ≡ says ear
 says_fault (in_burst burst) reader h is = absurd h
 says_fault (in_stream held) (reading taken bytes) h is = absurd cc
 says_fault (in_stream held) failed h is = rw h.is refl
 
-pub says_none : (ear : ServerEar) (reader : Progress) → HasRead AtOnce ear reader → is_failed reader ≡ false → [] ≡ says ear
-says_none (in_burst burst) reader h is = absurd h
-says_none (in_stream held) (reading taken bytes) h is = rw h.is refl
-says_none (in_stream held) failed h is = absurd cc
-
-pub goes_anew : (law : Below) (ear : ServerEar) (reader : Progress) → HasRead AtOnce ear reader → is_failed reader ≡ true
+goes_anew : (law : Below) (ear : ServerEar) (reader : Progress) → HasRead AtOnce ear reader → is_failed reader ≡ true
     → HasRead AtOnce (rests ear) (reading 0 [])
 goes_anew law (in_burst burst) reader h is = absurd h
 goes_anew law (in_stream held) (reading taken bytes) h is = absurd cc
 goes_anew law (in_stream held) failed h is = rw h.is (record { is = refl; afoot = (refl, law.start.unfinished) })
-
-pub goes_further : (ear : ServerEar) (reader : Progress) → HasRead AtOnce ear reader → is_failed reader ≡ false
-    → HasRead AtOnce (rests ear) reader
-goes_further (in_burst burst) reader h is = absurd h
-goes_further (in_stream held) (reading taken bytes) h is = rw h.is (record { is = refl; afoot = h.afoot })
-goes_further (in_stream held) failed h is = absurd cc
 
 -- what a silence is answered, and the reader behind it
 pub silenced : (law : Below) (one : (burst : List ℕ) (ms ns : List Content) (end : End) (ended : Ended)
@@ -269,17 +258,3 @@ breaks_so {W} {H} {does} {can} {doing} {failures} {made} {old} {new} {new'} {hoo
       device = fails;
       stays = λ failed. absurd (omega (arith, worked, failed));
     }
-
--- What hooks tell.
-
-pub tells_steps : {H : Type 0} (doing : HookStep → H → H → Type 0) (tell : H → List Item) (steps : List HookStep)
-    (old new : H) → ((step : HookStep) (a b : H) → doing step a b → tell b ≡ tell a ++ items_in (step ∷ []))
-    → Chain doing steps old new → tell new ≡ tell old ++ items_in steps
-tells_steps doing tell [] old new each h = ap tell h ∙ sym (append-nil (tell old))
-tells_steps doing tell (step ∷ steps) old new each h =
-    tells_steps doing tell steps h.0 new each h.2 ∙ ap (λ (l : List Item). l ++ items_in steps) (each step old h.0 h.1)
-    ∙ append_assoc (tell old) (items_in (step ∷ [])) (items_in steps)
-    ∙ ap (λ (l : List Item). tell old ++ l) (one_more step steps) where
-      one_more : (step : HookStep) (steps : List HookStep) → items_in (step ∷ []) ++ items_in steps ≡ items_in (step ∷ steps)
-      one_more (asked answer) steps = refl
-      one_more (lent look) steps = ap (λ (l : List Item). l ++ items_in steps) (append-nil (option_to_list look.aired))

@@ -45,7 +45,7 @@ front_within whole rest bytes is =
     let few : min burst_limit (length bytes) ≤ burst_limit = grind (arith, common_steps) in omega (arith, n, m, few)
 
 -- more bytes complete more messages
-pub messages_grow : (law : Below) (burst piece : List ℕ) → AreOctets burst → AreOctets (burst ++ piece)
+messages_grow : (law : Below) (burst piece : List ℕ) → AreOctets burst → AreOctets (burst ++ piece)
     → messages_of (burst ++ piece) ≡ messages_of burst ++ completed burst piece
 messages_grow law burst piece fits both =
     let r : Reads burst (messages_of burst) (end_of burst) = law.some burst fits in

@@ -1,5 +1,5 @@
 -- What the steps of a run come to: its rows are those of the exchanges, and what went out is the bytes of its rows.
-use Rattle.std.proofs.Common.{ℕ, ◌≡◌, ◌+◌, Bool, true, false, List, [], ◌∷◌, ◌++◌, length, map, refl, sym, ap, ap₂, ◌∙◌, append_assoc, append-nil, length-append, arith}
+use Rattle.std.proofs.Common.{ℕ, ◌≡◌, ◌+◌, Bool, true, false, List, [], ◌∷◌, ◌++◌, map, refl, sym, ap, ◌∙◌, append_assoc, append-nil, arith}
 use Rattle.std.proofs.lemmas.Grind.{common_steps, flat_map-append}
 use Rattle.std.proofs.lemmas.List.{map-append}
 use Rattle.std.specs.Option.{option_to_list, option_map_or}
@@ -8,18 +8,18 @@ use Rattle.vdcp_words.specs.declared.command.Command.{Command}
 use Rattle.vdcp_auto.specs.Plan.{Plan}
 use Rattle.vdcp_auto.specs.State.{State, Stage, Ready, Awaiting, Ended}
 use Rattle.vdcp_auto.specs.Turn as turns
-use Rattle.vdcp_auto.specs.Turn.{given, ticked, tick_in, awaited, awaited_in, came_to, ended_by, ended_in, exchange_of, is_end, transition_of, unanswered_after}
+use Rattle.vdcp_auto.specs.Turn.{given, ticked, awaited, awaited_in, came_to, ended_by, ended_in, exchange_of, transition_of, unanswered_after}
 use Rattle.vdcp_auto.specs.declared.exchange.Exchange.{Exchange}
 use Rattle.vdcp_auto.specs.declared.exchange.Heard.{Heard}
 use Rattle.vdcp_auto.specs.declared.phase.Mode.{Mode}
 use Rattle.vdcp_auto.specs.declared.phase.Transition.{Transition}
 use Rattle.vdcp_auto.specs.declared.phase.Transition.TheVariants.{Goes}
 use Rattle.vdcp_wire.specs.Wires.{Arrival}
-use Rattle.vdcp_wire.specs.Acts.{Act, sends, brings, drops}
+use Rattle.vdcp_wire.specs.Acts.{Act, sends, brings}
 use Rattle.vdcp_drive.specs.Auto.{Auto, Event, after, arrivals, arrives, calls, ended, gives, heeds, listens, log_of, receives}
 use Rattle.vdcp_drive.specs.Ears.{Fold, inputs}
-use Rattle.vdcp_drive.specs.Steps.{Step, acts, keeps, command_bytes, sending, given_notes, ended_notes, end_of, opening, steps_of}
-use Rattle.vdcp_drive.specs.Traces.{acts_in, kept_in, sent_in, came_in, drops_in, commands_kept, bytes_of, exchanged, kept_of, awaited_notes, places, starts_behind}
+use Rattle.vdcp_drive.specs.Steps.{Step, acts, keeps, sending, given_notes, ended_notes, end_of, steps_of}
+use Rattle.vdcp_drive.specs.Traces.{acts_in, kept_in, sent_in, came_in, commands_kept, bytes_of, exchanged, kept_of, awaited_notes}
 use Rattle.vdcp_drive.specs.declared.hooks.Call.{Call}
 use Rattle.vdcp_drive.specs.declared.hooks.Call.TheVariants as call
 use Rattle.vdcp_drive.specs.declared.hooks.Kept.{Kept}
@@ -134,14 +134,6 @@ receives_rows plan (h ∷ hs) s =
 
 -- A round.
 
-pub opening_rows : {E : Type 0} (fold : Fold E) (plan : Plan) (unit : ℕ) (a : Auto E)
-    → kept_in (opening fold plan unit a) ≡ given_notes (given plan a.state)
-opening_rows fold plan unit a = simp traces
-
-pub opening_acts : {E : Type 0} (fold : Fold E) (plan : Plan) (unit : ℕ) (a : Auto E)
-    → acts_in (opening fold plan unit a) ≡ sending fold.drops unit (given plan a.state)
-opening_acts fold plan unit a = simp traces
-
 abbrev ends_in : {E : Type 0} → Fold E → Plan → ℕ → Arrival → Auto E → List Exchange
 ends_in fold plan unit what a = ended plan (inputs fold unit what a.ear) (ticked a.state)
 
@@ -219,47 +211,3 @@ steps_came fold plan unit a [] = refl
 steps_came fold plan unit a (arrives what ∷ later) =
     simp (traces, sending_came, steps_came fold plan unit (listens fold plan unit what (gives a)) later)
 steps_came fold plan unit a (calls c ∷ later) = steps_came fold plan unit (heeds c a) later
-
--- Where what waits was dropped: before each command, or nowhere.
-pub drops_both : (n : ℕ) (xs ys : List Act) → drops_in n (xs ++ ys) ≡ drops_in n xs ++ drops_in (n + length (sent_in xs)) ys
-drops_both n [] ys = ap (λ (m : ℕ). drops_in m ys) (omega arith)
-drops_both n (sends b ∷ xs) ys =
-    drops_both (n + length b) xs ys
-    ∙ ap (λ (m : ℕ). drops_in (n + length b) xs ++ drops_in m ys) (omega (arith, length-append b (sent_in xs)))
-drops_both n (drops ∷ xs) ys = ap (λ (l : List ℕ). n ∷ l) (drops_both n xs ys)
-drops_both n (x ∷ xs) ys = drops_both n xs ys
-
-pub sending_drops : (first : Bool) (unit n : ℕ) (g : Option Command)
-    → drops_in n (sending first unit g) ≡ places first unit n (commands_kept (given_notes g))
-sending_drops true unit n None = refl
-sending_drops false unit n None = refl
-sending_drops true unit n (Some c) = refl
-sending_drops false unit n (Some c) = refl
-
-pub places_both : (first : Bool) (unit n : ℕ) (xs ys : List Command)
-    → places first unit n (xs ++ ys) ≡ places first unit n xs ++ places first unit (n + length (bytes_of unit xs)) ys
-places_both false unit n xs ys = refl
-places_both true unit n [] ys = ap (λ (m : ℕ). starts_behind unit m ys) (omega arith)
-places_both true unit n (c ∷ xs) ys =
-    ap (λ (l : List ℕ). n ∷ l) (places_both true unit (n + length (command_bytes unit c)) xs ys
-    ∙ ap (λ (m : ℕ). starts_behind unit (n + length (command_bytes unit c)) xs ++ starts_behind unit m ys)
-    (omega (arith, length-append (command_bytes unit c) (bytes_of unit xs))))
-
-pub steps_drops : {E : Type 0} (fold : Fold E) (plan : Plan) (unit n : ℕ) (a : Auto E) (events : List Event)
-    → drops_in n (acts_in (steps_of fold plan unit a events))
-    ≡ places fold.drops unit n (commands_kept (kept_in (steps_of fold plan unit a events)))
-steps_drops fold plan unit n a [] = by fold.drops where
-  by : (first : Bool) → [] ≡ places first unit n []
-  by true = refl
-  by false = refl
-steps_drops {E} fold plan unit n a (arrives what ∷ later) =
-    let b : Auto E = listens fold plan unit what (gives a) in
-    let cs : List Command = commands_kept (given_notes (given plan a.state)) in
-    simp (traces, ends_nothing) (simp (
-      drops_both,
-      sending_drops,
-      sending_bytes,
-      steps_drops fold plan unit (n + length (bytes_of unit cs)) b later,
-      places_both fold.drops unit n cs (commands_kept (kept_in (steps_of fold plan unit b later))),
-    ))
-steps_drops fold plan unit n a (calls c ∷ later) = steps_drops fold plan unit n (heeds c a) later

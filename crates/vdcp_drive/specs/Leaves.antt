@@ -9,7 +9,7 @@ use Rattle.vdcp_auto.specs.Turn.{given, ticked, outcome_of}
 use Rattle.vdcp_auto.specs.declared.outcome.Outcome.{Outcome}
 use Rattle.vdcp_wire.specs.Wires.{Arrival, bytes, silence, close, has_closed}
 use Rattle.vdcp_wire.specs.Acts.{Act, sends, brings, fails}
-use Rattle.vdcp_drive.specs.Auto.{Auto, AreMade, Driving, Event, IsReachedFrom, arrivals, auto_of, after, called, ended, gives, receives}
+use Rattle.vdcp_drive.specs.Auto.{Auto, AreMade, Driving, Event, IsReachedFrom, arrivals, auto_of, after, ended, gives, receives}
 use Rattle.vdcp_drive.specs.Ears.{Fold, inputs, ear_after}
 use Rattle.vdcp_drive.specs.Lines.{line_of}
 use Rattle.vdcp_drive.specs.Steps.{Chain, Step, acts, asks, keeps, misses, Rules, World, Happens, command_bytes, dropping, sending, ended_notes, given_notes, opening, steps_of}

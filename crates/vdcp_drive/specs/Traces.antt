@@ -1,7 +1,7 @@
 -- What the steps of a run come to.
 use Rattle.std.specs.List.{flat_map}
 use Rattle.std.specs.Option.{option_to_list}
-use Rattle.std.specs.Prelude.{ℕ, ◌+◌, List, [], ◌∷◌, ◌++◌, length, map, Bool, true, false}
+use Rattle.std.specs.Prelude.{ℕ, List, [], ◌∷◌, ◌++◌, map}
 use Rattle.vdcp_words.specs.declared.command.Command.{Command}
 use Rattle.vdcp_auto.specs.Plan.{Plan}
 use Rattle.vdcp_auto.specs.State.{State}
@@ -43,13 +43,6 @@ came_in (brings what ∷ later) = what ∷ came_in later
 came_in (drops ∷ later) = came_in later
 came_in (fails ∷ later) = came_in later
 
-abbrev pub drops_in : ℕ → List Act → List ℕ
-drops_in n [] = []
-drops_in n (sends b ∷ later) = drops_in (n + length b) later
-drops_in n (brings what ∷ later) = drops_in n later
-drops_in n (drops ∷ later) = n ∷ drops_in n later
-drops_in n (fails ∷ later) = drops_in n later
-
 -- the commands of rows
 abbrev pub commands_kept : List Kept → List Command
 commands_kept [] = []
@@ -82,12 +75,3 @@ until_close [] = []
 until_close (bytes piece ∷ later) = bytes piece ∷ until_close later
 until_close (silence ∷ later) = silence ∷ until_close later
 until_close (close ∷ later) = close ∷ []
-
--- how many bytes stand before each command, if n stand before the first; and that for drops before each, or none
-abbrev pub starts_behind : ℕ → ℕ → List Command → List ℕ
-starts_behind unit n [] = []
-starts_behind unit n (c ∷ commands) = n ∷ starts_behind unit (n + length (command_bytes unit c)) commands
-
-abbrev pub places : Bool → ℕ → ℕ → List Command → List ℕ
-places true unit n commands = starts_behind unit n commands
-places false unit n commands = []

@@ -1,16 +1,12 @@
 //! The automation's end: it sends commands, and hears what comes for them.
-ghost use Rattle.std.specs.Prelude.{◌≡◌, ◌≢◌, ◌≤◌, ◌<◌, ◌↔◌, ◌∷◌, [], length, take, map, true, false, if◌then◌else◌, OnErr, OnOk, IfOk, IsErr, IsFalse, IsSome, IsTrue, Some, Err, Ok, ⊤};
-ghost use Rattle.std.specs.Option.{option_to_list};
+ghost use Rattle.std.specs.Prelude.{◌≡◌, ◌≢◌, ◌≤◌, ◌<◌, ◌∷◌, [], take, true, false, if◌then◌else◌, OnErr, OnOk, IsErr, IsFalse, IsTrue, Some, Err, Ok};
 ghost use Rattle.vdcp_frame.specs.Message.{AreOctets};
 ghost use Rattle.vdcp_auto.specs.Plan.{plan_of};
 ghost use Rattle.vdcp_auto.specs.Turn as turns;
-ghost use Rattle.vdcp_wire.specs.Wires.{IfTold, Told, has_closed};
-ghost use Rattle.vdcp_wire.specs.Acts.{fails};
-ghost use Rattle.vdcp_drive.specs.Auto.{IsReachedFrom, auto_of, called, ended, receives};
+ghost use Rattle.vdcp_drive.specs.Auto.{called, ended, receives};
 ghost use Rattle.vdcp_drive.specs.Leaves.{HasKeptAndSent, HasListened, HasRun, HasSent, HearsPiece, Notes, RunLeaves};
 ghost use Rattle.vdcp_drive.specs.Lines.{is_broken, ran_of, ran_unless_ended};
-ghost use Rattle.vdcp_drive.specs.Tells.{BreaksOn, RunsOn};
-ghost use Rattle.vdcp_drive.specs.Steps.{Chain, dropping, ended_notes};
+ghost use Rattle.vdcp_drive.specs.Steps.{Chain, ended_notes};
 
 use crate::ear::Ear;
 use crate::hooks::{BrokenOff, Call, Hooks, KeepFault, Next, Unhooked};
@@ -19,8 +15,7 @@ use std::marker::Model;
 use vdcp_auto::{Controller, Heard, Source};
 use vdcp_wire::{Came, PIECE, Wire, WireFault};
 
-/// The automation's end of one playout channel: `send` sends a command, `listen` hears what came, `run` does both in
-/// turn.
+/// The automation's end of one playout channel: `run_with` sends commands and hears what comes, turn by turn.
 #[derive(Drop)]
 pub struct Driver<S: Source, E: Ear, W: Wire> {
     controller: Controller<S>,
@@ -62,32 +57,6 @@ impl<S: Source, E: Ear, W: Wire> Driver<S, E, W> {
         &self.controller
     }
 
-    pub fn wire(&self) -> &W
-        ensures { result.now ≡ self.now.wire }
-    {
-        &self.wire
-    }
-
-    /// As `Controller::take`.
-    pub fn take(&mut self)
-        ensures { self.new ≡ record self.old {
-          controller = record
-              self.old.controller { state = turns.taken self.old.controller.state };
-        } }
-    {
-        self.controller.take();
-    }
-
-    /// As `Controller::stop`.
-    pub fn stop(&mut self)
-        ensures { self.new ≡ record self.old {
-          controller = record
-              self.old.controller { state = turns.stopped self.old.controller.state };
-        } }
-    {
-        self.controller.stop();
-    }
-
     /// Sends the next command, and says whether there was one: none while an answer is awaited and after the end.
     pub fn send(&mut self) -> Result<bool, DriveFault>
         ensures sends { W.failures self.old.wire ≡ 0 → HasSent W.does E.fold.drops
@@ -114,60 +83,6 @@ impl<S: Source, E: Ear, W: Wire> Driver<S, E, W> {
                 self.failed = true;
                 Err(DriveFault::Device)
             }
-            Err(BrokenOff::Unkept) => unreachable!(),
-            Err(BrokenOff::Left) => unreachable!(),
-        }
-    }
-
-    /// Listens once on the wire, and hears what came.
-    pub fn listen(&mut self) -> Result<Line, DriveFault>
-        ensures hears { W.failures self.old.wire ≡ 0 → HasListened W.does E.fold (plan_of S.items self.old.controller)
-            self.old.unit (λ _. ⊤) self.old.controller.state self.old.ear self.old.wire
-            self.new.controller.state self.new.ear self.new.wire result }
-        ensures controller { self.new.controller ≡ record self.old.controller { state = self.new.controller.state } }
-        ensures unit { self.new.unit ≡ self.old.unit }
-        ensures works { OnOk result (W.failures self.new.wire ≡ 0) }
-        ensures device { OnErr result (W.failures self.new.wire ≡ 1) }
-        ensures stays { W.failures self.old.wire ≡ 1 → IsErr result × (self.new ≡ self.old) }
-    {
-        if self.failed {
-            return Err(DriveFault::Device);
-        }
-        match hear(
-            &mut self.controller,
-            self.unit,
-            &mut self.ear,
-            &mut self.wire,
-            &mut Unhooked,
-        ) {
-            Ok(line) => Ok(line),
-            Err(WireFault) => {
-                self.failed = true;
-                Err(DriveFault::Device)
-            }
-        }
-    }
-
-    pub(crate) fn run_on(&mut self, listens: u64) -> Result<Ran, DriveFault>
-        ensures tells { IfOk result (λ r. (t : Told) → W.told self.old.wire ≡ Some t → has_closed t.came ≡ false →
-            IfTold (W.told self.new.wire) (λ u. RunsOn E.fold (plan_of S.items self.old.controller) self.old.unit
-            listens (auto_of self.old) (auto_of self.new) r t u)) }
-        ensures breaks { OnErr result (W.failures self.old.wire ≡ 0 → (t : Told) → W.told self.old.wire ≡ Some t →
-            has_closed t.came ≡ false → IfTold (W.told self.new.wire) (λ u. BreaksOn E.fold
-            (plan_of S.items self.old.controller) self.old.unit (auto_of self.old) (auto_of self.new) t u)) }
-        ensures reached { IsReachedFrom (plan_of S.items self.old.controller) self.old.controller.state
-            self.new.controller.state }
-        ensures ended { IfOk result (λ r. (r ≡ Ran.Ended)
-            ↔ IsSome (turns.outcome_of self.new.controller.state.stage)) }
-        ensures controller { self.new.controller ≡ record self.old.controller { state = self.new.controller.state } }
-        ensures unit { self.new.unit ≡ self.old.unit }
-        ensures works { OnOk result (W.failures self.new.wire ≡ 0) }
-        ensures device { OnErr result (W.failures self.new.wire ≡ 1) }
-        ensures stays { W.failures self.old.wire ≡ 1 → IsErr result × (self.new ≡ self.old) }
-    {
-        match self.run_with(listens, &mut Unhooked) {
-            Ok(ran) => Ok(ran),
-            Err(BrokenOff::Device) => Err(DriveFault::Device),
             Err(BrokenOff::Unkept) => unreachable!(),
             Err(BrokenOff::Left) => unreachable!(),
         }

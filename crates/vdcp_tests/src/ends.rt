@@ -1,5 +1,5 @@
-//! Both ends over a wire in memory, by calls that the program doesn't make. The functions promise nothing of what the ends do, so
-//! the proof of a test needn't go through the clauses of each call.
+//! Both ends over a wire in memory, without hooks. The functions promise nothing of what the ends do, so the proof of a test
+//! needn't go through the clauses of each call.
 ghost use Rattle.std.specs.Prelude.{◌≡◌, false, IfOk};
 
 use crate::expecting::expect;
@@ -7,7 +7,7 @@ use crate::lists::list_of;
 use std::alloc::{AllocError, Global};
 use std::test::Fail;
 use vdcp_auto::{Controller, Outcome};
-use vdcp_drive::{AutoDriver, DriveFault, Server, TurnsEnd, Unwatched};
+use vdcp_drive::{AtSilences, DriveFault, Driver, Server, TurnsEnd, Unhooked, Unwatched};
 use vdcp_port::Port;
 use vdcp_wire::{Entry, ScriptWire};
 
@@ -91,13 +91,12 @@ const COMMANDS: &[u8] =
 fn ran(alloc: Global) -> Result<(Option<Outcome>, Vec<u8>, Vec<usize>), Fail> {
     let list = list_of(alloc, b"")?;
     let wire = wire_of(alloc, &CAME, 2)?;
-    let mut auto = AutoDriver::new(Controller::new(&list, 1, 3), 0, wire);
-    auto.send()?;
-    auto.listen()?;
-    auto.run(100)?;
-    let wire = auto.wire();
+    let mut auto = Driver::with_ear(Controller::new(&list, 1, 3), 0, AtSilences::new(), wire);
+    auto.run_with(100, &mut Unhooked)?;
+    let outcome = auto.controller().outcome();
+    let (_, wire) = auto.into_parts();
     Ok((
-        auto.controller().outcome(),
+        outcome,
         Vec::from_slice(alloc, wire.sent())?,
         Vec::from_slice(alloc, wire.drops())?,
     ))

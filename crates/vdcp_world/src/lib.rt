@@ -3,7 +3,7 @@
 //! A `World` is a controller, a port and the line between them. The caller says what happens, and sees what came of it:
 //!
 //! ```text
-//! let mut world = World::new(alloc, source, catalogue, unit, port, limit);
+//! let mut world = World::with_clock(alloc, source, catalogue, unit, port, limit, cue_frames);
 //! world.run(&events)?;
 //! world.aired(), world.reported(), world.log(), world.outcome()
 //! ```

@@ -46,20 +46,8 @@ impl<S: Source, C: Catalogue, A: Allocator> Model for World<S, C, A> {
 }
 
 impl<S: Source, C: Catalogue, A: Allocator + Copy> World<S, C, A> {
-    /// Plain mode, with cues of one frame. `unit` is 0 to 15; `limit` unanswered exchanges in a row, 1 to 1,000, end it.
-    pub fn new(alloc: A, source: S, catalogue: C, unit: u8, port: u8, limit: u32) -> Self
-        requires unit { unit ≤ 15 }
-        requires some { 1 ≤ limit }
-        requires few { limit ≤ 1000 }
-        ensures new { result ≡ new_channel
-            (record { mode = Plain; list = S.items source; port = port; limit = limit })
-            (C.clips catalogue) unit 1 }
-        ensures headline { Headline result }
-    {
-        World::with_clock(alloc, source, catalogue, unit, port, limit, 1)
-    }
-
-    /// As `new`, but a cue takes `cue_frames` frames, 1 to 1,000.
+    /// Plain mode. `unit` is 0 to 15; `limit` unanswered exchanges in a row, 1 to 1,000, end it; a cue takes
+    /// `cue_frames` frames, 1 to 1,000.
     pub fn with_clock(
         alloc: A,
         source: S,

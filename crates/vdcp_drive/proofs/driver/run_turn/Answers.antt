@@ -1,4 +1,4 @@
-use Rattle.std.proofs.Common.{ap, rules, sym, ◌∙◌}
+use Rattle.std.proofs.Common.{ap, rules, ◌∙◌}
 use Rattle.vdcp_auto.specs.Plan.{plan_of}
 use Rattle.vdcp_drive.proofs.Running.{turn_called, turn_ended, turn_heard, turn_left, turn_missed, turn_unheard, turn_unsent}
 use Rattle.vdcp_drive.proofs.driver.run_turn.Goals as goal
