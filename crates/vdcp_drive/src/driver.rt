@@ -122,13 +122,11 @@ impl<S: Source, E: Ear, W: Wire> Driver<S, E, W> {
             None => Ok(Ran::Spent),
         }
     }
-}
 
-impl<S: Source + Drop, E: Ear, W: Wire> Driver<S, E, W> {
-    pub fn into_parts(self) -> (E, W)
-        ensures { result ≡ (self.ear, self.wire) }
+    pub fn into_parts(self) -> (Controller<S>, E, W)
+        ensures { result ≡ (self.controller, self.ear, self.wire) }
     {
-        (self.ear, self.wire)
+        (self.controller, self.ear, self.wire)
     }
 }
 

@@ -304,7 +304,7 @@ fn run_by<S: Source + Drop, E: Ear + Drop, W: Wire + Drop, H: Hooks<S>>(
 {
     let ran = driver.run_with(u64::from(turns), hooks);
     let outcome = driver.controller().outcome();
-    let (ear, wire) = driver.into_parts();
+    let (_, ear, wire) = driver.into_parts();
     Answer {
         ran,
         outcome,

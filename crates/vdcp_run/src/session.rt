@@ -253,7 +253,7 @@ impl<
         } = self;
         let unkept = close(&mut recorder, driver.controller(), line);
         let end = console.end(driver.controller(), line, signs, unkept, left, settings);
-        let (_, wire) = driver.into_parts();
+        let (_, _, wire) = driver.into_parts();
         (end, console, wire)
     }
 }

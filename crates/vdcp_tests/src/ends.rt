@@ -93,10 +93,9 @@ fn ran(alloc: Global) -> Result<(Option<Outcome>, Vec<u8>, Vec<usize>), Fail> {
     let wire = wire_of(alloc, &CAME, 2)?;
     let mut auto = Driver::with_ear(Controller::new(&list, 1, 3), 0, AtSilences::new(), wire);
     auto.run_with(100, &mut Unhooked)?;
-    let outcome = auto.controller().outcome();
-    let (_, wire) = auto.into_parts();
+    let (controller, _, wire) = auto.into_parts();
     Ok((
-        outcome,
+        controller.outcome(),
         Vec::from_slice(alloc, wire.sent())?,
         Vec::from_slice(alloc, wire.drops())?,
     ))

@@ -13,7 +13,7 @@ returns g c =
     record {
       plays = subst (λ last. Plays g.W.Wire.does g.F.Disk.safe g.E.Ear.fold c.args.driver.ear c.args.driver.unit c.args.turns
           (start_of g.S.Source.items c.args.driver.controller) (over c.args.driver.wire c.args.self.recorder) last end)
-          (sym (ap (λ parts. parts.1) c.into_parts-wire.ensures)) (plays_so g.S.Source.items g.W.Wire.does g.F.Disk.safe g.E.Ear.fold g.W.Wire.failures c.from.result c.args.turns
+          (sym (ap (λ parts. parts.2) c.into_parts-wire.ensures)) (plays_so g.S.Source.items g.W.Wire.does g.F.Disk.safe g.E.Ear.fold g.W.Wire.failures c.from.result c.args.turns
           c.args.driver run.new.self
           (record { recorder = c.args.self.recorder; signs = c.args.self.signs })
           (record { recorder = run.new.hooks.recorder; signs = run.new.hooks.signs })
