@@ -6,7 +6,7 @@ use Rattle.vdcp_auto.specs.Law.{IsLawful}
 use Rattle.vdcp_auto.specs.Plan.{Plan, View, plan_of}
 use Rattle.vdcp_auto.specs.State.{State}
 use Rattle.vdcp_auto.specs.declared.phase.Mode.{Mode}
-use Rattle.vdcp_journal.specs.Airings.{AreAirings, may_have_played, settled_in}
+use Rattle.vdcp_journal.specs.Airings.{AreAirings, may_have_played, settled_in, unsettled_event}
 use Rattle.vdcp_auto.specs.Turn.{awaited, outcome_of, start}
 use Rattle.vdcp_auto.specs.declared.outcome.Outcome.{Outcome}
 use Rattle.vdcp_journal.specs.RunsSoFar.{RunView}
@@ -18,8 +18,8 @@ use Rattle.vdcp_journal_file.specs.declared.reading.Refusal.{Refusal}
 use Rattle.vdcp_journal.specs.Runs.{Run, runs_of}
 use Rattle.vdcp_journal.specs.declared.airings.Airing.{Airing}
 use Rattle.vdcp_journal.specs.declared.row.Heading.{Heading}
-use Rattle.vdcp_journal_file.specs.Resuming.{IsMadeOrRefused, IsResumed, IsRunOn, plan_begun, plan_of_run}
-use Rattle.vdcp_journal_file.specs.Showing.{AreShown, ShowsJournal, ShowRuns, ShowsRun, heading_text, next_begin, open_text, reported_text, run_text, skipped_text, undecided, why_skipped}
+use Rattle.vdcp_journal_file.specs.Resuming.{IsMadeOrRefused, IsResumed, IsRunOn, plan_begun, plan_of_run, state_after}
+use Rattle.vdcp_journal_file.specs.Showing.{AreShown, ShowsJournal, ShowRuns, ShowsRun, ShowsSoFar, heading_text, left_unsure, next_begin, open_text, reported_text, run_text, skipped_text, undecided, unsure_after, unsure_in, why_skipped}
 use Rattle.vdcp_journal_file.specs.declared.asrun.AsrunSettings.{AsrunSettings}
 use Rattle.vdcp_journal_file.specs.declared.asrun.Shown.{Shown}
 use Rattle.vdcp_list.specs.Rests.{FromEvent, items_left}
@@ -34,11 +34,11 @@ next_more : (next : Option ℕ) (runs : List Run) (run : Run)
 next_more next [] run = refl
 next_more next (first ∷ runs) run = refl
 
-pub one_run_more : (settings : AsrunSettings) (items : List Item) (heading : Heading) (next : Option ℕ) (runs : List Run)
-    (run : Run) (text told more more_told : List ℕ) → ShowRuns settings items heading (Some run.from) runs text told
-    → ShowsRun settings items heading next run more more_told
-    → ShowRuns settings items heading next (runs ++ run ∷ []) (text ++ more) (told ++ more_told)
-one_run_more settings items heading next [] run text told more more_told (text_is, told_is) shows = (
+pub one_run_more : (settings : AsrunSettings) (items : List Item) (heading : Heading) (before next : Option ℕ) (runs : List Run)
+    (run : Run) (text told more more_told : List ℕ) → ShowRuns settings items heading before (Some run.from) runs text told
+    → ShowsRun settings items heading (unsure_in heading before runs) next run more more_told
+    → ShowRuns settings items heading before next (runs ++ run ∷ []) (text ++ more) (told ++ more_told)
+one_run_more settings items heading before next [] run text told more more_told (text_is, told_is) shows = (
   more,
   more_told,
   [],
@@ -48,17 +48,32 @@ one_run_more settings items heading next [] run text told more more_told (text_i
   ap (λ (l : List ℕ). l ++ more) text_is ∙ sym (append-nil more),
   ap (λ (l : List ℕ). l ++ more_told) told_is ∙ sym (append-nil more_told),
 )
-one_run_more settings items heading next (first ∷ runs) run text told more more_told
+one_run_more settings items heading before next (first ∷ runs) run text told more more_told
     (t, d, rest, rest_told, one, others, text_is, told_is) shows = (
       t,
       d,
       rest ++ more,
       rest_told ++ more_told,
-      subst (λ (n : Option ℕ). ShowsRun settings items heading n first t d) (next_more next runs run) one,
-      one_run_more settings items heading next runs run rest rest_told more more_told others shows,
+      subst (λ (n : Option ℕ). ShowsRun settings items heading before n first t d) (next_more next runs run) one,
+      one_run_more settings items heading (unsure_after heading before first) next runs run rest rest_told more more_told others shows,
       ap (λ (l : List ℕ). l ++ more) text_is ∙ append_assoc t rest more,
       ap (λ (l : List ℕ). l ++ more_told) told_is ∙ append_assoc d rest_told more_told,
     )
+
+-- the event that is unsure after it
+
+pub unsure_more : (heading : Heading) (before : Option ℕ) (runs : List Run) (run : Run)
+    → unsure_after heading (unsure_in heading before runs) run ≡ unsure_in heading before (runs ++ run ∷ [])
+unsure_more heading before [] run = refl
+unsure_more heading before (first ∷ runs) run = unsure_more heading (unsure_after heading before first) runs run
+
+unsure_is : (heading : Heading) (before : Option ℕ) (run : Run) (from reported : ℕ) (event : Option ℕ) → from ≡ run.from
+    → reported ≡ settled_in heading.mode run.rows → event ≡ unsettled_event heading.mode run.rows
+    → left_unsure before from reported event ≡ unsure_after heading before run
+unsure_is heading before run from reported event from_is reported_is event_is =
+    ap (λ (n : ℕ). left_unsure before n reported event) from_is
+    ∙ ap (λ (n : ℕ). left_unsure before run.from n event) reported_is
+    ∙ ap (left_unsure before run.from (settled_in heading.mode run.rows)) event_is
 
 -- the number of an unsettled event in the whole list is one of the machine's
 unsettled_counts : (is_one : Bool) (from n : ℕ) → from + n < 2 ^ 64
@@ -90,31 +105,33 @@ one_each items heading run plan state reported airings event resumed are count =
 
 -- the rows that are written of a run
 abbrev written : AsrunSettings → List Item → Option ℕ → (from reported : ℕ) → List Airing → Option ℕ → Option Outcome → List ℕ
-written settings items next from reported airings event ended =
+written settings items next from reported airings unsure ended =
     reported_text settings items from reported airings
-    ++ skipped_text settings items next (from + reported) (why_skipped event ended)
+    ++ skipped_text settings items next (from + reported) (why_skipped unsure ended)
 
 pub run_shows_so : (settings : AsrunSettings) (items : List Item) (heading : Heading) (run : Run) (plan : Plan) (state : State)
     (reported : ℕ) (airings : List Airing) (event : Option ℕ) (ended : Option Outcome)
     → IsResumed (plan_of_run heading items run) run.rows plan state → AreAirings plan.mode run.rows airings event
     → reported ≡ state.settled → ended ≡ outcome_of state.stage → run.from ≤ length items
-    → AllStand (plan_begun heading items run) run.rows → (next : Option ℕ)
-    → ShowsRun settings items heading next run (written settings items next run.from reported airings event ended)
-    (open_text (run.begin + 1) (undecided next run.from event))
-run_shows_so settings items heading run plan state reported airings event ended resumed are count end_is listed stand next = record {
-  within = listed;
-  stand = stand;
-  are_told = resumed.told;
-  lawful = subst (λ (s : State). IsLawful (plan_of_run heading items run) s (log_of run.rows)) resumed.state_is
-      resumed.lawful;
-  airings = airings;
-  may_have_aired = event;
-  are_airings = subst (λ (m : Mode). AreAirings m run.rows airings event) (ap (λ (p : Plan). p.mode) resumed.plan_is) are;
-  text_is = ap (λ (n : ℕ). written settings items next run.from n airings event ended) count
-      ∙ ap (λ (o : Option Outcome). written settings items next run.from state.settled airings event o) end_is
-      ∙ ap (λ (s : State). run_text settings items next run.from s airings event) resumed.state_is;
-  told_is = refl;
-}
+    → AllStand (plan_begun heading items run) run.rows → (before next unsure : Option ℕ) → unsure ≡ unsure_after heading before run
+    → ShowsRun settings items heading before next run (written settings items next run.from reported airings unsure ended)
+    (open_text (run.begin + 1) (undecided next unsure))
+run_shows_so settings items heading run plan state reported airings event ended resumed are count end_is listed stand before next
+    unsure is_after = record {
+      within = listed;
+      stand = stand;
+      are_told = resumed.told;
+      lawful = subst (λ (s : State). IsLawful (plan_of_run heading items run) s (log_of run.rows)) resumed.state_is
+          resumed.lawful;
+      airings = airings;
+      may_have_aired = event;
+      are_airings = subst (λ (m : Mode). AreAirings m run.rows airings event) (ap (λ (p : Plan). p.mode) resumed.plan_is) are;
+      text_is = ap (λ (n : ℕ). written settings items next run.from n airings unsure ended) count
+          ∙ ap (λ (o : Option Outcome). written settings items next run.from state.settled airings unsure o) end_is
+          ∙ ap (λ (s : State). run_text settings items next run.from s airings unsure) resumed.state_is
+          ∙ ap (run_text settings items next run.from (state_after (plan_of_run heading items run) run.rows) airings) is_after;
+      told_is = ap (λ (o : Option ℕ). open_text (run.begin + 1) (undecided next o)) is_after;
+    }
 
 -- what is shown of a run that goes on
 pub record ShownOf (settings : AsrunSettings) (list : List Item) (heading : Heading) (run : Run) (from reported : ℕ)
@@ -122,9 +139,10 @@ pub record ShownOf (settings : AsrunSettings) (list : List Item) (heading : Head
   pub one_each : length airings ≡ reported
   pub listed : from + reported ≤ length list
   pub counts : IfSome event (λ k. from + k < 2 ^ 64)
-  pub shows : (next : Option ℕ)
-      → ShowsRun settings list heading next run (written settings list next from reported airings event ended)
-      (open_text (run.begin + 1) (undecided next from event))
+  pub is_after : (before : Option ℕ) → left_unsure before from reported event ≡ unsure_after heading before run
+  pub shows : (before next unsure : Option ℕ) → unsure ≡ left_unsure before from reported event
+      → ShowsRun settings list heading before next run (written settings list next from reported airings unsure ended)
+      (open_text (run.begin + 1) (undecided next unsure))
 
 pub shown_of : {S : Type 0} (settings : AsrunSettings) (items : S → List Item) (heading : Heading) (list : List Item) (run : Run)
     (controller : View (FromEvent S)) (asked : Option Command) (from reported : ℕ) (airings : List Airing) (event : Option ℕ)
@@ -141,15 +159,19 @@ shown_of settings items heading list run controller asked from reported airings 
     ap (λ (p : Plan). p.mode) on.resumes.plan_is in
     let are_so : AreAirings (plan_of (items_left items) controller).mode run.rows airings event =
     subst (λ (m : Mode). AreAirings m run.rows airings event) (sym mode_is) are in
+    let settled_is : reported ≡ settled_in heading.mode run.rows = count ∙ on.resumes.lawful.is_settled in
+    let is_after : (before : Option ℕ) → left_unsure before from reported event ≡ unsure_after heading before run =
+    λ before. unsure_is heading before run from reported event begin settled_is are.besides in
     record {
       one_each = one_each list heading run _ _ reported airings event on.resumes are_so count;
       listed = omega (arith, begin, left, within, on.within);
       counts = subst (λ (n : ℕ). IfSome event (λ k. n + k < 2 ^ 64)) (sym begin)
           (unsettled_counts_in list heading run _ _ reported airings event on.resumes are_so count within on.within few);
-      shows = λ next. subst (λ (n : ℕ). ShowsRun settings list heading next run
-          (written settings list next n reported airings event ended) (open_text (run.begin + 1) (undecided next n event))) (sym begin)
+      is_after = is_after;
+      shows = λ before next unsure is. subst (λ (n : ℕ). ShowsRun settings list heading before next run
+          (written settings list next n reported airings unsure ended) (open_text (run.begin + 1) (undecided next unsure))) (sym begin)
           (run_shows_so settings list heading run _ _ reported airings event ended on.resumes are_so count end_is on.within
-          on.stand next);
+          on.stand before next unsure (is ∙ is_after before));
     }
 
 -- a text that gained two
@@ -161,14 +183,15 @@ text_twice text first second text' text'' one other =
 -- a run more, of a list with a heading
 pub shown_more : (settings : AsrunSettings) (list : List Item) (heading : Heading) (next : Option ℕ) (runs : List Run) (run : Run)
     (text told more more_told text' told' : List ℕ) → AreShown settings list heading (Some run.from) runs text told
-    → ShowsRun settings list heading next run more more_told → text' ≡ text ++ more → told' ≡ told ++ more_told
+    → ShowsRun settings list heading (unsure_in heading None runs) next run more more_told → text' ≡ text ++ more
+    → told' ≡ told ++ more_told
     → AreShown settings list heading next (runs ++ run ∷ []) text' told'
 shown_more settings list heading next runs run text told more more_told text' told' before shows text_is told_is =
     let above : List ℕ = heading_text settings list in
     record {
       rows = before.rows ++ more;
-      show = subst (λ (t : List ℕ). ShowRuns settings list heading next (runs ++ run ∷ []) (before.rows ++ more) t) (sym told_is)
-          (one_run_more settings list heading next runs run before.rows told more more_told before.show shows);
+      show = subst (λ (t : List ℕ). ShowRuns settings list heading None next (runs ++ run ∷ []) (before.rows ++ more) t) (sym told_is)
+          (one_run_more settings list heading None next runs run before.rows told more more_told before.show shows);
       text_is = text_is ∙ ap (λ (l : List ℕ). l ++ more) before.text_is ∙ append_assoc above before.rows more;
     }
 
@@ -199,22 +222,24 @@ shown_by_rows {S} settings items heading list run result made controller asked s
 pub first_shown : {E : Type 0} (settings : AsrunSettings) (list : List Item) (heading : Heading) (next : Option ℕ)
     (shown : Result Shown E)
     → IfOk shown (λ s. s.text.items ≡ heading_text settings list) → IfOk shown (λ s. s.told.items ≡ [])
-    → IfOk shown (λ s. AreShown settings list heading next [] s.text.items s.told.items)
-first_shown settings list heading next (Ok s) text told = record {
-  rows = [];
-  show = (refl, told);
-  text_is = text ∙ sym (append-nil (heading_text settings list));
-}
-first_shown settings list heading next (Err e) text told = tt
+    → IfOk shown (λ s. s.unsure ≡ None) → IfOk shown (ShowsSoFar settings list heading next [])
+first_shown settings list heading next (Ok s) text told unsure = (
+  record {
+    rows = [];
+    show = (refl, told);
+    text_is = text ∙ sym (append-nil (heading_text settings list));
+  },
+  unsure,
+)
+first_shown settings list heading next (Err e) text told unsure = tt
 
 -- the runs that ended before a row more
 pub shown_on : {E : Type 0} (settings : AsrunSettings) (list : List Item) (heading : Heading) (shown : Result Shown E)
     (next next' : Option ℕ) (ended ended' : List Run) → next' ≡ next → ended' ≡ ended
-    → IfOk shown (λ s. AreShown settings list heading next ended s.text.items s.told.items)
-    → IfOk shown (λ s. AreShown settings list heading next' ended' s.text.items s.told.items)
+    → IfOk shown (ShowsSoFar settings list heading next ended) → IfOk shown (ShowsSoFar settings list heading next' ended')
 shown_on settings list heading shown next next' ended ended' same_next same h =
-    subst (λ (n : Option ℕ). IfOk shown (λ s. AreShown settings list heading n ended' s.text.items s.told.items)) (sym same_next)
-    (subst (λ (runs : List Run). IfOk shown (λ s. AreShown settings list heading next runs s.text.items s.told.items)) (sym same) h)
+    subst (λ (n : Option ℕ). IfOk shown (ShowsSoFar settings list heading n ended')) (sym same_next)
+    (subst (λ (runs : List Run). IfOk shown (ShowsSoFar settings list heading next runs)) (sym same) h)
 
 -- all runs are shown
 pub shows_journal : (settings : AsrunSettings) (list : List Item) (digest : Option (List ℕ)) (lines : FileBytes)

@@ -2,14 +2,14 @@
 use Rattle.csv.specs.Writing.{default_writer, row_text}
 use Rattle.sha2.specs.Sha256.{sha256}
 use Rattle.std.specs.Io.KnownBytes.{Appends, Keeps}
-use Rattle.std.specs.Prelude.{ℕ, zero, suc, ◌≡◌, ◌≤◌, ◌+◌, ◌-◌, ◌∷◌, ◌++◌, List, [], Option, None, Some, IfSome, false, codes, decimal, drop, if◌then◌else◌, length, min, nat_le, option_map, replicate, take}
+use Rattle.std.specs.Prelude.{ℕ, zero, suc, ◌≡◌, ◌≤◌, ◌+◌, ◌-◌, ◌&&◌, ◌∷◌, ◌++◌, List, [], Option, None, Some, IfSome, false, codes, decimal, drop, if◌then◌else◌, length, min, nat_eq, nat_le, option_map, replicate, take}
 use Rattle.vdcp_auto.specs.Law.{IsLawful}
 use Rattle.vdcp_auto.specs.State.{State}
 use Rattle.vdcp_auto.specs.Turn.{outcome_of, start}
 use Rattle.vdcp_auto.specs.declared.outcome.Outcome.{Outcome}
 use Rattle.vdcp_auto.specs.declared.outcome.Outcome.TheVariants as outcome
 use Rattle.vdcp_files.specs.Files.{File, bytes_of}
-use Rattle.vdcp_journal.specs.Airings.{AreAirings}
+use Rattle.vdcp_journal.specs.Airings.{AreAirings, settled_in, unsettled_event}
 use Rattle.vdcp_journal.specs.Journals.{IsJournal, Journal}
 use Rattle.vdcp_journal.specs.Reading.{whole_lines}
 use Rattle.vdcp_journal.specs.Resume.{AllStand, AreTold, log_of}
@@ -24,6 +24,7 @@ use Rattle.vdcp_list.specs.Timed.{timed_heading, timed_rows, times_of}
 use Rattle.vdcp_journal_file.specs.Resuming.{plan_begun, plan_of_run, state_after}
 use Rattle.vdcp_journal_file.specs.Torn.{closed}
 use Rattle.vdcp_journal_file.specs.declared.asrun.AsrunSettings.{AsrunSettings}
+use Rattle.vdcp_journal_file.specs.declared.asrun.Shown.{Shown}
 use Rattle.vdcp_journal_file.specs.declared.skipped.Skipped.{Skipped}
 use Rattle.vdcp_journal_file.specs.declared.skipped.Skipped.TheVariants.{ByHand, Missing, Refused, Unsure}
 use Rattle.vdcp_text.specs.Failure.{failure_line, status_of}
@@ -51,8 +52,25 @@ skipped_end Refused = codes "skipped: refused"
 skipped_end Unsure = codes "skipped: unsure"
 skipped_end ByHand = codes "skipped: by hand"
 
--- why the first event that a run doesn't report was left out: it may have aired, or else the run ended so, or else by hand
-abbrev pub why_skipped : (may_have_aired : Option ℕ) → Option Outcome → Skipped
+-- the event that is unsure after a run, by its number in the list: the one that may have aired in it; or else the one that
+-- was unsure before it, if the run begins with that one and reports nothing
+abbrev pub left_unsure : (before : Option ℕ) → (from reported : ℕ) → (may_have_aired : Option ℕ) → Option ℕ
+left_unsure before from reported (Some k) = Some (from + k)
+left_unsure None from reported None = None
+left_unsure (Some event) from reported None = if nat_eq reported 0 && nat_eq event from then Some event else None
+
+-- that of a run of a journal, if this event is unsure before it
+abbrev pub unsure_after : Heading → (before : Option ℕ) → Run → Option ℕ
+unsure_after heading before run =
+    left_unsure before run.from (settled_in heading.mode run.rows) (unsettled_event heading.mode run.rows)
+
+-- that of the last of these runs, if this event is unsure before the first
+abbrev pub unsure_in : Heading → (before : Option ℕ) → List Run → Option ℕ
+unsure_in heading before [] = before
+unsure_in heading before (run ∷ runs) = unsure_in heading (unsure_after heading before run) runs
+
+-- why the first event that a run doesn't report was left out: it is unsure, or else the run ended so, or else by hand
+abbrev pub why_skipped : (unsure : Option ℕ) → Option Outcome → Skipped
 why_skipped (Some event) ended = Unsure
 why_skipped None (Some (outcome.Missing event)) = Missing
 why_skipped None (Some (outcome.Refused event)) = Refused
@@ -72,34 +90,35 @@ skipped_text settings items (Some next) first why =
     then timed_rows (times_of (λ skipped. []) (λ skipped. []) (λ skipped. []) skipped_end) settings.rate (has_part items) first
     (drop first items) (reasons (min next (length items) - first) why) else []
 
--- the rows of a run that begins with this event of the list, has come to this state, and has this event that may have aired:
--- of what it reports, and then of what was left out
+-- the rows of a run that begins with this event of the list, has come to this state, and leaves this event unsure: of what it
+-- reports, and then of what was left out
 abbrev pub run_text : AsrunSettings → List Item → (next : Option ℕ) → (from : ℕ) → State → List Airing → Option ℕ → List ℕ
-run_text settings items next from state airings may_have_aired =
+run_text settings items next from state airings unsure =
     reported_text settings items from state.settled airings
-    ++ skipped_text settings items next (from + state.settled) (why_skipped may_have_aired (outcome_of state.stage))
+    ++ skipped_text settings items next (from + state.settled) (why_skipped unsure (outcome_of state.stage))
 
 -- what stands above them
 abbrev pub heading_text : AsrunSettings → List Item → List ℕ
 heading_text settings items = if settings.times then row_text default_writer (timed_heading (has_part items)) else []
 
--- what is told of an event that may have aired in the run that begins with this row of the journal
+-- what is told of an event that is unsure after the run that begins with this row of the journal
 abbrev pub open_text : ℕ → Option ℕ → List ℕ
 open_text row None = []
 open_text row (Some event) =
     codes "vdcp: event " ++ (decimal event ++ (codes " may have aired (run of row " ++ (decimal row ++ line (codes ")"))))
 
--- the event that may have aired though a run that begins with this one doesn't report it, by its number in the run; and then
--- in the list, if the next run doesn't say whether it did: by beginning with it (it did not) or behind it (it did)
-abbrev pub undecided : (next : Option ℕ) → ℕ → Option ℕ → Option ℕ
-undecided next from None = None
-undecided None from (Some k) = Some (from + k)
-undecided (Some event) from (Some k) = if nat_le (from + k) event then None else Some (from + k)
+-- the event that is unsure after a run and told of it: unless the next run begins with that event, of which it is told then,
+-- or behind it, by which it is decided
+abbrev pub undecided : (next unsure : Option ℕ) → Option ℕ
+undecided next None = None
+undecided None (Some event) = Some event
+undecided (Some next) (Some event) = if nat_le event next then None else Some event
 
 -- a run of a journal of these items shows this text, and this is told of it: its rows are those of a controller of the
 -- items from its first event on, and the text is the rows of what that one reports, its count being what the log of the
--- rows shows, and of what was left out before the next run. The event that may have aired besides is told, unless the next run, if there is one, begins with it or behind it
-pub record ShowsRun (settings : AsrunSettings) (items : List Item) (heading : Heading) (next : Option ℕ) (run : Run)
+-- rows shows, and of what was left out before the next run. If this event is unsure before it, the one that is unsure after it
+-- is told, unless the next run, if there is one, begins with that one or behind it
+pub record ShowsRun (settings : AsrunSettings) (items : List Item) (heading : Heading) (before next : Option ℕ) (run : Run)
     (text told : List ℕ) : Type 0 where
   pub within : run.from ≤ length items
   pub stand : AllStand (plan_begun heading items run) run.rows
@@ -110,29 +129,35 @@ pub record ShowsRun (settings : AsrunSettings) (items : List Item) (heading : He
   pub may_have_aired : Option ℕ
   pub are_airings : AreAirings heading.mode run.rows airings may_have_aired
   pub text_is : text ≡ run_text settings items next run.from
-      (state_after (plan_of_run heading items run) run.rows) airings may_have_aired
-  pub told_is : told ≡ open_text (run.begin + 1) (undecided next run.from may_have_aired)
+      (state_after (plan_of_run heading items run) run.rows) airings (unsure_after heading before run)
+  pub told_is : told ≡ open_text (run.begin + 1) (undecided next (unsure_after heading before run))
 
 -- the event with which the first of these runs begins, or else the one after them, if there is one
 abbrev pub next_begin : Option ℕ → List Run → Option ℕ
 next_begin next [] = next
 next_begin next (run ∷ runs) = Some run.from
 
--- the texts of these runs are one after another this text, and what is told of them is this, if the run after them, if there
--- is one, begins with this event
-abbrev pub ShowRuns : AsrunSettings → List Item → Heading → Option ℕ → List Run → List ℕ → List ℕ → Type 0
-ShowRuns settings items heading next [] text told = (text ≡ []) × (told ≡ [])
-ShowRuns settings items heading next (run ∷ runs) text told = (first first_told rest rest_told : List ℕ)
-    × ShowsRun settings items heading (next_begin next runs) run first first_told
-    × ShowRuns settings items heading next runs rest rest_told
+-- the texts of these runs are one after another this text, and what is told of them is this, if this event is unsure before
+-- them, and the run after them, if there is one, begins with this one
+abbrev pub ShowRuns : AsrunSettings → List Item → Heading → (before next : Option ℕ) → List Run → List ℕ → List ℕ → Type 0
+ShowRuns settings items heading before next [] text told = (text ≡ []) × (told ≡ [])
+ShowRuns settings items heading before next (run ∷ runs) text told = (first first_told rest rest_told : List ℕ)
+    × ShowsRun settings items heading before (next_begin next runs) run first first_told
+    × ShowRuns settings items heading (unsure_after heading before run) next runs rest rest_told
     × (text ≡ first ++ rest) × (told ≡ first_told ++ rest_told)
 
 -- the runs show this, below what stands above the rows, if the run after them, if there is one, begins with this event
 pub record AreShown (settings : AsrunSettings) (items : List Item) (heading : Heading) (next : Option ℕ) (runs : List Run)
     (text told : List ℕ) : Type 0 where
   pub rows : List ℕ
-  pub show : ShowRuns settings items heading next runs rows told
+  pub show : ShowRuns settings items heading None next runs rows told
   pub text_is : text ≡ heading_text settings items ++ rows
+
+-- so much is shown of the runs so far, with the event that is unsure after them
+abbrev pub ShowsSoFar : AsrunSettings → List Item → Heading → (next : Option ℕ) → List Run → Shown → Type 0
+ShowsSoFar settings items heading next runs shown =
+    AreShown settings items heading next runs shown.text.items shown.told.items
+    × (shown.unsure ≡ unsure_in heading None runs)
 
 -- whole lines are those of a journal, of the list with this digest if one is given, whose rows are those of controllers of
 -- these items: this is its as-run list, and what is told of it

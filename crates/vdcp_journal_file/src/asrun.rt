@@ -7,7 +7,7 @@ ghost use Rattle.vdcp_journal.specs.Reading.{whole_lines};
 ghost use Rattle.vdcp_journal.specs.Runs.{Run};
 ghost use Rattle.vdcp_journal.specs.declared.row.Heading.{Heading};
 ghost use Rattle.vdcp_journal_file.specs.Resuming.{IsMadeOrRefused};
-ghost use Rattle.vdcp_journal_file.specs.Showing.{AreShown, IsAsrunOf, IsShown, IsShownAndTold, IsToldOnly, ShowsJournal, digest_of, heading_text, open_text, reported_text, skipped_text, undecided};
+ghost use Rattle.vdcp_journal_file.specs.Showing.{IsAsrunOf, IsShown, IsShownAndTold, IsToldOnly, ShowsJournal, ShowsSoFar, digest_of, heading_text, left_unsure, open_text, reported_text, skipped_text, undecided};
 ghost use Rattle.vdcp_journal_file.specs.Torn.{closed};
 ghost use Rattle.vdcp_journal_file.specs.declared.reading.Refusal.TheVariants as refusals;
 ghost use Rattle.vdcp_text.specs.Failure.{status_of};
@@ -46,7 +46,8 @@ pub struct AsrunSettings {
 ///
 /// The status is 0 if it is printed, 1 if a row is refused or the list isn't the journal's, and 3 if a file can't be read,
 /// memory was refused or a writer failed. `err` gets one line of each failure but a writer's; with status 0 it gets one of
-/// each run whose next event may have aired, unless the run after it begins with that event or a later one.
+/// each run whose next event may have aired, unless the run after it begins with that event or a later one. Of a run that
+/// begins with that event it is told until the run reports it.
 pub fn do_asrun<J: io::Read + Drop, L: io::Read + Drop, W: io::Write, E: io::Write>(
     alloc: Global,
     journal: NamedFile<'_, J>,
@@ -179,6 +180,8 @@ struct Shown {
     text: Vec<u8>,
     // What standard error gets of the events that may have aired.
     told: Vec<u8>,
+    // The event that may have aired though no run so far reports it.
+    unsure: Option<usize>,
 }
 
 // `digest` is that of the list of which the journal has to be.
@@ -280,14 +283,17 @@ fn with_run<'s, S: Source>(
         × FoundSoFar (λ s. S.items s.now) heading.mode run.rows airings }
     ensures { (heading : Heading) (runs : List Run) (run : Run)
         → run.begin + 1 ≡ begin
-        → IfOk shown (λ s. AreShown settings (S.items events.now) heading (Some run.from) runs s.text.items s.told.items)
+        → IfOk shown (ShowsSoFar settings (S.items events.now) heading (Some run.from) runs)
         → IsMadeOrRefused (λ s. S.items s.now) heading (S.items events.now) run made.entry
         → FoundSoFar (λ s. S.items s.now) heading.mode run.rows airings.entry
-        → IfOk result (λ s. AreShown settings (S.items events.now) heading next (runs ++ run ∷ []) s.text.items
-        s.told.items) }
+        → IfOk result (ShowsSoFar settings (S.items events.now) heading next (runs ++ run ∷ [])) }
 {
     what_is_told_is_lawful();
-    let Shown { mut text, mut told } = match shown {
+    let Shown {
+        mut text,
+        mut told,
+        unsure,
+    } = match shown {
         Ok(shown) => shown,
         Err(why) => return Err(why),
     };
@@ -299,7 +305,8 @@ fn with_run<'s, S: Source>(
     let Resumed { controller, .. } = run.resume();
     let from = controller.source().from();
     let reported = controller.settled();
-    let why = why_skipped(unsettled, controller.outcome());
+    let unsure = left_unsure(unsure, from, reported, unsettled);
+    let why = why_skipped(unsure, controller.outcome());
     add_reported(
         alloc,
         events,
@@ -311,8 +318,8 @@ fn with_run<'s, S: Source>(
     )?;
     let first = from + reported;
     add_skipped(alloc, events, next, first, why, settings, &mut text)?;
-    add_event(begin, undecided(next, from, unsettled), &mut told)?;
-    Ok(Shown { text, told })
+    add_event(begin, undecided(next, unsure), &mut told)?;
+    Ok(Shown { text, told, unsure })
 }
 
 fn print_out<'a, W: io::Write>(shown: Shown, out: &mut W) -> Result<Vec<u8>, Failure<'a>>
@@ -320,7 +327,7 @@ fn print_out<'a, W: io::Write>(shown: Shown, out: &mut W) -> Result<Vec<u8>, Fai
     ensures told { IfOk result (λ told. told.items ≡ shown.told.items) }
     ensures failed { IfErr result (λ f. f ≡ failures.Writer) }
 {
-    let Shown { text, told } = shown;
+    let Shown { text, told, .. } = shown;
     if out.write_all(text.as_slice()).is_err() || out.flush().is_err() {
         return Err(Failure::Writer);
     }
@@ -334,6 +341,7 @@ fn heading_shown<S: Source>(
 ) -> Result<Shown, Refusal>
     ensures text { IfOk result (λ shown. shown.text.items ≡ heading_text settings (S.items events.now)) }
     ensures told { IfOk result (λ shown. shown.told.items ≡ []) }
+    ensures unsure { IfOk result (λ shown. shown.unsure ≡ None) }
 {
     let mut text = Vec::new(alloc);
     if settings.times && write_timed_heading(alloc, events, &mut text).is_err() {
@@ -342,6 +350,7 @@ fn heading_shown<S: Source>(
     Ok(Shown {
         text,
         told: Vec::new(alloc),
+        unsure: None,
     })
 }
 
@@ -404,12 +413,29 @@ fn add_skipped<S: Source>(
     }
 }
 
-// If the next run begins with that event or a later one, the operator has said whether it aired.
-fn undecided(next: Option<usize>, from: usize, event: Option<usize>) -> Option<usize>
-    requires { IfSome event (λ k. from + k < 2 ^ 64) }
-    ensures { result ≡ undecided next from event }
+// `unsettled` is the event that may have aired in the run, by its number there. One that is to be sent again stays unsure until
+// the run reports it.
+fn left_unsure(
+    before: Option<usize>,
+    from: usize,
+    reported: usize,
+    unsettled: Option<usize>,
+) -> Option<usize>
+    requires { IfSome unsettled (λ k. from + k < 2 ^ 64) }
+    ensures { result ≡ left_unsure before from reported unsettled }
 {
-    let event = from + event?;
+    match (unsettled, before) {
+        (Some(k), _) => Some(from + k),
+        (None, Some(event)) if reported == 0 && event == from => Some(event),
+        (None, _) => None,
+    }
+}
+
+// If the next run begins behind that event, it was decided whether it aired; and one that begins with it tells of it itself.
+fn undecided(next: Option<usize>, unsure: Option<usize>) -> Option<usize>
+    ensures { result ≡ undecided next unsure }
+{
+    let event = unsure?;
     match next {
         Some(next) if event <= next => None,
         _ => Some(event),

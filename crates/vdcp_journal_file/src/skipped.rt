@@ -13,7 +13,7 @@ pub(crate) enum Skipped {
     Missing,
     /// The run ended since a command of it was refused.
     Refused,
-    /// It may have aired.
+    /// It may have aired, in the run or before it.
     Unsure,
     ByHand,
 }
@@ -55,10 +55,10 @@ impl Timed for Skipped {
 }
 
 /// Why the first event that a run doesn't report was left out.
-pub(crate) fn why_skipped(unsettled: Option<usize>, outcome: Option<Outcome>) -> Skipped
-    ensures { result ≡ why_skipped unsettled outcome }
+pub(crate) fn why_skipped(unsure: Option<usize>, outcome: Option<Outcome>) -> Skipped
+    ensures { result ≡ why_skipped unsure outcome }
 {
-    match (unsettled, outcome) {
+    match (unsure, outcome) {
         (Some(_), _) => Skipped::Unsure,
         (None, Some(Outcome::Missing(_))) => Skipped::Missing,
         (None, Some(Outcome::Refused(_))) => Skipped::Refused,

@@ -8,6 +8,7 @@ use Rattle.vdcp_journal_file.proofs.RowSteps.{begins, other}
 use Rattle.vdcp_journal_file.proofs.Shown.{first_shown, shown_on, shows_journal}
 use Rattle.vdcp_journal_file.proofs.asrun.shown_by.Goals as goal
 use Rattle.vdcp_journal_file.proofs.asrun.shown_by.Goals.{in-Some, in-None+in_ok-add-in-None}
+use Rattle.vdcp_journal_file.specs.Showing.{ShowsSoFar}
 
 pub loop-read-init : goal.loop-read-init
 loop-read-init g c = (
@@ -16,7 +17,7 @@ loop-read-init g c = (
   c.in-Ok.ensures.begun,
   record { is = c.begun-made.ensures (last_run []) refl refl refl; found = c.new-airings.ensures },
   first_shown c.args.settings (g.S.Source.items c.args.events.now) c.in-Ok.rows.heading (Some 0) _
-      c.heading_shown-shown.ensures.text c.heading_shown-shown.ensures.told,
+      c.heading_shown-shown.ensures.text c.heading_shown-shown.ensures.told c.heading_shown-shown.ensures.unsure,
   refl,
   refl,
 )
@@ -27,9 +28,10 @@ returns-in-Ok-None g c =
     let journal : Journal = record { time = c.loop-read.rows.time; heading = c.loop-read.rows.heading; rows = rows } in
     let reads : IsJournal (g.I.Read.remaining c.args.lines) journal =
     rw c.in-Ok-None.field-0-is at (c.in-Ok-None.ensures.all _ _ c.loop-read.invariant.2) in
-    IfOk-weaker c.with_run.result _ _ (λ shown are. shows_journal c.args.settings (g.S.Source.items c.args.events.now)
+    IfOk-weaker c.with_run.result (ShowsSoFar c.args.settings (g.S.Source.items c.args.events.now) c.in-Ok.rows.heading None
+    (ended_in rows ++ last_run rows ∷ [])) _ (λ shown are. shows_journal c.args.settings (g.S.Source.items c.args.events.now)
     c.args.digest (g.I.Read.remaining c.args.lines) journal c.in-Ok.rows.heading _ _ _ reads c.loop-read.invariant.5
-    c.in_ok-expect.ensures.digest (c.runs_follow_one_another.ensures.all rows) are)
+    c.in_ok-expect.ensures.digest (c.runs_follow_one_another.ensures.all rows) are.0)
     (c.with_run.ensures c.in-Ok.rows.heading (ended_in rows) (last_run rows) c.loop-read.invariant.6 c.loop-read.invariant.4
     c.loop-read.invariant.3.is c.loop-read.invariant.3.found)
 
