@@ -69,7 +69,7 @@ def client(address, *words):
 
 class Between:
     """Carries commands to the server, and its answers to a run, after which the next one may come. plain: as they are, at the TCP port N, or one that the system
-    chooses; severs: the Nth PLAY goes on, and both lines are closed, and those after it are plain; cued: but first it cues
+    chooses; severs: the Nth PLAY goes on, and both lines are closed, which it prints, and those after it are plain (at PORT, if it is named); cued: but first it cues
     CLIP0001; split: each byte comes alone, and late by N milliseconds at one place after the other; twice: each answer comes twice; late: each
     comes once the Nth command after it does; ahead: an ACK comes before each; trickle: a byte of junk comes every N milliseconds too; mute:
     such bytes come, and no answer; junk: bytes without end, and no answer; acks: an ACK comes every N milliseconds, and no answer; babble: from the
@@ -77,16 +77,16 @@ class Between:
     lost, which it prints; torn: by dice of the seed N three of ten are lost, and the others come in order, but late by 36 to 78 milliseconds,
     and most torn in two by a pause of 8 to 64."""
 
-    def __init__(self, address, how, much="0"):
+    def __init__(self, address, how, much="0", port="0"):
         self.address, self.how, self.much, self.count, self.held = address, how, int(much), 0, []
         self.wait = {"junk": 0.001, "trickle": self.much / 1000, "mute": self.much / 1000, "acks": self.much / 1000}.get(how)
         self.dice = random.Random(self.much)
         line = self.cued() if how == "cued" else None
-        door = listening(port=self.much if how == "plain" else 0)
+        door = listening(port=self.much if how == "plain" else int(port))
         while True:
             run, _ = door.accept()
             run.setsockopt(socket.IPPROTO_TCP, socket.TCP_NODELAY, 1)
-            with run, line or connected(address) as line, contextlib.suppress(OSError):
+            with contextlib.suppress(OSError), run, line or connected(address) as line:
                 self.carry(run, line)
             if how not in ("plain", "severs"):
                 return
@@ -129,6 +129,7 @@ class Between:
                 line.sendall(piece)
                 self.count += self.how == "severs" and piece == bytes.fromhex("02021001ef")
                 if self.how == "severs" and self.count == self.much:
+                    print("severed", flush=True)
                     self.how = "plain"
                     return
 
