@@ -1,11 +1,11 @@
 #!/usr/bin/env python3
 """page.py port URL SERVER RUN..: opens the page of a port in headless Chromium, plays a list of two clips by the command RUN, and ends the
-process SERVER. page.py run URL: opens the page of a run, takes by a click and by a key, and stops by a key that is asked twice.
+process SERVER. page.py run URL: opens the page of a run, holds and goes on by keys and clicks, takes by a click and by a key, and stops by a key that is asked twice.
 page.py list URL: that of a run that began with event 28 of 40, whose first clips are short. page.py start URL: that of one that waits for its
 start, which a key that is asked twice begins. page.py before URL PLAYED: that of one that went on in a journal of others, of which the first
 played an event at PLAYED. page.py resumed URL PLAYED: that of one that was killed after it had played an event at PLAYED, and goes on. page.py
 lost URL SERVER JOURNAL: that of one whose server stops to answer. page.py down URL LINE: that of
-one that stays, whose line is this process. It fails if the page doesn't show each of these, or can't be read. With a last word --picture=FILE it draws the page."""
+one that stays, where it leaves out the last of three events, and whose line is this process. It fails if the page doesn't show each of these, or can't be read. With a last word --picture=FILE it draws the page."""
 import os
 import re
 import signal
@@ -49,7 +49,7 @@ def can_be_read(page):
     has_names(page)
     # (behind the buttons, if there are some)
     reached = []
-    while "scroll" not in reached and len(reached) < 3:
+    while "scroll" not in reached and len(reached) < 4:
         page.switch_to.active_element.send_keys(Keys.TAB)
         reached.append(page.switch_to.active_element.get_attribute("id"))
     must("scroll" in reached, f"the list can't be reached by the keyboard: {reached}")
@@ -121,10 +121,12 @@ def run(page):
     must(re.fullmatch(r"News <2> \u00b7 six \u2192 127\.0\.0\.1:\d+", text(page, "name")), f"no heading: {text(page, 'name')}")
     must(re.fullmatch(r"News <2> \u25b6 CLIP0001 \u00b7 six \u2192 127\.0\.0\.1:\d+", page.title), f"no title: {page.title}")
     must(by_24_hours(text(page, "clock")), f"no clock of 24 hours: {text(page, 'clock')}")
-    must(all(by_24_hours(it.text.removeprefix("~")) for it in page.find_elements(By.CSS_SELECTOR, "#rows td:last-child")), "no times")
+    must(all(by_24_hours(it.text.removeprefix("~")) for it in page.find_elements(By.CSS_SELECTOR, "#rows td:nth-child(4)")), "no times")
     for picture in PICTURES:
         page.save_screenshot(picture)
     can_be_read(page)
+    must(skips(page) == {}, f"a run that doesn't stay leaves out events: {skips(page)}")
+    holds(page)
     page.find_element(By.ID, "take").click()
     awaits(page, "the call", told="take: made")
     awaits(page, "the second one", air_item=begins_with("CLIP0002"))
@@ -137,9 +139,46 @@ def run(page):
     ends = [re.sub(r"00:00:\d\d$", "", it) for it in column(page, 2)]
     must(ends == ["cut by a take after ", "aired, ran out", "cut by a take after ", "stopped after ", "", ""], f"how the clips ended: {ends}")
     must(all(by_24_hours(it) for at in column(page, 3)[:4] for it in at.split(" to ")), f"from when until when: {column(page, 3)}")
-    must(not page.find_element(By.ID, "take").is_enabled(), "calls can be made once it has ended")
+    must(not any(page.find_element(By.ID, name).is_enabled() for name in ("take", "stop", "hold")), "calls can be made once it has ended")
     time.sleep(2.5)
     must((text(page, "health"), class_of(page, "health")) == ("the run has ended: stopped", "idle"), "once the run is gone the page says otherwise")
+
+
+def holds(page):
+    """By a key and by a click, of which a second one within half a second does nothing; and goes on by a key and by a click."""
+    types(page, "h")
+    awaits(page, "that it holds", told="hold: made", hold="Go (G)", health="holding: nothing new goes to air", next_time="cued, held back", left="not known")
+    must(set(column(page, 3)[1:]) == {""}, f"while it holds the next events have times: {column(page, 3)}")
+    time.sleep(0.6)
+    types(page, "h")
+    types(page, "g")
+    awaits(page, "that it goes on", told="go: made", hold="Hold (H)", health="runs", next_time=begins_with("cued, about "))
+    time.sleep(0.6)
+    page.execute_script("const hold = document.getElementById('hold'); hold.click(); setTimeout(() => hold.click(), 400);")
+    awaits(page, "that it holds again", hold="Go (G)", health="holding: nothing new goes to air")
+    time.sleep(1)
+    must(text(page, "hold") == "Go (G)", "a click just behind another one goes on")
+    page.find_element(By.ID, "hold").click()
+    awaits(page, "that it goes on again", told="go: made", hold="Hold (H)", health="runs")
+
+
+def skips(page):
+    """The buttons that leave out an event, by their names."""
+    return {it.accessible_name: it for it in page.find_elements(By.CSS_SELECTOR, "#rows button") if it.is_displayed()}
+
+
+def leaves_out(page):
+    """The third of three events, while the second one is cued, by a second press."""
+    awaits(page, "that the second one is cued", next_time=begins_with("cued"))
+    must(list(skips(page)) == ["Skip, event 2"], f"what can be left out: {list(skips(page))}")
+    skips(page)["Skip, event 2"].click()
+    comes(lambda: list(skips(page)) == ["Skip: once more, event 2"], lambda: f"it doesn't ask again: {list(skips(page))}")
+    must(column(page, 2)[2] == "", "one press leaves out an event")
+    skips(page)["Skip: once more, event 2"].click()
+    awaits(page, "the call", told="skip 2: made")
+    comes(lambda: column(page, 2) == ["on air", "cued", "left out"], lambda: f"the event isn't left out: {column(page, 2)}")
+    must(skips(page) == {}, f"what is left out can be left out again: {list(skips(page))}")
+    can_be_read(page)
 
 
 def takes_once_at_a_time(page):
@@ -215,6 +254,7 @@ def lost(page):
 def down(page):
     page.get(URL)
     awaits(page, "the first one", air_item="CLIP0001", health="runs")
+    leaves_out(page)
     os.kill(int(WORDS[0]), signal.SIGTERM)
     awaits(page, "since when it is down", health=lambda it: re.fullmatch(r"no line since ([01]\d|2[0-3]):[0-5]\d:[0-5]\d: connecting", it), air_item="CLIP0001", air_time=begins_with("for 00:00:"))
     must((class_of(page, "health"), page.find_element(By.TAG_NAME, "body").get_attribute("class")) == ("gone", "stale"), "that isn't told in red, or the rest isn't dim")

@@ -72,7 +72,9 @@ def statuses():
         "pipelined": " ".join(re.findall(r"HTTP/1.1 (\d+)", "".join(several))),
         "byte by byte": code(ask(request("GET /state", "Connection: close"), 1)),
     }
-    for line in ("POST /take", "POST /state", "PUT /"):
+    largest = 2**64 - 1
+    calls = ("POST /take", "POST /hold", "POST /go", "POST /skip/3", "GET /hold", "GET /go", "GET /skip/3", f"GET /skip/{largest}")
+    for line in (*calls, "GET /skip/03", "GET /skip/+3", "GET /skip/", "GET /skip", f"GET /skip/{largest + 1}", "POST /state", "PUT /"):
         rows[line] = code(ask(request(line, "Content-Length: 0", "Connection: close")))
     for name, it in rows.items():
         print(name, it)

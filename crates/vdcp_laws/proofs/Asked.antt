@@ -1,7 +1,7 @@
 -- An automation of its own asks beside one that awaits nothing: this one passes over what comes up, with the ear of the other.
 use Rattle.std.proofs.Common.{arith, ℕ, ◌≡◌, ◌⊎◌, inl, inr, All, List, [], ◌∷◌, ◌++◌, map, refl, sym, ap, ap₂, subst, ◌∙◌, append_assoc, append-nil}
 use Rattle.std.proofs.lemmas.Grind.{flat_map-append}
-use Rattle.std.specs.Option.{option_map_or, option_to_list}
+use Rattle.std.specs.Option.{option_map_or}
 use Rattle.std.specs.Prelude.{Option, None, Some, Result}
 use Rattle.vdcp_frame.specs.Message.{Content}
 use Rattle.vdcp_words.specs.declared.command.Command.{Command}
@@ -10,7 +10,6 @@ use Rattle.vdcp_auto.specs.Heard.{heard_as}
 use Rattle.vdcp_auto.specs.Plan.{Plan}
 use Rattle.vdcp_auto.specs.State.{State}
 use Rattle.vdcp_auto.specs.Turn.{awaited, ended_in, exchange_of}
-use Rattle.vdcp_auto.specs.declared.exchange.Exchange.{Exchange}
 use Rattle.vdcp_auto.specs.declared.exchange.Heard.{Heard}
 use Rattle.vdcp_journal.specs.declared.row.Note.{Note}
 use Rattle.vdcp_wire.specs.Acts.{Act}
@@ -27,20 +26,16 @@ use Rattle.vdcp_drive.specs.declared.hooks.BrokenOff.{BrokenOff}
 use Rattle.vdcp_drive.specs.declared.hooks.Kept.{Kept}
 use Rattle.vdcp_drive.specs.declared.hooks.Kept.TheVariants as row
 use Rattle.vdcp_drive.specs.declared.line.Ran.{Ran}
-use Rattle.vdcp_laws.specs.Automation.{Prompt, commands_in, end_notes, hears_all, holding, receives}
+use Rattle.vdcp_laws.specs.Automation.{Prompt, end_notes, hears_all, holding, receives}
 use Rattle.vdcp_laws.specs.OneConnection.{hears_in}
-use Rattle.vdcp_laws.specs.TwoEnds.{AreLed, Ends, asked_first, bytes_in, note_for, notes_ended, notes_heard, sent_down, with_automation, with_up}
-use Rattle.vdcp_laws.proofs.Asks.{MayAsk, asking_all, asks_all, sent_asked}
+use Rattle.vdcp_laws.specs.TwoEnds.{AreLed, Ends, asked_first, bytes_in, note_for, notes_ended, notes_heard, sending, sent_down, with_automation, with_up}
+use Rattle.vdcp_laws.proofs.Asks.{MayAsk, asks_all}
+use Rattle.vdcp_laws.proofs.Joining.{sent_more}
 use Rattle.vdcp_laws.proofs.Carrying.{Last, Side, acts_both, came_both, heard_up, last_so, led_first, listening, sent_both}
 use Rattle.vdcp_laws.proofs.CarriedRun.{left_at}
 use Rattle.vdcp_laws.proofs.Noted.{rows_both}
 
 -- An automation that awaits nothing passes over what it hears.
-
-none_awaited : (log : List Exchange) (o : Option Command) → map (λ e. e.command) log ++ option_to_list o ≡ [] → o ≡ None
-none_awaited [] None is = refl
-none_awaited [] (Some c) is = cc
-none_awaited (x ∷ log) o is = cc
 
 passes : (plan : Plan) (came : Option Heard) (p : Prompt) → awaited plan p.state ≡ None → receives plan came p ≡ p
 passes plan came p none = ap (λ (o : Option Command). record {
@@ -49,7 +44,7 @@ passes plan came p none = ap (λ (o : Option Command). record {
   log = logged p.log (exchange_of plan.mode came o);
 }) none
 
-no_notes : (plan : Plan) (came : Option Heard) (s : State) → awaited plan s ≡ None → notes_ended plan came s ≡ []
+pub no_notes : (plan : Plan) (came : Option Heard) (s : State) → awaited plan s ≡ None → notes_ended plan came s ≡ []
 no_notes plan came s none = ap (λ (o : Option Command). map note_for (end_notes (exchange_of plan.mode came o))) none
 
 passes_all : (plan : Plan) (unit : ℕ) (ms : List Content) (p : Prompt) → awaited plan p.state ≡ None
@@ -123,19 +118,18 @@ pub record IsAskedBy (plan : Plan) (unit : ℕ) (e : Ends) (cs : List Command) (
 
 -- What follows goes on from there.
 pub asked_side : (plan : Plan) (unit : ℕ) (e : Ends) (cs : List Command) (held : Held) (list more : List Act) (last : Ends)
-    → commands_in plan e.automation ≡ [] → IsAskedBy plan unit e cs held list
-    → Side plan unit (AreLed plan unit) (asked_first cs held (bytes_in (came_in list)) e) (sent_down plan unit e ++ sent_in list) more last
-    → Side plan unit (AreLed plan unit) e (sent_down plan unit e) (list ++ more) last
+    → awaited plan e.automation.state ≡ None → IsAskedBy plan unit e cs held list
+    → Side plan unit (AreLed plan unit) (asked_first cs held (bytes_in (came_in list)) e) (sent_down unit e ++ sent_in list) more last
+    → Side plan unit (AreLed plan unit) e (sent_down unit e) (list ++ more) last
 asked_side plan unit e cs held list more last none a s =
-    let there : heard_up plan unit (came_in list) (asking_all cs e) ≡ asked_first cs held (bytes_in (came_in list)) e =
-    overhears_all plan unit (came_in list) (asking_all cs e)
-    (none_awaited e.automation.log (awaited plan e.automation.state) none)
+    let there : heard_up plan unit (came_in list) (sending cs e) ≡ asked_first cs held (bytes_in (came_in list)) e =
+    overhears_all plan unit (came_in list) (sending cs e) none
     ∙ ap (λ (h : Held). asked_first cs h (bytes_in (came_in list)) e) (sym a.ear) in
-    led_first plan unit (AreLed plan unit) e (asking_all cs e) (sent_down plan unit e) (list ++ more) last
-    (λ first downs j. asks_all plan unit first (record e { downs = downs }) cs none a.may j) refl refl
-    (listening plan unit (AreLed plan unit) list (asking_all cs e) (sent_down plan unit e) a.unsent more last
-    (sent_asked plan unit e cs none ∙ ap (λ (l : List ℕ). sent_down plan unit e ++ l) a.part)
-    (subst (λ (x : Ends). Side plan unit (AreLed plan unit) x (sent_down plan unit e ++ sent_in list) more last) (sym there) s))
+    led_first plan unit (AreLed plan unit) e (sending cs e) (sent_down unit e) (list ++ more) last
+    (λ first downs j. asks_all plan unit first (record e { downs = downs }) cs a.may j) refl refl
+    (listening plan unit (AreLed plan unit) list (sending cs e) (sent_down unit e) a.unsent more last
+    (sent_more unit e cs ∙ ap (λ (l : List ℕ). sent_down unit e ++ l) a.part)
+    (subst (λ (x : Ends). Side plan unit (AreLed plan unit) x (sent_down unit e ++ sent_in list) more last) (sym there) s))
 
 -- A run of the automation that asks.
 

@@ -29,9 +29,8 @@ use Rattle.vdcp_laws.specs.Carried.{driver_of}
 use Rattle.vdcp_laws.specs.OneConnection.{ends_by, hears_in, heeds_in}
 use Rattle.vdcp_laws.specs.TwoEnds as two
 use Rattle.vdcp_laws.specs.TwoEnds.{Ends, bytes_in, sent_down, with_command}
-use Rattle.vdcp_laws.proofs.Commands.{commands_listens}
 use Rattle.vdcp_laws.proofs.Fronts.{head_so, tail_so}
-use Rattle.vdcp_laws.proofs.Joining.{sent_given}
+use Rattle.vdcp_laws.proofs.Joining.{sent_more}
 use Rattle.vdcp_laws.proofs.OneRun.{automation_so}
 use Rattle.vdcp_laws.proofs.Same.{led_so, listens_so}
 
@@ -161,13 +160,8 @@ heard_by : (plan : Plan) (unit : ℕ) (a : Arrival) (e : Ends)
 heard_by plan unit a e = grind arith
 
 heard_down : (plan : Plan) (unit : ℕ) (a : Arrival) (e : Ends)
-    → sent_down plan unit (hears_in plan unit a e) ≡ sent_down plan unit e
-heard_down plan unit (bytes piece) e =
-    ap (λ (l : List Command). bytes_of unit (e.asked ++ l)) (commands_listens plan unit (bytes piece) e.automation)
-heard_down plan unit silence e =
-    ap (λ (l : List Command). bytes_of unit (e.asked ++ l)) (commands_listens plan unit silence e.automation)
-heard_down plan unit close e =
-    ap (λ (l : List Command). bytes_of unit (e.asked ++ l)) (commands_listens plan unit close e.automation)
+    → sent_down unit (hears_in plan unit a e) ≡ sent_down unit e
+heard_down plan unit a e = grind arith
 
 abbrev pub heard_up : Plan → ℕ → List Arrival → Ends → Ends
 heard_up plan unit [] e = e
@@ -176,7 +170,7 @@ heard_up plan unit (a ∷ came) e = heard_up plan unit came (hears_in plan unit 
 -- Steps that neither wait, nor ask, nor begin anew.
 abbrev pub IsCalm : {plan : Plan} {unit : ℕ} {e e' : Ends} → two.Step plan unit e e' → Type 0
 IsCalm two.waited = ⊥
-IsCalm (two.asks question c is none) = ⊥
+IsCalm (two.asks question c is) = ⊥
 IsCalm (two.resumed goes) = ⊥
 IsCalm (two.restarted goes) = ⊥
 IsCalm _ = Unit {0}
@@ -196,7 +190,7 @@ pub record Side (plan : Plan) (unit : ℕ) (R : Ends → Ends → Type 0) (e : E
       → R first (record (hears_in plan unit a (at came)) { downs = downs })
       → R first (record (at (came ++ a ∷ [])) { downs = downs })
   pub sends : (some behind : List Act) → list ≡ some ++ behind
-      → (more : List ℕ) × (sent_down plan unit (at (came_in some)) ≡ sent ++ (sent_in some ++ more))
+      → (more : List ℕ) × (sent_down unit (at (came_in some)) ≡ sent ++ (sent_in some ++ more))
   pub ups : (came rest : List Arrival) → came_in list ≡ came ++ rest → (at came).ups ≡ e.ups ++ bytes_in came
   pub port : (came : List Arrival) → (at came).port ≡ e.port
   pub ends : at (came_in list) ≡ last
@@ -211,7 +205,7 @@ pub none_before : {A : Type 0} (xs ys : List A) → [] ≡ xs ++ ys → xs ≡ [
 none_before [] ys is = refl
 none_before (x ∷ xs) ys is = cc
 
-pub no_act : (plan : Plan) (unit : ℕ) (R : Ends → Ends → Type 0) (e : Ends) (sent more : List ℕ) → sent_down plan unit e ≡ sent ++ more
+pub no_act : (plan : Plan) (unit : ℕ) (R : Ends → Ends → Type 0) (e : Ends) (sent more : List ℕ) → sent_down unit e ≡ sent ++ more
     → Side plan unit R e sent [] e
 no_act plan unit R e sent more is = record {
   at = λ came. e;
@@ -255,16 +249,16 @@ module _ (plan : Plan) (unit : ℕ) (R : Ends → Ends → Type 0) (e : Ends) (s
     (came_so : (l : List Act) → came_in (act ∷ l) ≡ came_in l) (sent_so : (l : List Act) → sent_in (act ∷ l) ≡ b ++ sent_in l)
     (is : now ≡ sent ++ b) (s : Side plan unit R e now list last) where
   act_sends : (some behind : List Act) → act ∷ list ≡ some ++ behind
-      → (more : List ℕ) × (sent_down plan unit (s.at (came_in some)) ≡ sent ++ (sent_in some ++ more))
+      → (more : List ℕ) × (sent_down unit (s.at (came_in some)) ≡ sent ++ (sent_in some ++ more))
   act_sends [] behind front =
       let m = s.sends [] list refl in
       (b ++ m.0, m.1 ∙ ap (λ (l : List ℕ). l ++ m.0) is ∙ append_assoc sent b m.0)
   act_sends (x ∷ some) behind front =
       let m = s.sends some behind (ap tail_of front) in
       subst (λ (y : Act). (more : List ℕ)
-      × (sent_down plan unit (s.at (came_in (y ∷ some))) ≡ sent ++ (sent_in (y ∷ some) ++ more))) (ap head_of front) (
+      × (sent_down unit (s.at (came_in (y ∷ some))) ≡ sent ++ (sent_in (y ∷ some) ++ more))) (ap head_of front) (
         m.0,
-        ap (λ (l : List Arrival). sent_down plan unit (s.at l)) (came_so some) ∙ m.1
+        ap (λ (l : List Arrival). sent_down unit (s.at l)) (came_so some) ∙ m.1
             ∙ ap (λ (l : List ℕ). l ++ (sent_in some ++ m.0)) is ∙ append_assoc sent b (sent_in some ++ m.0)
             ∙ ap (λ (l : List ℕ). sent ++ l) (sym (append_assoc b (sent_in some) m.0)
             ∙ ap (λ (l : List ℕ). l ++ m.0) (sym (sent_so some))),
@@ -288,7 +282,7 @@ then_at e at [] = e
 then_at e at (a ∷ came) = at came
 
 module _ (plan : Plan) (unit : ℕ) (R : Ends → Ends → Type 0) (e : Ends) (sent more : List ℕ) (what : Arrival) (list : List Act) (last : Ends)
-    (is : sent_down plan unit e ≡ sent ++ more) (s : Side plan unit R (hears_in plan unit what e) sent list last) where
+    (is : sent_down unit e ≡ sent ++ more) (s : Side plan unit R (hears_in plan unit what e) sent list last) where
   brought_on : (first : Ends) (downs : List Turn) (came rest : List Arrival) (a : Arrival)
       → what ∷ came_in list ≡ came ++ a ∷ rest
       → R first (record (hears_in plan unit a (then_at e s.at came)) { downs = downs })
@@ -300,11 +294,11 @@ module _ (plan : Plan) (unit : ℕ) (R : Ends → Ends → Type 0) (e : Ends) (s
       s.goes_on first downs came rest a (tail_so what x (came_in list) (came ++ a ∷ rest) next) j
 
   brought_sends : (some behind : List Act) → brings what ∷ list ≡ some ++ behind
-      → (left : List ℕ) × (sent_down plan unit (then_at e s.at (came_in some)) ≡ sent ++ (sent_in some ++ left))
+      → (left : List ℕ) × (sent_down unit (then_at e s.at (came_in some)) ≡ sent ++ (sent_in some ++ left))
   brought_sends [] behind front = (more, is)
   brought_sends (x ∷ some) behind front =
       subst (λ (y : Act). (left : List ℕ)
-      × (sent_down plan unit (then_at e s.at (came_in (y ∷ some))) ≡ sent ++ (sent_in (y ∷ some) ++ left)))
+      × (sent_down unit (then_at e s.at (came_in (y ∷ some))) ≡ sent ++ (sent_in (y ∷ some) ++ left)))
       (ap head_of front) (s.sends some behind (ap tail_of front))
 
   brought_ups : (came rest : List Arrival) → what ∷ came_in list ≡ came ++ rest
@@ -331,7 +325,7 @@ module _ (plan : Plan) (unit : ℕ) (R : Ends → Ends → Type 0) (e : Ends) (s
 
 -- acts in which the automation gives nothing: what goes out was given before
 pub listening : (plan : Plan) (unit : ℕ) (R : Ends → Ends → Type 0) (front : List Act) (e : Ends) (sent unsent : List ℕ) (list : List Act) (last : Ends)
-    → sent_down plan unit e ≡ sent ++ (sent_in front ++ unsent)
+    → sent_down unit e ≡ sent ++ (sent_in front ++ unsent)
     → Side plan unit R (heard_up plan unit (came_in front) e) (sent ++ sent_in front) list last
     → Side plan unit R e sent (front ++ list) last
 listening plan unit R [] e sent unsent list last is s =
@@ -355,7 +349,7 @@ listening plan unit R (fails ∷ front) e sent unsent list last is s =
 
 -- these acts end it
 pub last_side : (plan : Plan) (unit : ℕ) (R : Ends → Ends → Type 0) (e : Ends) (sent unsent : List ℕ) (list : List Act) → came_in list ≡ []
-    → sent_down plan unit e ≡ sent ++ (sent_in list ++ unsent) → Side plan unit R e sent list e
+    → sent_down unit e ≡ sent ++ (sent_in list ++ unsent) → Side plan unit R e sent list e
 last_side plan unit R e sent unsent list none is =
     subst (λ (l : List Act). Side plan unit R e sent l e) (append-nil list)
     (listening plan unit R list e sent unsent [] e is
@@ -366,8 +360,8 @@ last_side plan unit R e sent unsent list none is =
 
 -- one round: what is given goes out, and something comes
 one_round : (plan : Plan) (unit : ℕ) (R : Ends → Ends → Type 0) (o : Option Command) (e : Ends) (sent : List ℕ) (what : Arrival) (list : List Act)
-    (last : Ends) → sent_down plan unit e ≡ sent ++ bytes_of unit (option_to_list o)
-    → Side plan unit R (hears_in plan unit what e) (sent_down plan unit (hears_in plan unit what e)) list last
+    (last : Ends) → sent_down unit e ≡ sent ++ bytes_of unit (option_to_list o)
+    → Side plan unit R (hears_in plan unit what e) (sent_down unit (hears_in plan unit what e)) list last
     → Side plan unit R e sent (first_acts unit o ++ brings what ∷ list) last
 one_round plan unit R None e sent what list last is s =
     brings_first plan unit R e sent [] what list last is
@@ -375,7 +369,7 @@ one_round plan unit R None e sent what list last is s =
     (heard_down plan unit what e ∙ is ∙ append-nil sent) s)
 one_round plan unit R (Some c) e sent what list last is s =
     let b : List ℕ = command_bytes unit c in
-    let all : sent_down plan unit e ≡ sent ++ b = is ∙ ap (λ (l : List ℕ). sent ++ l) (append-nil b) in
+    let all : sent_down unit e ≡ sent ++ b = is ∙ ap (λ (l : List ℕ). sent ++ l) (append-nil b) in
     act_first plan unit R e sent (sent ++ b) (sends b) b (brings what ∷ list) last (λ l. refl) (λ l. refl) refl
     (brings_first plan unit R e (sent ++ b) [] what list last (all ∙ sym (append-nil (sent ++ b)))
     (subst (λ (l : List ℕ). Side plan unit R (hears_in plan unit what e) l list last) (heard_down plan unit what e ∙ all) s))
@@ -383,16 +377,16 @@ one_round plan unit R (Some c) e sent what list last is s =
 -- what happens first, and then these acts
 pub events_side : (plan : Plan) (unit : ℕ) (R : Ends → Ends → Type 0) (leads : Leads plan unit R) (out : List Act) (last : Ends)
     (events : List Event) (e : Ends) → AreMade at_once plan unit (driver_of e.automation) events
-    → Side plan unit R (ends_by plan unit e events) (sent_down plan unit (ends_by plan unit e events)) out last
-    → Side plan unit R e (sent_down plan unit e)
+    → Side plan unit R (ends_by plan unit e events) (sent_down unit (ends_by plan unit e events)) out last
+    → Side plan unit R e (sent_down unit e)
     (acts_in (steps_of at_once plan unit (driver_of e.automation) events) ++ out) last
 events_side plan unit R leads out last [] e made s = s
 events_side plan unit R leads out last (calls call.Take ∷ later) e made s =
-    led_first plan unit R e (heeds_in call.Take e) (sent_down plan unit e) _ _
+    led_first plan unit R e (heeds_in call.Take e) (sent_down unit e) _ _
     (λ first downs j. leads.on (two.took made.0) tt j) refl refl
     (events_side plan unit R leads out last later (heeds_in call.Take e) made.1 s)
 events_side plan unit R leads out last (calls call.Stop ∷ later) e made s =
-    led_first plan unit R e (heeds_in call.Stop e) (sent_down plan unit e) _ _
+    led_first plan unit R e (heeds_in call.Stop e) (sent_down unit e) _ _
     (λ first downs j. leads.on (two.halted made.0) tt j) refl refl
     (events_side plan unit R leads out last later (heeds_in call.Stop e) made.1 s)
 events_side plan unit R leads out last (arrives what ∷ later) e made s =
@@ -403,13 +397,13 @@ events_side plan unit R leads out last (arrives what ∷ later) e made s =
     let same : driver_of then.automation ≡ x =
     ap driver_of (heard_by plan unit what now) ∙ listens_so plan unit what (gives e.automation) in
     let acts_then : List Act = acts_in (steps_of at_once plan unit x later) in
-    led_first plan unit R e now (sent_down plan unit e) _ last (λ first downs j. leads.on two.gave tt j) refl refl
-    (subst (λ (l : List Act). Side plan unit R now (sent_down plan unit e) l last)
+    led_first plan unit R e now (sent_down unit e) _ last (λ first downs j. leads.on two.gave tt j) refl refl
+    (subst (λ (l : List Act). Side plan unit R now (sent_down unit e) l last)
     (sym (ap (λ (l : List Act). l ++ out) (round_so plan unit what a (steps_of at_once plan unit x later))
     ∙ append_assoc (first_acts unit (given plan a.state)) (brings what ∷ acts_then) out))
-    (one_round plan unit R (given plan e.automation.state) now (sent_down plan unit e) what (acts_then ++ out) last
-    (sent_given plan unit e)
-    (subst (λ (y : Auto Held). Side plan unit R then (sent_down plan unit then)
+    (one_round plan unit R (given plan e.automation.state) now (sent_down unit e) what (acts_then ++ out) last
+    (sent_more unit e (option_to_list (given plan e.automation.state)))
+    (subst (λ (y : Auto Held). Side plan unit R then (sent_down unit then)
     (acts_in (steps_of at_once plan unit y later) ++ out) last) same
     (events_side plan unit R leads out last later then
     (subst (λ (y : Auto Held). AreMade at_once plan unit y later) (sym same) made) s))))
@@ -418,16 +412,16 @@ events_side plan unit R leads out last (arrives what ∷ later) e made s =
 pub given_side : (plan : Plan) (unit : ℕ) (R : Ends → Ends → Type 0) (leads : Leads plan unit R) (e : Ends) (out : List Act)
     (unsent : List ℕ) → came_in out ≡ []
     → bytes_of unit (option_to_list (given plan e.automation.state)) ≡ sent_in out ++ unsent
-    → Side plan unit R e (sent_down plan unit e) out (with_command plan e)
+    → Side plan unit R e (sent_down unit e) out (with_command plan e)
 given_side plan unit R leads e out unsent none part =
-    led_first plan unit R e (with_command plan e) (sent_down plan unit e) out (with_command plan e)
+    led_first plan unit R e (with_command plan e) (sent_down unit e) out (with_command plan e)
     (λ first downs j. leads.on two.gave tt j) refl refl
-    (last_side plan unit R (with_command plan e) (sent_down plan unit e) unsent out none
-    (sent_given plan unit e ∙ ap (λ (l : List ℕ). sent_down plan unit e ++ l) part))
+    (last_side plan unit R (with_command plan e) (sent_down unit e) unsent out none
+    (sent_more unit e (option_to_list (given plan e.automation.state)) ∙ ap (λ (l : List ℕ). sent_down unit e ++ l) part))
 
 pub side_of : (plan : Plan) (unit count : ℕ) (R : Ends → Ends → Type 0) (leads : Leads plan unit R) (e : Ends) (answer : Result Ran BrokenOff) (a' : Auto Held)
     → (run : IsRun at_once plan unit count (driver_of e.automation) a' answer)
-    → Side plan unit R e (sent_down plan unit e) (acts_in (steps_in run))
+    → Side plan unit R e (sent_down unit e) (acts_in (steps_in run))
     (with_command plan (ends_by plan unit e run.events))
 side_of plan unit count R leads e answer a' run =
     let now : Ends = ends_by plan unit e run.events in
@@ -435,7 +429,7 @@ side_of plan unit count R leads e answer a' run =
     let last = last_so plan unit count run.events (driver_of now.automation) a' answer run.more
     (subst (λ (x : Auto Held). Ending at_once plan unit count run.events x answer run.more a')
     (sym (ap driver_of (automation_so plan unit e run.events) ∙ led_so plan unit e.automation run.events)) run.ending) in
-    subst (λ (l : List Act). Side plan unit R e (sent_down plan unit e) l (with_command plan now))
+    subst (λ (l : List Act). Side plan unit R e (sent_down unit e) l (with_command plan now))
     (sym (acts_both (steps_of at_once plan unit (driver_of e.automation) run.events) run.more))
     (events_side plan unit R leads more (with_command plan now) run.events e run.made
     (given_side plan unit R leads now more (last.unsent ++ bytes_of unit last.others) last.none

@@ -1,6 +1,5 @@
 -- What an automation that hears at once awaits, after a tick, an exchange's end and a time-out.
-use Rattle.std.proofs.Common.{ℕ, ◌≡◌, arith, List, [], ◌∷◌, ◌++◌, map, true, refl, sym, ap, ◌∙◌, append_assoc, append-nil}
-use Rattle.std.proofs.lemmas.List.{map-append}
+use Rattle.std.proofs.Common.{ℕ, ◌≡◌, arith, ◌++◌, true, refl, ap, ◌∙◌, append-nil}
 use Rattle.std.specs.Option.{option_to_list, option_map_or}
 use Rattle.std.specs.Prelude.{Option, Some, None}
 use Rattle.vdcp_frame.specs.Message.{Content}
@@ -17,12 +16,7 @@ use Rattle.vdcp_auto.specs.declared.outcome.Outcome.{Outcome}
 use Rattle.vdcp_auto.specs.declared.phase.Mode.{Mode}
 use Rattle.vdcp_auto.specs.declared.phase.Mode.TheVariants.{Plain, Confirming}
 use Rattle.vdcp_auto.specs.declared.phase.Transition.{Transition}
-use Rattle.vdcp_drive.specs.Reading.{completed}
-use Rattle.vdcp_laws.specs.Automation.{Prompt, commands_in, gives, hears, hears_all, listens, receives}
-use Rattle.vdcp_wire.specs.Wires.{Arrival, bytes, silence, close}
-
-abbrev pub command_of : Exchange → Command
-command_of e = e.command
+use Rattle.vdcp_laws.specs.Automation.{Prompt, gives, hears}
 
 -- A tick.
 
@@ -93,40 +87,3 @@ pub record Comes (plan : Plan) (h : Option Heard) (p q : Prompt) : Type 0 where
 pub hears_comes : (plan : Plan) (unit : ℕ) (m : Content) (p : Prompt)
     → Comes plan (Some (heard_as unit m)) p (hears plan unit m p)
 hears_comes plan unit m p = record { state_is = refl; log_is = refl }
-
--- What an automation has sent: a tick adds the command that it gives, and a listen nothing.
-
-pub commands_gives : (plan : Plan) (p : Prompt)
-    → commands_in plan (gives p) ≡ commands_in plan p ++ option_to_list (given plan p.state)
-commands_gives plan p = ap (λ (l : List Command). map command_of p.log ++ l) (ticks_state plan p.state)
-    ∙ sym (append_assoc (map command_of p.log) (option_to_list (awaited plan p.state))
-    (option_to_list (given plan p.state)))
-
-pub commands_receives : (plan : Plan) (h : Option Heard) (p : Prompt)
-    → commands_in plan (receives plan h p) ≡ commands_in plan p
-commands_receives plan h p = by (ended_by plan h p.state) refl where
-  by : (o : Option Exchange) → ended_by plan h p.state ≡ o
-      → commands_in plan (receives plan h p) ≡ commands_in plan p
-  by None is = ap (λ (x : Option Exchange). map command_of (logged p.log x)
-      ++ option_to_list (awaited plan (left_by plan p.state x))) is
-  by (Some e) is =
-      let awaits : awaited plan p.state ≡ Some e.command = exchange_is plan.mode h (awaited plan p.state) e is in
-      ap (λ (x : Option Exchange). map command_of (logged p.log x)
-      ++ option_to_list (awaited plan (left_by plan p.state x))) is
-      ∙ ap (λ (o : Option Command). map command_of (p.log ++ e ∷ []) ++ option_to_list o)
-      (awaits_none_in plan p.state.stage e p.state awaits)
-      ∙ append-nil (map command_of (p.log ++ e ∷ []))
-      ∙ map-append command_of p.log (e ∷ [])
-      ∙ ap (λ (o : Option Command). map command_of p.log ++ option_to_list o) (sym awaits)
-
-commands_hears_all : (plan : Plan) (unit : ℕ) (ms : List Content) (p : Prompt)
-    → commands_in plan (hears_all plan unit ms p) ≡ commands_in plan p
-commands_hears_all plan unit [] p = refl
-commands_hears_all plan unit (m ∷ ms) p = commands_hears_all plan unit ms (hears plan unit m p)
-    ∙ commands_receives plan (Some (heard_as unit m)) p
-
-pub commands_listens : (plan : Plan) (unit : ℕ) (a : Arrival) (p : Prompt)
-    → commands_in plan (listens plan unit a p) ≡ commands_in plan p
-commands_listens plan unit (bytes piece) p = commands_hears_all plan unit (completed p.held piece) p
-commands_listens plan unit silence p = commands_receives plan None p
-commands_listens plan unit close p = commands_receives plan None p

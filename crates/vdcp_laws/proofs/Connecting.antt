@@ -1,8 +1,7 @@
 -- The two ends, over one connection after another and over kills, and the late channel beside them.
 use Rattle.std.proofs.Common.{ℕ, ◌≡◌, ◌<◌, ◌≤◌, inr, All, List, [], ◌∷◌, ◌++◌, map, refl, sym, ap, ap₂, subst, ◌∙◌, append-nil}
 use Rattle.std.proofs.lemmas.List.Elements.{All-cons, All-head, All-nil, All-tail}
-use Rattle.std.specs.Option.{option_to_list}
-use Rattle.std.specs.Prelude.{Option, Some, None, is_some}
+use Rattle.std.specs.Prelude.{Some, None, is_some}
 use Rattle.vdcp_frame.specs.Message.{Content, Fits, spelling}
 use Rattle.vdcp_words.specs.Commands.{command_message}
 use Rattle.vdcp_words.specs.declared.command.Command.{Command}
@@ -18,20 +17,17 @@ use Rattle.vdcp_journal.specs.declared.row.Note.{Note}
 use Rattle.vdcp_journal.specs.declared.row.Note.TheVariants as note
 use Rattle.vdcp_drive.specs.Serving.{Service}
 use Rattle.vdcp_laws.specs.Announced.{Announces, came_again}
-use Rattle.vdcp_laws.specs.Automation.{commands_in}
 use Rattle.vdcp_laws.specs.Below.{Laws}
 use Rattle.vdcp_laws.specs.Kills as kills
 use Rattle.vdcp_laws.specs.Kills.{IsRun, happened, silence_notes}
 use Rattle.vdcp_drive.specs.Reading.{holds}
-use Rattle.vdcp_drive.specs.Traces.{bytes_of}
 use Rattle.vdcp_drive.specs.ServerEars.{in_stream}
 use Rattle.vdcp_world.specs.LateLine.LateChannel.{AsksOnly, LateChannel, IsQuestion, after_late_event, command_bursts, made_anew, new_late_channel}
 use Rattle.vdcp_world.specs.LateLine.LateEvent as event
 use Rattle.vdcp_laws.specs.TwoEnds.{AreJoined, begun, went_on, gave, asks, came_up, came_down, waited, passed, paused, shut, took, halted, resumed, restarted}
 use Rattle.vdcp_laws.specs.TwoEnds.{GoesOn, as_announced, as_noted}
-use Rattle.vdcp_laws.specs.TwoEnds.{CanJoin, Ends, IsLateChannel, aired_now, commands_sent, connected_anew, log_now, new_ends, port_now, with_command, with_take, heard_again}
+use Rattle.vdcp_laws.specs.TwoEnds.{CanJoin, Ends, IsLateChannel, aired_now, connected_anew, log_now, new_ends, port_now, with_take, heard_again}
 use Rattle.vdcp_laws.proofs.Bytes.{nothing_unfinished}
-use Rattle.vdcp_laws.proofs.Commands.{commands_receives, timed_out}
 use Rattle.vdcp_laws.proofs.Noting.{are_reached}
 use Rattle.vdcp_laws.proofs.Queues.{Takes, bytes_to, logged_behind, loses_down, loses_up, messages_to, nothing_taken, with_queues}
 use Rattle.vdcp_laws.proofs.Asks.{asks_next, writable}
@@ -40,7 +36,7 @@ use Rattle.vdcp_laws.proofs.Held.{ahead}
 use Rattle.vdcp_laws.proofs.Journaled.{run_reached}
 use Rattle.vdcp_laws.proofs.Killed.{again_noted, gives_ready}
 use Rattle.vdcp_laws.proofs.Running.{loses_down_so, loses_up_so, no_notes, silent_so}
-use Rattle.vdcp_laws.proofs.Joining.{AreBeside, IsBeside, comes_down, comes_up, gives_next, passes, pauses, same_down, shuts, times_out, wishes}
+use Rattle.vdcp_laws.proofs.Joining.{AreBeside, IsBeside, comes_down, comes_up, gives_next, passes, pauses, shuts, times_out, wishes}
 
 -- Connections.
 
@@ -67,17 +63,15 @@ are_asked law plan unit (c ∷ cs) small port only =
 -- the channel beside two new ends has what was asked on its way down
 abbrev pub first_channel : Plan → ClockedPort → List Command → LateChannel
 first_channel plan port asked =
-    new_late_channel plan port (map spelling (messages_to port.state.unit (commands_sent plan (new_ends port asked)))) []
+    new_late_channel plan port (map spelling (messages_to port.state.unit asked)) []
 
 pub begins : (law : Laws) (plan : Plan) (port : ClockedPort) (asked : List Command) → CanJoin plan port asked
     → IsBeside plan port (new_ends port asked) (first_channel plan port asked)
 begins law plan port asked can =
     let unit : ℕ = port.state.unit in
-    let sent : List Command = commands_sent plan (new_ends port asked) in
-    let q = are_asked law plan unit sent can.can_start.unit_fits can.can_start.port_fits
-    (subst (All (IsQuestion plan.port)) (sym (append-nil asked)) can.only_asks) in
+    let q = are_asked law plan unit asked can.can_start.unit_fits can.can_start.port_fits can.only_asks in
     record {
-      run = kills.begun plan port (map spelling (messages_to unit sent)) [] (record {
+      run = kills.begun plan port (map spelling (messages_to unit asked)) [] (record {
         some = can.can_start.some;
         few = can.can_start.few;
         unit_fits = can.can_start.unit_fits;
@@ -97,10 +91,10 @@ begins law plan port asked can =
       server_is = refl;
       downwards = record {
         done = [];
-        left = messages_to unit sent;
+        left = messages_to unit asked;
         held = [];
         fits = q.fits;
-        sent_is = bytes_to unit sent;
+        sent_is = bytes_to unit asked;
         came_is = refl;
         at_is = refl;
         unfinished = nothing_unfinished law.spelt;
@@ -143,9 +137,7 @@ connects law plan port e c d q b run same is unit clips =
       aired_is = ap (λ (x : LateChannel). x.aired) same ∙ b.aired_is ∙ sym (append-nil (aired_now e));
       held = holds [];
       server_is = ap (λ (p : ClockedPort). record { port = p; ear = in_stream (holds []) }) (sym is);
-      downwards = subst (λ (l : List Command). Takes (bytes_of port.state.unit l) [] (holds []) d.down)
-          (sym (ap (λ (x : Option Command). option_to_list x) (timed_out plan s)))
-          (subst (Takes [] [] (holds [])) (sym (ap (λ (x : LateChannel). x.down) same)) (nothing_taken law.spelt));
+      downwards = subst (Takes [] [] (holds [])) (sym (ap (λ (x : LateChannel). x.down) same)) (nothing_taken law.spelt);
       upwards = subst (Takes [] [] (holds [])) (sym (ap (λ (x : LateChannel). x.up) same)) (nothing_taken law.spelt);
     }
 
@@ -155,7 +147,7 @@ pub takes : (plan : Plan) (port : ClockedPort) (e : Ends) (c : LateChannel)
     → outcome_of e.automation.state.stage ≡ None → IsBeside plan port e c
     → IsBeside plan port (with_take e) (after_late_event c event.Take)
 takes plan port e c on b =
-    wishes plan port e c (taken c.state) (taken e.automation.state) (note.Take ∷ []) b (ap taken b.state_is) refl
+    wishes plan port e c (taken c.state) (taken e.automation.state) (note.Take ∷ []) b (ap taken b.state_is)
     (happened b.run event.Take (ap (λ (s : State). outcome_of s.stage) b.state_is ∙ on))
 
 -- what was heard last is heard once more, after a take
@@ -189,8 +181,7 @@ hears_again law plan port asked e c h can ready a b =
         aired_is = b.aired_is;
         held = g.held;
         server_is = g.server_is;
-        downwards = same_down plan unit (with_command plan e) (commands_in plan (heard_again plan h e).automation) g.held
-            d.down (commands_receives plan (Some h) (with_take (with_command plan e)).automation) g.downwards;
+        downwards = g.downwards;
         upwards = b.upwards;
       };
     }
@@ -222,9 +213,9 @@ beside law plan port asked _ can begun =
 beside law plan port asked _ can (went_on {e} j gave) =
     let r = beside law plan port asked e can j in
     record { channel = _; beside = gives_next law plan port asked e r.channel can (ready law plan port asked e can j) r.beside }
-beside law plan port asked _ can (went_on {e} j (asks q d is none)) =
+beside law plan port asked _ can (went_on {e} j (asks q d is)) =
     let r = beside law plan port asked e can j in
-    record { channel = _; beside = asks_next law plan port asked e r.channel q d can is none r.beside }
+    record { channel = _; beside = asks_next law plan port asked e r.channel q d can is r.beside }
 beside law plan port asked _ can (went_on {e} j (came_up piece rest is)) =
     let r = beside law plan port asked e can j in
     record { channel = _; beside = (comes_up law plan port e piece rest r.channel r.beside is).beside }
@@ -246,7 +237,7 @@ beside law plan port asked _ can (went_on {e} j (halted on)) =
     let r = beside law plan port asked e can j in record {
       channel = _;
       beside = wishes plan port e r.channel (stopped r.channel.state) (stopped e.automation.state) (note.Stop ∷ []) r.beside
-          (ap stopped r.beside.state_is) refl
+          (ap stopped r.beside.state_is)
           (happened r.beside.run event.Stop (ap (λ (s : State). outcome_of s.stage) r.beside.state_is ∙ on));
     }
 beside law plan port asked _ can (went_on {e} j (resumed {on} goes)) =

@@ -62,7 +62,7 @@ step_rests : (plan : Plan) (unit : ℕ) (e e' : Ends) (o : Outcome) → Step pla
     → e.automation.state.stage ≡ Ended o → Rests o e.automation.state e'.automation.state
 step_rests plan unit e _ o gave is =
     rests o e.automation.state (ticked e.automation.state) is (ap (λ (t : Stage). tick_in t e.automation.state) is)
-step_rests plan unit e _ o (asks question c asked none) is = (is, refl)
+step_rests plan unit e _ o (asks question c asked) is = (is, refl)
 step_rests plan unit e _ o (came_up piece rest sent) is =
     rests o e.automation.state (hears_all plan unit (completed e.automation.held piece) e.automation).state is
     (still_heard plan unit (completed e.automation.held piece) e.automation o is)

@@ -1,5 +1,6 @@
 -- Two ends with their bytes, computed: a run that the laws speak of; and for some premises what happens without them.
 use Rattle.std.proofs.Common.{◌≡◌, ℕ, true, false, List, [], ◌∷◌, ◌++◌, length, max, refl, ap, take, map}
+use Rattle.std.specs.Option.{option_to_list}
 use Rattle.std.specs.Prelude.{None, Some}
 use Rattle.vdcp_value.specs.Timecodes.{bcd_of, frames_of}
 use Rattle.vdcp_value.specs.declared.clip_id.ClipId.{ClipId}
@@ -21,13 +22,13 @@ use Rattle.vdcp_port.specs.declared.access.Access.TheVariants.{Selected}
 use Rattle.vdcp_auto.specs.Commands.{cue_for}
 use Rattle.vdcp_auto.specs.Plan.{Plan}
 use Rattle.vdcp_auto.specs.State.{Ready, State}
-use Rattle.vdcp_auto.specs.Turn.{came_to, given, ticked}
+use Rattle.vdcp_auto.specs.Turn.{awaited, came_to, given, ticked}
 use Rattle.vdcp_auto.specs.declared.phase.Mode.TheVariants.{Confirming, Plain}
 use Rattle.vdcp_auto.specs.declared.phase.Phase.TheVariants as phase
 use Rattle.vdcp_wire.specs.Wires.{Arrival, bytes, silence}
 use Rattle.vdcp_drive.specs.Traces.{bytes_of}
 use Rattle.vdcp_laws.specs.Announced.{Announces, came_again}
-use Rattle.vdcp_laws.specs.Automation.{Prompt, commands_in, gives, new_prompt, led, prompted}
+use Rattle.vdcp_laws.specs.Automation.{Prompt, gives, new_prompt, led, prompted}
 use Rattle.vdcp_drive.specs.Reading.{holds}
 use Rattle.vdcp_drive.specs.Served.{items_served, only, served}
 use Rattle.vdcp_drive.specs.Serving.{begins, items_in, hook_steps}
@@ -176,7 +177,7 @@ abbrev InTime : Timecode → Type 0
 InTime clip_length = (e : Ends) × AreNewInTime plan (port clip_length) e
 
 abbrev exchanges : (clip_length : Timecode) → (x : InTime clip_length) → (down up : List ℕ)
-    → sent_down plan 0 (with_command plan x.0) ≡ bytes_in (arrivals x.0.downs) ++ (down ++ [])
+    → sent_down 0 (with_command plan x.0) ≡ bytes_in (arrivals x.0.downs) ++ (down ++ [])
     → sent_up (with_down (listen (bytes down)) (with_command plan x.0)) ≡ x.0.ups ++ (up ++ []) → InTime clip_length
 exchanges clip_length x down up sent answered = (
   _,
@@ -217,6 +218,10 @@ it_airs length = refl
 
 and_is_reported : (prompted plan 0 late_in).state.settled ≡ 1
 and_is_reported = refl
+
+-- the commands of the exchanges that have ended, and then the one that is awaited
+abbrev commands_in : Plan → Prompt → List Command
+commands_in plan p = map (λ e. e.command) p.log ++ option_to_list (awaited plan p.state)
 
 -- what an automation has sent once this came to it, the command that it gives next included
 abbrev sent_by : Prompt → List Arrival → List ℕ

@@ -229,7 +229,7 @@ module _ (law : Laws) (plan : Plan) (port : ClockedPort) (can : CanRun plan port
   line e t = law.line plan port t.events t.loses_none
 
   nothing_on_way : (e : Ends) (t : AreTimely plan port e)
-      → (is_awaiting e.automation.state.stage ≡ true → HasCome plan port.state.unit e)
+      → (is_awaiting e.automation.state.stage ≡ true → HasCome port.state.unit e)
       → ((channel t).down ≡ []) × ((channel t).up ≡ [])
   nothing_on_way e t come = by (is_awaiting e.automation.state.stage) refl
     where
@@ -285,9 +285,9 @@ module _ (law : Laws) (plan : Plan) (port : ClockedPort) (can : CanRun plan port
       goes_with plan port e t e' (note.Stop ∷ []) refl event.Stop tt (λ all. All-head IsNoStopNote note.Stop [] all)
       (λ _. refl)
       (wishes plan port e (late_of (channel t)) (stopped (channel t).state) (stopped e.automation.state) (note.Stop ∷ [])
-      t.beside (ap stopped t.beside.state_is) refl
+      t.beside (ap stopped t.beside.state_is)
       (happened t.beside.run late.Stop (ap (λ (s : State). outcome_of s.stage) t.beside.state_is ∙ on)))
-  takes_step e e' j t (two.asks question d is none) timed = absurd timed
+  takes_step e e' j t (two.asks question d is) timed = absurd timed
   takes_step e e' j t (two.resumed goes) timed = absurd timed
   takes_step e e' j t (two.restarted goes) timed = absurd timed
 

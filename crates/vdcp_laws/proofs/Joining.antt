@@ -15,12 +15,12 @@ use Rattle.vdcp_port.specs.Clock.{ClockedPort, after_frame}
 use Rattle.vdcp_auto.specs.Course.{logged}
 use Rattle.vdcp_auto.specs.Plan.{Plan}
 use Rattle.vdcp_auto.specs.State.{State}
-use Rattle.vdcp_auto.specs.Turn.{awaited, came_to, ended_by, given, is_ready, ticked}
+use Rattle.vdcp_auto.specs.Turn.{came_to, ended_by, given, is_ready, ticked}
 use Rattle.vdcp_auto.specs.declared.exchange.Exchange.{Exchange}
 use Rattle.vdcp_journal.specs.declared.row.Note.{Note}
 use Rattle.vdcp_wire.specs.Wires.{bytes, silence, close}
 use Rattle.vdcp_laws.specs.Kills.{IsRun, happened}
-use Rattle.vdcp_laws.specs.Automation.{Prompt, commands_in, hears_all, listens}
+use Rattle.vdcp_laws.specs.Automation.{Prompt, hears_all, listens}
 use Rattle.vdcp_drive.specs.Reading.{Held, completed, held_after, held_after_silence}
 use Rattle.vdcp_drive.specs.Steps.{command_bytes}
 use Rattle.vdcp_drive.specs.Traces.{bytes_of}
@@ -31,10 +31,9 @@ use Rattle.vdcp_drive.specs.Turns.{Turn, arrivals, listen, frame}
 use Rattle.vdcp_world.specs.LateLine.LateChannel.{LateChannel, after_late_event, after_late_events, command_bursts}
 use Rattle.vdcp_world.specs.LateLine.LateEvent.{LateEvent}
 use Rattle.vdcp_world.specs.LateLine.LateEvent as event
-use Rattle.vdcp_laws.specs.TwoEnds.{CanJoin, Ends, aired_now, bytes_in, commands_sent, log_now, sent_down, sent_up, server_new, server_now, notes_ended, notes_heard, wishing, with_automation, with_command, with_down, with_up}
+use Rattle.vdcp_laws.specs.TwoEnds.{CanJoin, Ends, aired_now, bytes_in, log_now, sending, sent_down, sent_up, server_new, server_now, notes_ended, notes_heard, wishing, with_automation, with_command, with_down, with_up}
 use Rattle.vdcp_laws.specs.Below.{Answered, Laws, Written}
 use Rattle.vdcp_laws.proofs.Bytes.{spelt}
-use Rattle.vdcp_laws.proofs.Commands.{commands_gives, commands_listens}
 use Rattle.vdcp_laws.proofs.Queues.{Takes, bursts_to, bytes_from, bytes_to, delivers, downs_of, hears_each, logged_behind, messages_from, messages_to, rests, sends_on, takes_on, ups_of}
 use Rattle.vdcp_laws.proofs.Running.{hears_so, no_notes, runs_down, silent_so, ticks_so}
 use Rattle.vdcp_laws.proofs.Serving.{bytes_else, bytes_more, clips_frame, clips_stay}
@@ -50,7 +49,7 @@ pub record IsBeside (plan : Plan) (start_port : ClockedPort) (e : Ends) (c : Lat
   pub aired_is : c.aired ≡ aired_now e
   pub held : Held
   pub server_is : server_now e ≡ record { port = c.port; ear = in_stream held }
-  pub downwards : Takes (sent_down plan start_port.state.unit e) (bytes_in (arrivals e.downs)) held c.down
+  pub downwards : Takes (sent_down start_port.state.unit e) (bytes_in (arrivals e.downs)) held c.down
   pub upwards : Takes (sent_up e) e.ups e.automation.held c.up
 
 pub record AreBeside (plan : Plan) (port : ClockedPort) (e : Ends) : Type 0 where
@@ -73,29 +72,28 @@ given_fits law unit None small writable = All-nil Fits
 given_fits law unit (Some c) small writable =
     All-cons Fits (command_message unit c) [] (law.command unit c small writable) (All-nil Fits)
 
--- the next command, if one is given, goes down
+-- commands that are given go down
 
-pub sent_given : (plan : Plan) (unit : ℕ) (e : Ends) → sent_down plan unit (with_command plan e)
-    ≡ sent_down plan unit e ++ bytes_of unit (option_to_list (given plan e.automation.state))
-sent_given plan unit e =
-    let p : Prompt = e.automation in
-    let more : List Command = option_to_list (given plan p.state) in
-    ap (bytes_of unit)
-    (ap (λ (l : List Command). e.asked ++ l) (commands_gives plan p) ∙ sym (append_assoc e.asked (commands_in plan p) more))
-    ∙ flat_map-append (command_bytes unit) (commands_sent plan e) more
+pub sent_more : (unit : ℕ) (e : Ends) (cs : List Command) → sent_down unit (sending cs e) ≡ sent_down unit e ++ bytes_of unit cs
+sent_more unit e cs = flat_map-append (command_bytes unit) e.sent cs
 
-pub sent_with : (plan : Plan) (unit : ℕ) (e : Ends) → sent_down plan unit (with_command plan e)
-    ≡ sent_down plan unit e ++ spelt (messages_to unit (option_to_list (given plan e.automation.state)))
-sent_with plan unit e = sent_given plan unit e
-    ∙ ap (λ (l : List ℕ). sent_down plan unit e ++ l) (bytes_to unit (option_to_list (given plan e.automation.state)))
+pub sent_with : (unit : ℕ) (e : Ends) (cs : List Command)
+    → sent_down unit (sending cs e) ≡ sent_down unit e ++ spelt (messages_to unit cs)
+sent_with unit e cs = sent_more unit e cs ∙ ap (λ (l : List ℕ). sent_down unit e ++ l) (bytes_to unit cs)
 
--- an automation that has sent the same
-pub same_down : (plan : Plan) (unit : ℕ) (e : Ends) (commands : List Command) (held : Held) (queue : List (List ℕ))
-    → commands ≡ commands_in plan e.automation
-    → Takes (sent_down plan unit e) (bytes_in (arrivals e.downs)) held queue
-    → Takes (bytes_of unit (e.asked ++ commands)) (bytes_in (arrivals e.downs)) held queue
-same_down plan unit e commands held queue same w =
-    subst (λ (l : List Command). Takes (bytes_of unit (e.asked ++ l)) (bytes_in (arrivals e.downs)) held queue) (sym same) w
+pub goes_down : (plan : Plan) (port : ClockedPort) (e : Ends) (c : LateChannel) (b : IsBeside plan port e c)
+    (o now : Option Command) → o ≡ now → All Fits (messages_to port.state.unit (option_to_list o))
+    → Takes (sent_down port.state.unit (sending (option_to_list o) e)) (bytes_in (arrivals e.downs)) b.held
+    (c.down ++ command_bursts c.port.state.unit now)
+goes_down plan port e c b o now is fits =
+    let unit : ℕ = port.state.unit in
+    let came : List ℕ = bytes_in (arrivals e.downs) in
+    let ms : List Content = messages_to unit (option_to_list o) in
+    subst (λ (l : List ℕ). Takes l came b.held (c.down ++ command_bursts c.port.state.unit now))
+    (sym (sent_with unit e (option_to_list o)))
+    (subst (λ (q : List (List ℕ)). Takes (sent_down unit e ++ spelt ms) came b.held (c.down ++ q))
+    (sym (bursts_to unit o) ∙ ap₂ command_bursts (sym b.unit_is) is)
+    (sends_on ms (sent_down unit e) came b.held c.down b.downwards fits))
 
 pub gives_next : (law : Laws) (plan : Plan) (port : ClockedPort) (asked : List Command) (e : Ends) (c : LateChannel)
     → CanJoin plan port asked → is_some (given plan e.automation.state) ≡ is_ready e.automation.state.stage
@@ -103,13 +101,9 @@ pub gives_next : (law : Laws) (plan : Plan) (port : ClockedPort) (asked : List C
 gives_next law plan port asked e c can ready b =
     let unit : ℕ = port.state.unit in
     let s : State = e.automation.state in
-    let came : List ℕ = bytes_in (arrivals e.downs) in
-    let ms : List Content = messages_to unit (option_to_list (given plan s)) in
-    let queue : map spelling ms ≡ command_bursts c.port.state.unit (given c.plan c.state) =
-    sym (bursts_to unit (given plan s)) ∙ ap₂ command_bursts (sym b.unit_is) (ap₂ given (sym b.plan_is) (sym b.state_is)) in
+    let given_is : given c.plan c.state ≡ given plan s = ap₂ given b.plan_is b.state_is in
     record {
-      run = ticks_so c e.notes (given plan s) (ap₂ given b.plan_is b.state_is)
-          (ready ∙ ap (λ (x : State). is_ready x.stage) (sym b.state_is)) b.run;
+      run = ticks_so c e.notes (given plan s) given_is (ready ∙ ap (λ (x : State). is_ready x.stage) (sym b.state_is)) b.run;
       plan_is = b.plan_is;
       unit_is = b.unit_is;
       clips_are = b.clips_are;
@@ -118,12 +112,9 @@ gives_next law plan port asked e c can ready b =
       aired_is = b.aired_is;
       held = b.held;
       server_is = b.server_is;
-      downwards = subst (λ (l : List ℕ). Takes l came b.held (c.down ++ command_bursts c.port.state.unit (given c.plan c.state)))
-          (sym (sent_with plan unit e))
-          (subst (λ (q : List (List ℕ)). Takes (sent_down plan unit e ++ spelt ms) came b.held (c.down ++ q)) queue
-          (sends_on ms (sent_down plan unit e) came b.held c.down b.downwards
+      downwards = goes_down plan port e c b (given plan s) (given c.plan c.state) (sym given_is)
           (given_fits law.written unit (given plan s) can.can_start.unit_fits
-          (law.written.given plan s can.can_start.of_bytes can.can_start.port_fits))));
+          (law.written.given plan s can.can_start.of_bytes can.can_start.port_fits));
       upwards = b.upwards;
     }
 
@@ -145,8 +136,7 @@ times_out plan port e c b = record {
   aired_is = b.aired_is;
   held = b.held;
   server_is = b.server_is;
-  downwards = same_down plan port.state.unit e (commands_in plan (listens plan port.state.unit silence e.automation)) b.held
-      c.down (commands_listens plan port.state.unit silence e.automation) b.downwards;
+  downwards = b.downwards;
   upwards = rests (sent_up e) e.ups e.automation.held c.up b.upwards;
 }
 
@@ -179,19 +169,16 @@ comes_up law plan port e piece rest c b is =
         held = b.held;
         server_is = b.server_is
             ∙ ap (λ (q : ClockedPort). record { port = q; ear = in_stream b.held }) (sym h.port_is);
-        downwards = same_down plan unit e (commands_in plan (listens plan unit (bytes piece) p)) b.held d.down
-            (commands_listens plan unit (bytes piece) p)
-            (subst (Takes (sent_down plan unit e) (bytes_in (arrivals e.downs)) b.held) (sym h.down_is) b.downwards);
+        downwards = subst (Takes (sent_down unit e) (bytes_in (arrivals e.downs)) b.held) (sym h.down_is) b.downwards;
         upwards = subst (Takes (sent_up e) (e.ups ++ piece) (held_after p.held piece)) (sym h.up_is) on.takes;
       };
     }
 
--- a wish of the operator, which changes neither what is awaited nor what is held
+-- a wish of the operator, which changes neither what was sent nor what is held
 pub wishes : (plan : Plan) (port : ClockedPort) (e : Ends) (c : LateChannel) (state now : State) (notes : List Note)
-    → IsBeside plan port e c → state ≡ now → awaited plan now ≡ awaited plan e.automation.state
-    → IsRun (record c { state = state }) (e.notes ++ notes)
+    → IsBeside plan port e c → state ≡ now → IsRun (record c { state = state }) (e.notes ++ notes)
     → IsBeside plan port (with_automation (wishing now e.automation) notes e) (record c { state = state })
-wishes plan port e c state now notes b is awaits run = record {
+wishes plan port e c state now notes b is run = record {
   run = run;
   plan_is = b.plan_is;
   unit_is = b.unit_is;
@@ -201,9 +188,7 @@ wishes plan port e c state now notes b is awaits run = record {
   aired_is = b.aired_is;
   held = b.held;
   server_is = b.server_is;
-  downwards = same_down plan port.state.unit e (commands_in plan (wishing now e.automation)) b.held c.down
-      (ap (λ (o : Option Command). map (λ (x : Exchange). x.command) e.automation.log ++ option_to_list o) awaits)
-      b.downwards;
+  downwards = b.downwards;
   upwards = b.upwards;
 }
 
@@ -220,12 +205,12 @@ answers_fit written answered unit p ms small =
 -- Bytes come down: each command that they complete is delivered.
 pub comes_down : (law : Laws) (plan : Plan) (port : ClockedPort) (asked : List Command) (e : Ends) (piece rest : List ℕ)
     (c : LateChannel) → CanJoin plan port asked → IsBeside plan port e c
-    → sent_down plan port.state.unit e ≡ bytes_in (arrivals e.downs) ++ (piece ++ rest)
+    → sent_down port.state.unit e ≡ bytes_in (arrivals e.downs) ++ (piece ++ rest)
     → Comes plan port (with_down (listen (bytes piece)) e) c c.down downs_of
 comes_down law plan port asked e piece rest c can b is =
     let unit : ℕ = port.state.unit in
     let what : Turn = listen (bytes piece) in
-    let sent : List ℕ = sent_down plan unit e in
+    let sent : List ℕ = sent_down unit e in
     let came : List ℕ = bytes_in (arrivals e.downs) in
     let on = takes_on law.spelt law.completed sent came b.held c.down b.downwards piece rest is in
     let new : List Content = on.new in
@@ -275,7 +260,7 @@ happens_so : (law : Laws) (plan : Plan) (port : ClockedPort) (e : Ends) (c : Lat
     → sent_at what (record { port = c.port; ear = in_stream b.held }) ≡ []
     → aired_at what (record { port = c.port; ear = in_stream b.held }) ≡ []
     → serves what (record { port = c.port; ear = in_stream b.held }) ≡ record { port = p; ear = in_stream held }
-    → Takes (sent_down plan port.state.unit e) (bytes_in (arrivals e.downs)) held c.down
+    → Takes (sent_down port.state.unit e) (bytes_in (arrivals e.downs)) held c.down
     → p.state.unit ≡ c.port.state.unit → p.clips ≡ c.port.clips → IsRun (record c { port = p }) e.notes
     → IsBeside plan port (with_down what e) (record c { port = p })
 happens_so law plan port e c what p held b no_bytes none no_items goes takes unit clips run =
@@ -292,7 +277,7 @@ happens_so law plan port e c what p held b no_bytes none no_items goes takes uni
           ∙ ap (λ (l : List Item). items ++ l) (ap (aired_at what) b.server_is ∙ no_items) ∙ append-nil items));
       held = held;
       server_is = s.left ∙ ap (serves what) b.server_is ∙ goes;
-      downwards = subst (λ (l : List ℕ). Takes (sent_down plan port.state.unit e) l held c.down)
+      downwards = subst (λ (l : List ℕ). Takes (sent_down port.state.unit e) l held c.down)
           (sym (bytes_else e.downs what no_bytes)) takes;
       upwards = subst (λ (l : List ℕ). Takes l e.ups e.automation.held c.up)
           (sym (s.sent ∙ ap (λ (l : List ℕ). sent_up e ++ l) (ap (sent_at what) b.server_is ∙ none) ∙ append-nil (sent_up e)))
@@ -314,7 +299,7 @@ pauses law plan port e c b =
     let w = b.downwards in
     happens_so law plan port e c (listen silence) c.port (held_after_silence b.held) b refl
     (ap (λ (h : Held). sent_at (listen silence) (record { port = c.port; ear = in_stream h })) w.at_is) refl refl
-    (rests (sent_down plan port.state.unit e) (bytes_in (arrivals e.downs)) b.held c.down w) refl refl b.run
+    (rests (sent_down port.state.unit e) (bytes_in (arrivals e.downs)) b.held c.down w) refl refl b.run
 
 pub shuts : (law : Laws) (plan : Plan) (port : ClockedPort) (e : Ends) (c : LateChannel) → IsBeside plan port e c
     → IsBeside plan port (with_down (listen close) e) c

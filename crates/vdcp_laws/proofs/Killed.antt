@@ -11,19 +11,17 @@ use Rattle.vdcp_auto.specs.declared.exchange.Exchange.{Exchange}
 use Rattle.vdcp_auto.specs.declared.exchange.Heard.{Heard}
 use Rattle.vdcp_journal.specs.declared.row.Note.{Note}
 use Rattle.vdcp_journal.specs.declared.row.Note.TheVariants as note
-use Rattle.vdcp_wire.specs.Wires.{bytes, silence}
 use Rattle.vdcp_drive.specs.Traces.{bytes_of}
 use Rattle.vdcp_drive.specs.Steps.{given_notes}
 use Rattle.vdcp_words.specs.declared.command.Command.{Command}
 use Rattle.vdcp_words.specs.declared.command.Command.TheVariants as command
 use Rattle.vdcp_drive.specs.Serving.{begins, items_in, left_by, hook_steps}
 use Rattle.vdcp_drive.specs.declared.hearing.Hearing.TheVariants as hearing
-use Rattle.vdcp_laws.specs.TwoEnds.{AreJoined, Ends, IsLateChannel, IsSince, aired_now, at_once, commands_sent, connected_anew, heard_again, later, note_for, notes_ended, notes_given, port_now, went_on, with_command, with_kept}
+use Rattle.vdcp_laws.specs.TwoEnds.{AreJoined, Ends, IsLateChannel, IsSince, aired_now, at_once, connected_anew, heard_again, later, note_for, notes_ended, notes_given, port_now, went_on, with_command, with_kept}
 use Rattle.vdcp_laws.specs.TwoEnds.{gave, asks, came_up, came_down, waited, passed, paused, shut, took, halted, resumed, restarted}
 use Rattle.vdcp_laws.specs.Announced.{Announces, came_again, played_notes}
 use Rattle.vdcp_laws.specs.Automation.{end_notes}
 use Rattle.vdcp_laws.proofs.Announced.{ends_again, sent_of}
-use Rattle.vdcp_laws.proofs.Commands.{commands_listens}
 use Rattle.vdcp_laws.proofs.Journaled.{given_awaited, rows_make, told}
 use Rattle.vdcp_laws.specs.Kills.{IsRun}
 use Rattle.vdcp_journal.specs.Resume.{AreTold, after_rows}
@@ -32,61 +30,34 @@ use Rattle.vdcp_journal.specs.declared.row.Row.{Row}
 use Rattle.vdcp_laws.proofs.Noting.{heard_is}
 
 -- since then the automation has given nothing more, and the connection is the same
-record KeepsOn (plan : Plan) (port : ClockedPort) (asked : List Command) (kept now : Ends) : Type 0 where
-  joined : AreJoined plan port asked (with_kept kept now)
-  port_is : now.port ≡ kept.port
-  before_is : now.aired_before ≡ kept.aired_before
-  commands : commands_sent plan now ≡ commands_sent plan kept
+abbrev KeepsOn : Plan → ClockedPort → List Command → (kept now : Ends) → Type 0
+KeepsOn plan port asked kept now = AreJoined plan port asked (with_kept kept now) × (now.port ≡ kept.port)
+    × (now.aired_before ≡ kept.aired_before) × (now.sent ≡ kept.sent)
 
 keeps_on : (plan : Plan) (port : ClockedPort) (asked : List Command) (kept now : Ends) → AreJoined plan port asked kept
     → IsSince plan port.state.unit kept now → KeepsOn plan port asked kept now
-keeps_on plan port asked kept _ j at_once = record { joined = j; port_is = refl; before_is = refl; commands = refl }
+keeps_on plan port asked kept _ j at_once = (j, refl, refl, refl)
 keeps_on plan port asked kept _ j (later {e} since gave none) = absurd none
-keeps_on plan port asked kept _ j (later {e} since (asks question c is first) none) = absurd none
+keeps_on plan port asked kept _ j (later {e} since (asks question c is) none) = absurd none
 keeps_on plan port asked kept _ j (later {e} since (resumed goes) none) = absurd none
 keeps_on plan port asked kept _ j (later {e} since (restarted goes) none) = absurd none
-keeps_on plan port asked kept _ j (later {e} since (came_up piece rest is) none) =
-    let k = keeps_on plan port asked kept e j since in record {
-      joined = k.joined;
-      port_is = k.port_is;
-      before_is = k.before_is;
-      commands = ap (λ (l : List Command). e.asked ++ l) (commands_listens plan port.state.unit (bytes piece) e.automation)
-          ∙ k.commands;
-    }
+keeps_on plan port asked kept _ j (later {e} since (came_up piece rest is) none) = keeps_on plan port asked kept e j since
 keeps_on plan port asked kept _ j (later {e} since (came_down piece rest is) none) =
-    let k = keeps_on plan port asked kept e j since in record {
-      joined = went_on k.joined (came_down piece rest (ap (bytes_of port.state.unit) (sym k.commands) ∙ is));
-      port_is = k.port_is;
-      before_is = k.before_is;
-      commands = k.commands;
-    }
-keeps_on plan port asked kept _ j (later {e} since waited none) =
-    let k = keeps_on plan port asked kept e j since in record {
-      joined = k.joined;
-      port_is = k.port_is;
-      before_is = k.before_is;
-      commands = ap (λ (l : List Command). e.asked ++ l) (commands_listens plan port.state.unit silence e.automation)
-          ∙ k.commands;
-    }
+    let k = keeps_on plan port asked kept e j since in
+    (went_on k.0 (came_down piece rest (ap (bytes_of port.state.unit) (sym k.3) ∙ is)), k.1, k.2, k.3)
+keeps_on plan port asked kept _ j (later {e} since waited none) = keeps_on plan port asked kept e j since
 keeps_on plan port asked kept _ j (later {e} since passed none) =
-    let k = keeps_on plan port asked kept e j since in
-    record { joined = went_on k.joined passed; port_is = k.port_is; before_is = k.before_is; commands = k.commands }
+    let k = keeps_on plan port asked kept e j since in (went_on k.0 passed, k.1, k.2, k.3)
 keeps_on plan port asked kept _ j (later {e} since paused none) =
-    let k = keeps_on plan port asked kept e j since in
-    record { joined = went_on k.joined paused; port_is = k.port_is; before_is = k.before_is; commands = k.commands }
+    let k = keeps_on plan port asked kept e j since in (went_on k.0 paused, k.1, k.2, k.3)
 keeps_on plan port asked kept _ j (later {e} since shut none) =
-    let k = keeps_on plan port asked kept e j since in
-    record { joined = went_on k.joined shut; port_is = k.port_is; before_is = k.before_is; commands = k.commands }
-keeps_on plan port asked kept _ j (later {e} since (took on) none) =
-    let k = keeps_on plan port asked kept e j since in
-    record { joined = k.joined; port_is = k.port_is; before_is = k.before_is; commands = k.commands }
-keeps_on plan port asked kept _ j (later {e} since (halted on) none) =
-    let k = keeps_on plan port asked kept e j since in
-    record { joined = k.joined; port_is = k.port_is; before_is = k.before_is; commands = k.commands }
+    let k = keeps_on plan port asked kept e j since in (went_on k.0 shut, k.1, k.2, k.3)
+keeps_on plan port asked kept _ j (later {e} since (took on) none) = keeps_on plan port asked kept e j since
+keeps_on plan port asked kept _ j (later {e} since (halted on) none) = keeps_on plan port asked kept e j since
 
 pub kept_joined : (plan : Plan) (port : ClockedPort) (asked : List Command) (kept now : Ends) → AreJoined plan port asked kept
     → IsSince plan port.state.unit kept now → AreJoined plan port asked (with_kept kept now)
-kept_joined plan port asked kept now j since = (keeps_on plan port asked kept now j since).joined
+kept_joined plan port asked kept now j since = (keeps_on plan port asked kept now j since).0
 
 pub kept_gives : (plan : Plan) (port : ClockedPort) (asked : List Command) (kept now : Ends) → AreJoined plan port asked kept
     → IsSince plan port.state.unit kept now → AreJoined plan port asked (with_command plan (with_kept kept now))
@@ -95,13 +66,13 @@ kept_gives plan port asked kept now joined since = went_on (kept_joined plan por
 pub kept_port : (plan : Plan) (port : ClockedPort) (asked : List Command) (kept now : Ends) → AreJoined plan port asked kept
     → IsSince plan port.state.unit kept now → port_now (with_kept kept now) ≡ port_now now
 kept_port plan port asked kept now j since =
-    ap (λ (q : ClockedPort). (left_by (begins hearing.AtOnce q) now.downs).port) (sym (keeps_on plan port asked kept now j since).port_is)
+    ap (λ (q : ClockedPort). (left_by (begins hearing.AtOnce q) now.downs).port) (sym (keeps_on plan port asked kept now j since).1)
 
 pub kept_aired : (plan : Plan) (port : ClockedPort) (asked : List Command) (kept now : Ends) → AreJoined plan port asked kept
     → IsSince plan port.state.unit kept now → aired_now (with_kept kept now) ≡ aired_now now
 kept_aired plan port asked kept now j since =
     let k = keeps_on plan port asked kept now j since in
-    ap₂ (λ (l : List Item) (q : ClockedPort). l ++ items_in (hook_steps (begins hearing.AtOnce q) now.downs)) (sym k.before_is) (sym k.port_is)
+    ap₂ (λ (l : List Item) (q : ClockedPort). l ++ items_in (hook_steps (begins hearing.AtOnce q) now.downs)) (sym k.2) (sym k.1)
 
 -- What goes on with a PLAY that the notes announce has these notes more.
 

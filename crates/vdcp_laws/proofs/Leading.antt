@@ -150,7 +150,7 @@ IsThere R e at turns autos servers =
     R e (record (at (came_in autos)) { downs = e.downs ++ upto turns (came_in servers) })
 
 module _ (plan : Plan) (unit : ℕ) (R : Ends → Ends → Type 0) (leads : Leads plan unit R) (e : Ends) (list : List Act)
-    (last : Ends) (turns : List Turn) (below : List Act) (s : Side plan unit R e (sent_down plan unit e) list last)
+    (last : Ends) (turns : List Turn) (below : List Act) (s : Side plan unit R e (sent_down unit e) list last)
     (waits : (now : Ends) (autos : List Act) (a : Arrival) → IsFront list (autos ++ brings a ∷ []) → IsQuiet a
     → R e now → R e (hears_in plan unit a now)) (whole : came_in below ≡ arrivals turns)
     (answers : SendsAnswers e turns below) where
@@ -196,7 +196,7 @@ module _ (plan : Plan) (unit : ℕ) (R : Ends → Ends → Type 0) (leads : Lead
       (sym (came_both autos (brings what ∷ [])))
       (s.goes_on e downs (came_in autos) (came_in front.0) what (next_in list autos front.0 what front.1) j)
 
-  come : (autos servers : List Act) → AreCarried plan unit e autos servers → IsFront list autos → IsFront below servers
+  come : (autos servers : List Act) → AreCarried unit e autos servers → IsFront list autos → IsFront below servers
       → IsThere R e s.at turns autos servers
   come _ _ carried.begun front back =
       frames_on plan unit R leads e (s.at []) e.downs turns (s.begins e e.downs (leads.begun e))
@@ -230,7 +230,7 @@ module _ (plan : Plan) (unit : ℕ) (R : Ends → Ends → Type 0) (leads : Lead
       let came : List ℕ = bytes_in (arrivals e.downs) ++ bytes_in (came_in servers) in
       lower autos servers (bytes piece) back
       (leads.on (two.came_down piece (rest ++ out.0)
-      (enough (sent_down plan unit (s.at (came_in autos))) (sent_down plan unit e) (sent_in autos) came piece rest out.0
+      (enough (sent_down unit (s.at (came_in autos))) (sent_down unit e) (sent_in autos) came piece rest out.0
       out.1 is
       ∙ ap (λ (l : List ℕ). l ++ (piece ++ (rest ++ out.0))) (sym (downs_so e turns below servers whole before))))
       tt (come autos servers h front before))
@@ -244,7 +244,7 @@ module _ (plan : Plan) (unit : ℕ) (R : Ends → Ends → Type 0) (leads : Lead
       silent_below autos servers fails refl (come autos servers h front (without below servers fails back))
 
   -- all of it
-  pub side_led : AreCarried plan unit e list below → R e (record last { downs = e.downs ++ turns })
+  pub side_led : AreCarried unit e list below → R e (record last { downs = e.downs ++ turns })
   side_led c =
       subst (λ (x : Ends). R e (record x { downs = e.downs ++ turns })) s.ends
       (subst (λ (l : List Turn). R e (record (s.at (came_in list)) { downs = e.downs ++ l }))

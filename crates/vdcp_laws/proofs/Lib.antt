@@ -40,3 +40,4 @@ mod LossyGoings
 mod Asks
 mod Asked
 mod Tried
+mod HeldPlays

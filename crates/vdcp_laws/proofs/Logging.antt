@@ -202,7 +202,7 @@ connects_logged plan e logged_so =
 pub are_logged : (plan : Plan) (port : ClockedPort) (asked : List Command) (e : Ends) → AreJoined plan port asked e → IsLogged plan e
 are_logged plan port asked _ begun = record { open_is = refl; closed_is = refl }
 are_logged plan port asked _ (went_on {e} j gave) = gave_logged plan e (are_logged plan port asked e j)
-are_logged plan port asked _ (went_on {e} j (asks question c is none)) =
+are_logged plan port asked _ (went_on {e} j (asks question c is)) =
     let l = are_logged plan port asked e j in record { open_is = l.open_is; closed_is = l.closed_is }
 are_logged plan port asked _ (went_on {e} j (came_up piece rest is)) =
     let p : Prompt = e.automation in

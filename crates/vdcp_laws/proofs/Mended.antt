@@ -22,13 +22,13 @@ use Rattle.vdcp_journal.specs.declared.row.Note.TheVariants as note
 use Rattle.vdcp_journal.specs.declared.row.Row.{Row}
 use Rattle.vdcp_drive.specs.Steps.{given_notes}
 use Rattle.vdcp_laws.specs.Announced.{Announces, came_again}
-use Rattle.std.specs.Option.{option_to_list}
 use Rattle.vdcp_journal_file.specs.Recording.{IsTimedOut, rows_left, seen_before}
 use Rattle.vdcp_journal_file.specs.declared.pending.Pending.{Pending}
 use Rattle.vdcp_laws.specs.Mended as safe
 use Rattle.vdcp_laws.specs.Mended.{AreOfJoined, AreSafe, AreUnkept, Finds, IsGoneOnWith, IsSession, MayLack, anew, behind, state_in}
 use Rattle.vdcp_laws.specs.TwoEnds.{AreJoined, CanJoin, Ends, GoesOn, aired_now, as_announced, as_noted, connected_anew, gave, heard_again, note_for, notes_ended, notes_given, port_now, restarted, resumed, went_on, with_command}
 use Rattle.vdcp_laws.proofs.Announced.{after_play, none_some, on_refusal_plays, on_silence_plays, one_is, sent_of, thinned_more, ticked_twice}
+use Rattle.vdcp_laws.proofs.Asked.{no_notes}
 use Rattle.vdcp_laws.proofs.Commands as commands
 use Rattle.vdcp_laws.proofs.Commands.{awaits_none_in, exchange_is, left_by}
 use Rattle.vdcp_laws.proofs.Journaled.{AllTold, after_more, given_awaited, of_rows, same_state}
@@ -383,8 +383,8 @@ waits_so None waits is = (ap (λ (p : Pending). notes_in (rows_left p)) is, ap s
 waits_so (Some c) waits (time, is) = (ap (λ (p : Pending). notes_in (rows_left p)) is, ap seen_before is)
 
 -- nothing is awaited once what was open timed out
-pub ready : (plan : Plan) (rows : List Row) → option_to_list (awaited plan (state_in plan rows)) ≡ []
-ready plan rows = ap option_to_list (commands.timed_out plan (after_rows plan start rows))
+pub ready : (plan : Plan) (rows : List Row) → awaited plan (state_in plan rows) ≡ None
+ready plan rows = commands.timed_out plan (after_rows plan start rows)
 
 -- of what goes on, and of rows that are its journal, a session begins; or it was lost
 goes_with : Below → (plan : Plan) (port found : ClockedPort) (asked : List Command) (time : Moment) (on : Ends)
@@ -484,24 +484,14 @@ is_mended below plan port now found asked aired journal time can left finds =
 
 -- A session that kept nothing.
 
-none_behind : (xs ys : List Command) → xs ++ ys ≡ [] → ys ≡ []
-none_behind [] ys is = is
-none_behind (x ∷ xs) ys is = cc
-
-nothing_ends : (plan : Plan) (s : State) (o : Option Command) → awaited plan s ≡ o → option_to_list o ≡ []
-    → notes_ended plan None s ≡ []
-nothing_ends plan s o awaits none = grind arith
-
 pub begins_again : (plan : Plan) (port found : ClockedPort) (asked : List Command) (rows : List Row) (waits : Pending) (e : Ends)
     → IsSession plan port asked rows waits e → Finds (port_now e) found
     → IsSession plan port asked rows waits (connected_anew plan found e)
 begins_again plan port found asked rows waits e s finds =
     let a : State = e.automation.state in record {
       joined = connects plan port found asked e e s.joined as_noted finds;
-      ready = ap option_to_list (commands.timed_out plan a);
+      ready = commands.timed_out plan a;
       thinned = subst (λ (l : List Note). IsThinned l (notes_in (rows ++ rows_left waits)))
-          (sym (ap (λ (l : List Note). e.notes ++ l)
-          (nothing_ends plan a (awaited plan a) refl (none_behind _ (option_to_list (awaited plan a)) s.ready))
-          ∙ append-nil e.notes)) s.thinned;
+          (sym (ap (λ (l : List Note). e.notes ++ l) (no_notes plan None a s.ready) ∙ append-nil e.notes)) s.thinned;
       unseen = s.unseen;
     }

@@ -76,7 +76,7 @@ pub are_reached : (plan : Plan) (port : ClockedPort) (asked : List Command) (e :
     → AreJoined plan port asked e → Reached plan e.automation.state (log_now e)
 are_reached plan port asked _ can begun = course.begun can.can_start.some can.can_start.few
 are_reached plan port asked _ can (went_on {e} j gave) = called (are_reached plan port asked e can j) Tick
-are_reached plan port asked _ can (went_on {e} j (asks question c is none)) = are_reached plan port asked e can j
+are_reached plan port asked _ can (went_on {e} j (asks question c is)) = are_reached plan port asked e can j
 are_reached plan port asked _ can (went_on {e} j (came_up piece rest is)) =
     hears_reached plan port.state.unit e.log_before (completed e.automation.held piece) e.automation
     (are_reached plan port asked e can j)

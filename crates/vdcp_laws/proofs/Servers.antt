@@ -4,7 +4,6 @@ use Rattle.std.specs.Prelude.{Result}
 use Rattle.vdcp_value.specs.declared.part.Item.{Item}
 use Rattle.vdcp_frame.specs.Progress.{Progress}
 use Rattle.vdcp_port.specs.Clock.{ClockedPort}
-use Rattle.vdcp_auto.specs.Plan.{Plan}
 use Rattle.vdcp_auto.specs.State.{State}
 use Rattle.vdcp_auto.specs.declared.exchange.Exchange.{Exchange}
 use Rattle.vdcp_journal.specs.declared.row.Note.{Note}
@@ -43,7 +42,7 @@ pub record Laws : Type 0 where
 -- what counts of what its wire did is carried, too, and answers what came
 pub record ServedSo (e : Ends) (turns : List Turn) (below : List Act) (aired : List Item) : Type 0 where
   pub heard : List Act
-  pub carried : (plan : Plan) (unit : ℕ) (autos : List Act) → AreCarried plan unit e autos below → AreCarried plan unit e autos heard
+  pub carried : (unit : ℕ) (autos : List Act) → AreCarried unit e autos below → AreCarried unit e autos heard
   pub whole : came_in heard ≡ arrivals turns
   pub answers : SendsAnswers e turns heard
   pub aired_is : aired_now (record e { downs = e.downs ++ turns }) ≡ aired
@@ -57,7 +56,7 @@ served_so {can} law e _ _ _ (servers.prompt {count} {server} {server'} {h} {h'} 
     let ends = ends_so s.ending counts in
     record {
       heard = acts_of service s.turns ++ last;
-      carried = λ plan unit autos c. counted plan unit e autos (acts_of service s.turns) (left_by service s.turns) s.done last counts c;
+      carried = λ unit autos c. counted unit e autos (acts_of service s.turns) (left_by service s.turns) s.done last counts c;
       whole = turns_whole service s.turns last;
       answers = sends_answers law.goes_on e all (acts_of service s.turns ++ last) (λ some behind parts. moment_of law.goes_on e all some
           (law.answered service s.turns can count server.hearing ends.answer last ends.steps ends.port server'.reader
@@ -70,7 +69,7 @@ served_so {can} law e _ _ _ (servers.untorn {count} {server} {server'} {h} {h'} 
     let ends = ends_so s.ending counts in
     record {
       heard = acts_of service s.turns ++ last;
-      carried = λ plan unit autos c. counted plan unit e autos (acts_of service s.turns) (left_by service s.turns) s.done last counts c;
+      carried = λ unit autos c. counted unit e autos (acts_of service s.turns) (left_by service s.turns) s.done last counts c;
       whole = silent_whole service s.turns last;
       answers = sends_answers law.goes_on e (at_once_for all) (acts_of service s.turns ++ last)
           (λ some behind parts. silent_moment law.goes_on law.acts e before all some downs u

@@ -27,7 +27,7 @@ use Rattle.vdcp_laws.proofs.Servers.{ServedSo}
 
 calm_in_time : {plan : Plan} {unit : ℕ} {e e' : Ends} (step : Step plan unit e e') → IsCalm step → IsInTime step
 calm_in_time two.waited calm = absurd calm
-calm_in_time (two.asks question c is none) calm = calm
+calm_in_time (two.asks question c is) calm = calm
 calm_in_time (two.resumed goes) calm = calm
 calm_in_time (two.restarted goes) calm = calm
 calm_in_time other calm = tt
@@ -46,7 +46,7 @@ among (x ∷ came) rest a all = among came rest a (All-tail IsPiece x (came ++ a
 pub never_silent : (law : Steps) (plan : Plan) (unit count : ℕ) (e : Ends) (answer : Result Ran BrokenOff) (a' : Auto Held)
     (turns : List Turn) (below : List Act) (aired : List Item)
     → (run : IsRun at_once plan unit count (driver_of e.automation) a' answer) → All IsPiece (arrivals run.events)
-    → ServedSo e turns below aired → AreCarried plan unit e (acts_in (steps_in run)) below
+    → ServedSo e turns below aired → AreCarried unit e (acts_in (steps_in run)) below
     → AreInTime plan unit e (ends_at plan unit e run.events (e.downs ++ turns))
 never_silent law plan unit count e answer a' turns below aired run all served c =
     let list : List Act = acts_in (steps_in run) in
@@ -55,4 +55,4 @@ never_silent law plan unit count e answer a' turns below aired run all served c 
     (λ now autos a front quiet j. absurd (never_quiet a (among (came_in autos) (came_in front.0) a
     (subst (All IsPiece) (sym (came_of_run law plan unit count (driver_of e.automation) a' answer run)
     ∙ next_in list autos front.0 a front.1) all)) quiet)) served.whole served.answers
-    (served.carried plan unit list c)
+    (served.carried unit list c)

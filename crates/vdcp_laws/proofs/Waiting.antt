@@ -485,7 +485,7 @@ thinned_on all earlier some _ first (before_play before after took asks hears fr
     (thinned_on all earlier some _ first thin)))
 
 -- the rows of a run behind earlier ones
-waits_behind : (before left : Pending) (earlier rows : List Row) (all : List Note) (notes : List Kept)
+pub waits_behind : (before left : Pending) (earlier rows : List Row) (all : List Note) (notes : List Kept)
     → IsThinned all (notes_in (earlier ++ rows_left before)) → seen_before before ≡ None
     → WaitsSince before notes rows left → Waits (all ++ map note_for notes) (notes_in (earlier ++ rows)) left
 waits_behind before left earlier rows all notes thin none w =

@@ -1,13 +1,12 @@
 -- An automation that hears each message at once, with the exchanges that ended: what a driver does (`after`), one exchange
 -- after another.
 use Rattle.std.specs.Option.{option_to_list}
-use Rattle.std.specs.Prelude.{ℕ, List, [], ◌∷◌, ◌++◌, map, Option, None, Some}
+use Rattle.std.specs.Prelude.{ℕ, List, [], ◌∷◌, map, Option, None, Some}
 use Rattle.vdcp_frame.specs.Message.{Content}
-use Rattle.vdcp_words.specs.declared.command.Command.{Command}
 use Rattle.vdcp_auto.specs.Course.{logged}
 use Rattle.vdcp_auto.specs.Heard.{heard_as}
 use Rattle.vdcp_auto.specs.Plan.{Plan}
-use Rattle.vdcp_auto.specs.Turn.{start, awaited, ticked, came_to, ended_by}
+use Rattle.vdcp_auto.specs.Turn.{start, ticked, came_to, ended_by}
 use Rattle.vdcp_auto.specs.declared.exchange.Exchange.{Exchange}
 use Rattle.vdcp_auto.specs.declared.exchange.Heard.{Heard}
 use Rattle.vdcp_auto.specs.State.{State}
@@ -68,10 +67,6 @@ led plan unit p (calls c ∷ later) = led plan unit (heeds c p) later
 
 abbrev pub prompted : Plan → ℕ → List Arrival → Prompt
 prompted plan unit came = led plan unit new_prompt (map arrives came)
-
--- the commands of the exchanges that have ended, and then the one that is awaited
-abbrev pub commands_in : Plan → Prompt → List Command
-commands_in plan p = map (λ e. e.command) p.log ++ option_to_list (awaited plan p.state)
 
 -- what is kept of an exchange that ended, if one did
 abbrev pub end_notes : Option Exchange → List Kept

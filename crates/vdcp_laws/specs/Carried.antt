@@ -21,30 +21,30 @@ driver_of p = record { ear = p.held; state = p.state }
 
 -- What the automation's wire and the server's have done since these ends: to each comes, in order and in whatever pieces, a
 -- beginning of the bytes that the other has sent by then.
-pub data AreCarried (plan : Plan) (unit : ℕ) (e : Ends) : List Act → List Act → Type 0 where
-  begun : AreCarried plan unit e [] []
+pub data AreCarried (unit : ℕ) (e : Ends) : List Act → List Act → Type 0 where
+  begun : AreCarried unit e [] []
   -- the automation's wire
-  sent : {autos servers : List Act} → AreCarried plan unit e autos servers → (b : List ℕ)
-      → AreCarried plan unit e (autos ++ sends b ∷ []) servers
-  up : {autos servers : List Act} → AreCarried plan unit e autos servers → (piece rest : List ℕ)
+  sent : {autos servers : List Act} → AreCarried unit e autos servers → (b : List ℕ)
+      → AreCarried unit e (autos ++ sends b ∷ []) servers
+  up : {autos servers : List Act} → AreCarried unit e autos servers → (piece rest : List ℕ)
       → sent_up e ++ sent_in servers ≡ (e.ups ++ bytes_in (came_in autos)) ++ (piece ++ rest)
-      → AreCarried plan unit e (autos ++ brings (bytes piece) ∷ []) servers
-  waited : {autos servers : List Act} → AreCarried plan unit e autos servers
-      → AreCarried plan unit e (autos ++ brings silence ∷ []) servers
-  hung_up : {autos servers : List Act} → AreCarried plan unit e autos servers
-      → AreCarried plan unit e (autos ++ brings close ∷ []) servers
-  failed : {autos servers : List Act} → AreCarried plan unit e autos servers → AreCarried plan unit e (autos ++ fails ∷ []) servers
+      → AreCarried unit e (autos ++ brings (bytes piece) ∷ []) servers
+  waited : {autos servers : List Act} → AreCarried unit e autos servers
+      → AreCarried unit e (autos ++ brings silence ∷ []) servers
+  hung_up : {autos servers : List Act} → AreCarried unit e autos servers
+      → AreCarried unit e (autos ++ brings close ∷ []) servers
+  failed : {autos servers : List Act} → AreCarried unit e autos servers → AreCarried unit e (autos ++ fails ∷ []) servers
   -- the server's wire
-  answered : {autos servers : List Act} → AreCarried plan unit e autos servers → (b : List ℕ)
-      → AreCarried plan unit e autos (servers ++ sends b ∷ [])
-  down : {autos servers : List Act} → AreCarried plan unit e autos servers → (piece rest : List ℕ)
-      → sent_down plan unit e ++ sent_in autos ≡ (bytes_in (arrivals e.downs) ++ bytes_in (came_in servers)) ++ (piece ++ rest)
-      → AreCarried plan unit e autos (servers ++ brings (bytes piece) ∷ [])
-  paused : {autos servers : List Act} → AreCarried plan unit e autos servers
-      → AreCarried plan unit e autos (servers ++ brings silence ∷ [])
-  shut : {autos servers : List Act} → AreCarried plan unit e autos servers
-      → AreCarried plan unit e autos (servers ++ brings close ∷ [])
-  broke : {autos servers : List Act} → AreCarried plan unit e autos servers → AreCarried plan unit e autos (servers ++ fails ∷ [])
+  answered : {autos servers : List Act} → AreCarried unit e autos servers → (b : List ℕ)
+      → AreCarried unit e autos (servers ++ sends b ∷ [])
+  down : {autos servers : List Act} → AreCarried unit e autos servers → (piece rest : List ℕ)
+      → sent_down unit e ++ sent_in autos ≡ (bytes_in (arrivals e.downs) ++ bytes_in (came_in servers)) ++ (piece ++ rest)
+      → AreCarried unit e autos (servers ++ brings (bytes piece) ∷ [])
+  paused : {autos servers : List Act} → AreCarried unit e autos servers
+      → AreCarried unit e autos (servers ++ brings silence ∷ [])
+  shut : {autos servers : List Act} → AreCarried unit e autos servers
+      → AreCarried unit e autos (servers ++ brings close ∷ [])
+  broke : {autos servers : List Act} → AreCarried unit e autos servers → AreCarried unit e autos (servers ++ fails ∷ [])
 
 -- a server's turns, with the one in which its wire then failed
 abbrev pub all_turns : List Turn → List Act → List Turn

@@ -13,14 +13,14 @@ use Rattle.vdcp_world.specs.declared.event.Event.{Event}
 use Rattle.vdcp_laws.specs.TwoEnds.{Ends, Step, aired_now, asks, bytes_in, log_now, new_ends, port_now, resumed, restarted, sent_down, sent_up, waited}
 
 -- all that either end has sent has come to the other
-pub record HasCome (plan : Plan) (unit : ℕ) (e : Ends) : Type 0 where
-  pub down : sent_down plan unit e ≡ bytes_in (arrivals e.downs)
+pub record HasCome (unit : ℕ) (e : Ends) : Type 0 where
+  pub down : sent_down unit e ≡ bytes_in (arrivals e.downs)
   pub up : sent_up e ≡ e.ups
 
 -- What is awaited doesn't time out before that; nothing is asked beside the controller; and neither end is restarted.
 abbrev pub IsInTime : {plan : Plan} {unit : ℕ} {e e' : Ends} → Step plan unit e e' → Type 0
-IsInTime {plan} {unit} {e} waited = is_awaiting e.automation.state.stage ≡ true → HasCome plan unit e
-IsInTime (asks question c is none) = ⊥
+IsInTime {plan} {unit} {e} waited = is_awaiting e.automation.state.stage ≡ true → HasCome unit e
+IsInTime (asks question c is) = ⊥
 IsInTime (resumed goes) = ⊥
 IsInTime (restarted goes) = ⊥
 IsInTime _ = Unit {0}

@@ -18,7 +18,7 @@ use Rattle.vdcp_journal.specs.declared.row.Note.TheVariants as note
 use Rattle.vdcp_journal.specs.declared.row.Row.{Row}
 use Rattle.vdcp_journal_file.specs.Recording.{IsTimedOut, rows_left, seen_before}
 use Rattle.vdcp_journal_file.specs.declared.pending.Pending.{Pending}
-use Rattle.vdcp_laws.specs.Automation.{commands_in, new_prompt}
+use Rattle.vdcp_laws.specs.Automation.{new_prompt}
 use Rattle.vdcp_laws.specs.TwoEnds.{AreJoined, Ends, aired_now, new_ends, port_now}
 use Rattle.vdcp_world.specs.LateLine.LateChannel.{made_anew}
 
@@ -60,7 +60,7 @@ pub record AreOfJoined (plan : Plan) (port : ClockedPort) (asked : List Command)
 pub record IsSession (plan : Plan) (port : ClockedPort) (asked : List Command) (rows : List Row) (waits : Pending) (e : Ends)
     : Type 0 where
   pub joined : AreJoined plan port asked e
-  pub ready : commands_in plan e.automation ≡ []
+  pub ready : awaited plan e.automation.state ≡ None
   pub thinned : IsThinned e.notes (notes_in (rows ++ rows_left waits))
   pub unseen : seen_before waits ≡ None
 

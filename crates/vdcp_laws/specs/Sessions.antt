@@ -1,82 +1,162 @@
 -- What a session of `vdcp run` with an ear that hears at once did over a connection (`HasTried`), and where that leaves both
--- ends: an automation of its own asked first, if that had to be, and with the ear that this left the list was played.
-use Rattle.std.specs.Prelude.{ℕ, List, [], ◌++◌, Option, None, Some}
-use Rattle.vdcp_words.specs.declared.command.Command.{Command}
+-- ends. In each stretch an automation of its own asked first, if that had to be, and with the ear that this left the list was
+-- played: up to a PLAY that was held, but in the last one.
+use Rattle.std.specs.Prelude.{ℕ, ◌≡◌, List, [], ◌++◌, Bool, Option, None, Some}
+use Rattle.vdcp_auto.specs.Plan.{Plan}
 use Rattle.vdcp_auto.specs.State.{State}
+use Rattle.vdcp_auto.specs.Turn.{awaited}
 use Rattle.vdcp_auto.specs.declared.exchange.Exchange.{Exchange}
 use Rattle.vdcp_wire.specs.Acts.{Act}
-use Rattle.vdcp_drive.specs.Auto.{log_of}
+use Rattle.vdcp_drive.specs.Auto.{AreMade, Event, log_of}
 use Rattle.vdcp_drive.specs.Hearing.{at_once}
 use Rattle.vdcp_drive.specs.Leaves.{steps_in}
 use Rattle.vdcp_drive.specs.Reading.{Held}
-use Rattle.vdcp_drive.specs.Steps.{World}
+use Rattle.vdcp_drive.specs.Steps.{Step, steps_of}
 use Rattle.vdcp_drive.specs.Traces.{acts_in, came_in, commands_kept, kept_in}
 use Rattle.vdcp_drive.specs.Turns.{Turn}
-use Rattle.vdcp_journal_file.specs.Recording.{Recording}
-use Rattle.vdcp_laws.specs.OneConnection.{ends_at}
-use Rattle.vdcp_laws.specs.TwoEnds.{Ends, asked_first, bytes_in}
+use Rattle.vdcp_journal.specs.declared.row.Row.{Row}
+use Rattle.vdcp_journal_file.specs.Recorded.{WaitsSince}
+use Rattle.vdcp_journal_file.specs.Recording.{rows_left}
+use Rattle.vdcp_journal_file.specs.declared.pending.Pending.{Pending}
+use Rattle.vdcp_journal_file.specs.declared.pending.Pending.TheVariants as pending
+use Rattle.vdcp_laws.specs.Carried.{driver_of}
+use Rattle.vdcp_laws.specs.OneConnection.{ends_by}
+use Rattle.vdcp_laws.specs.TwoEnds.{Ends, asked_first, bytes_in, with_command}
 use Rattle.vdcp_run.specs.Asking.{Asker, HasAsked, Start, asker_of}
-use Rattle.vdcp_run.specs.Session.{HasTried, played, unbegun}
+use Rattle.vdcp_run.specs.Session.{AsksFirst, HasEnded, HasHeld, HasTried, Onset, held, none, played, unbegun}
 use Rattle.vdcp_run.specs.declared.run_end.LineEnd.{LineEnd}
 use Rattle.vdcp_run.specs.declared.run_end.RunEnd.{RunEnd}
 use Rattle.vdcp_run.specs.declared.settings.RunSettings.{RunSettings}
 
+-- what begins with these ends
+abbrev pub start_at : Plan → (from : ℕ) → Ends → Start
+start_at plan from e = record { plan = plan; from = from; state = e.automation.state }
+
 -- ---- while it asked
 
--- what the wire did
-abbrev pub acts_asked : {W : Type 0} (does : Act → W → W → Type 0) (settings : RunSettings) (ear ear' : Held) (wire wire' : W)
+abbrev pub steps_asked : {W : Type 0} (does : Act → W → W → Type 0) (settings : RunSettings) (ear ear' : Held) (wire wire' : W)
     (left : ℕ) (line : Option LineEnd) (asker : Option Asker)
-    → HasAsked asker does at_once settings ear ear' wire wire' left line → List Act
-acts_asked does settings ear ear' wire wire' left line None h = []
-acts_asked does settings ear ear' wire wire' left line (Some asker) h = acts_in (steps_in h.comes.runs.run)
+    → HasAsked asker does at_once settings ear ear' wire wire' left line → List Step
+steps_asked does settings ear ear' wire wire' left line None h = []
+steps_asked does settings ear ear' wire wire' left line (Some asker) h = steps_in h.comes.runs.run
 
--- the commands that were given
-abbrev pub questions : {W : Type 0} (does : Act → W → W → Type 0) (settings : RunSettings) (ear ear' : Held) (wire wire' : W)
-    (left : ℕ) (line : Option LineEnd) (asker : Option Asker)
-    → HasAsked asker does at_once settings ear ear' wire wire' left line → List Command
-questions does settings ear ear' wire wire' left line None h = []
-questions does settings ear ear' wire wire' left line (Some asker) h = commands_kept (kept_in (steps_in h.comes.runs.run))
+abbrev pub steps_first : {W F : Type 0} (does : Act → W → W → Type 0) (settings : RunSettings) (is_held : Bool)
+    (x : Onset Held W F) (ear : Held) (wire : W) (left : ℕ) (line : Option LineEnd)
+    → AsksFirst does at_once settings is_held x ear wire left line → List Step
+steps_first does settings is_held x ear wire left line h =
+    steps_asked does (record settings { listens = x.turns }) x.ear ear x.world.wire wire left line (asker_of settings.ask is_held x.start) h
+
+-- where these steps, which left this ear, leave the ends
+abbrev pub ends_asked : List Step → Held → Ends → Ends
+ends_asked steps ear e = asked_first (commands_kept (kept_in steps)) ear (bytes_in (came_in (acts_in steps))) e
+
+-- ---- while PLAYs were held
+
+-- what the wire did
+abbrev pub acts_held : {W F : Type 0} {does : Act → W → W → Type 0} {safe : F → Option (List ℕ)} {settings : RunSettings}
+    {z x : Onset Held W F} → HasHeld does safe at_once settings z x → List Act
+acts_held none = []
+acts_held {does} {settings} {x} (held is_held ear wire count asks auto left runs is keep written turns later) =
+    (acts_in (steps_first does settings is_held x ear wire count None asks) ++ acts_in (steps_in runs.run)) ++ acts_held later
+
+-- the exchanges that ended
+abbrev pub log_held : {W F : Type 0} {does : Act → W → W → Type 0} {safe : F → Option (List ℕ)} {settings : RunSettings}
+    {z x : Onset Held W F} → HasHeld does safe at_once settings z x → List Exchange
+log_held none = []
+log_held {settings} {x} (held is_held ear wire count asks auto left runs is keep written turns later) =
+    log_of at_once x.start.plan settings.unit (record { ear = ear; state = x.start.state }) runs.run.events ++ log_held later
 
 -- where this leaves the ends
-abbrev pub ends_asked : {W : Type 0} (does : Act → W → W → Type 0) (settings : RunSettings) (ear ear' : Held) (wire wire' : W)
-    (left : ℕ) (line : Option LineEnd) (asker : Option Asker)
-    → HasAsked asker does at_once settings ear ear' wire wire' left line → Ends → Ends
-ends_asked does settings ear ear' wire wire' left line asker h e =
-    asked_first (questions does settings ear ear' wire wire' left line asker h) ear'
-    (bytes_in (came_in (acts_asked does settings ear ear' wire wire' left line asker h))) e
+abbrev pub ends_held : {W F : Type 0} {does : Act → W → W → Type 0} {safe : F → Option (List ℕ)} {settings : RunSettings}
+    {z x : Onset Held W F} → HasHeld does safe at_once settings z x → Ends → Ends
+ends_held none e = e
+ends_held {does} {settings} {x} (held is_held ear wire count asks auto left runs is keep written turns later) e =
+    ends_held later (ends_by x.start.plan settings.unit
+    (ends_asked (steps_first does settings is_held x ear wire count None asks) ear e) runs.run.events)
+
+-- ---- in the last stretch
+
+abbrev pub acts_ended : {W F : Type 0} {does : Act → W → W → Type 0} {safe : F → Option (List ℕ)} {settings : RunSettings}
+    {x : Onset Held W F} {last : W} {end : RunEnd} → HasEnded does safe at_once settings x last end → List Act
+acts_ended {does} {settings} {x} (played is_held ear wire left asks plays) =
+    acts_in (steps_first does settings is_held x ear wire left None asks) ++ acts_in (steps_in plays.runs.run)
+acts_ended {does} {settings} {x} {last} (unbegun is_held ear left line asks is reports) =
+    acts_in (steps_first does settings is_held x ear last left (Some line) asks)
+
+abbrev pub state_ended : {W F : Type 0} {does : Act → W → W → Type 0} {safe : F → Option (List ℕ)} {settings : RunSettings}
+    {x : Onset Held W F} {last : W} {end : RunEnd} → HasEnded does safe at_once settings x last end → State
+state_ended (played is_held ear wire left asks plays) = plays.auto.state
+state_ended {x} (unbegun is_held ear left line asks is reports) = x.start.state
+
+abbrev pub log_ended : {W F : Type 0} {does : Act → W → W → Type 0} {safe : F → Option (List ℕ)} {settings : RunSettings}
+    {x : Onset Held W F} {last : W} {end : RunEnd} → HasEnded does safe at_once settings x last end → List Exchange
+log_ended {settings} {x} (played is_held ear wire left asks plays) =
+    log_of at_once x.start.plan settings.unit (record { ear = ear; state = x.start.state }) plays.runs.run.events
+log_ended (unbegun is_held ear left line asks is reports) = []
+
+abbrev pub ends_ended : {W F : Type 0} {does : Act → W → W → Type 0} {safe : F → Option (List ℕ)} {settings : RunSettings}
+    {x : Onset Held W F} {last : W} {end : RunEnd} → HasEnded does safe at_once settings x last end → Ends → Ends
+ends_ended {does} {settings} {x} (played is_held ear wire left asks plays) e =
+    with_command x.start.plan (ends_by x.start.plan settings.unit
+    (ends_asked (steps_first does settings is_held x ear wire left None asks) ear e) plays.runs.run.events)
+ends_ended {does} {settings} {x} {last} (unbegun is_held ear left line asks is reports) e =
+    ends_asked (steps_first does settings is_held x ear last left (Some line) asks) ear e
 
 -- ---- in all
 
 -- what the wire did
 abbrev pub acts_tried : {W F : Type 0} {does : Act → W → W → Type 0} {safe : F → Option (List ℕ)} {settings : RunSettings}
-    {start : Start} {ear : Held} {world : World W (Option (Recording F))} {last : W} {end : RunEnd}
-    → HasTried does safe at_once settings start ear world last end → List Act
-acts_tried {does} {settings} {start} {ear} {world} (played ear' wire left asked plays) =
-    acts_asked does settings ear ear' world.wire wire left None (asker_of settings.ask start) asked ++ acts_in (steps_in plays.runs.run)
-acts_tried {does} {settings} {start} {ear} {world} {last} (unbegun ear' left line asked is reports) =
-    acts_asked does settings ear ear' world.wire last left (Some line) (asker_of settings.ask start) asked
+    {x : Onset Held W F} {last : W} {end : RunEnd} → HasTried does safe at_once settings x last end → List Act
+acts_tried tried = acts_held tried.held ++ acts_ended tried.ended
 
 -- the list's controller is left so
 abbrev pub state_tried : {W F : Type 0} {does : Act → W → W → Type 0} {safe : F → Option (List ℕ)} {settings : RunSettings}
-    {start : Start} {ear : Held} {world : World W (Option (Recording F))} {last : W} {end : RunEnd}
-    → HasTried does safe at_once settings start ear world last end → State
-state_tried (played ear' wire left asked plays) = plays.auto.state
-state_tried {start} (unbegun ear' left line asked is reports) = start.state
+    {x : Onset Held W F} {last : W} {end : RunEnd} → HasTried does safe at_once settings x last end → State
+state_tried tried = state_ended tried.ended
 
 -- and these of its exchanges ended
 abbrev pub log_tried : {W F : Type 0} {does : Act → W → W → Type 0} {safe : F → Option (List ℕ)} {settings : RunSettings}
-    {start : Start} {ear : Held} {world : World W (Option (Recording F))} {last : W} {end : RunEnd}
-    → HasTried does safe at_once settings start ear world last end → List Exchange
-log_tried {settings} {start} (played ear' wire left asked plays) =
-    log_of at_once start.plan settings.unit (record { ear = ear'; state = start.state }) plays.runs.run.events
-log_tried (unbegun ear' left line asked is reports) = []
+    {x : Onset Held W F} {last : W} {end : RunEnd} → HasTried does safe at_once settings x last end → List Exchange
+log_tried tried = log_held tried.held ++ log_ended tried.ended
 
 -- where this and these turns leave the ends
 abbrev pub ends_tried : {W F : Type 0} {does : Act → W → W → Type 0} {safe : F → Option (List ℕ)} {settings : RunSettings}
-    {start : Start} {ear : Held} {world : World W (Option (Recording F))} {last : W} {end : RunEnd}
-    → HasTried does safe at_once settings start ear world last end → Ends → List Turn → Ends
-ends_tried {does} {settings} {start} {ear} {world} (played ear' wire left asked plays) e downs =
-    ends_at start.plan settings.unit
-    (ends_asked does settings ear ear' world.wire wire left None (asker_of settings.ask start) asked e) plays.runs.run.events downs
-ends_tried {does} {settings} {start} {ear} {world} {last} (unbegun ear' left line asked is reports) e downs =
-    record (ends_asked does settings ear ear' world.wire last left (Some line) (asker_of settings.ask start) asked e) { downs = downs }
+    {x : Onset Held W F} {last : W} {end : RunEnd} → HasTried does safe at_once settings x last end → Ends → List Turn → Ends
+ends_tried tried e downs = record (ends_ended tried.ended (ends_held tried.held e)) { downs = downs }
+
+-- ---- up to a kill
+
+-- what was to be asked beside these ends was, and the list is begun
+pub record AsksAt {W : Type 0} (does : Act → W → W → Type 0) (plan : Plan) (from unit : ℕ) (e : Ends) : Type 0 where
+  pub settings : RunSettings
+  pub is_held : Bool
+  pub ear : Held
+  pub wire : W
+  pub wire' : W
+  pub left : ℕ
+  pub asked : HasAsked (asker_of settings.ask is_held (start_at plan from e)) does at_once (record settings { unit = unit })
+      e.automation.held ear wire wire' left None
+
+abbrev pub questions_at : {W : Type 0} {does : Act → W → W → Type 0} {plan : Plan} {from unit : ℕ} {e : Ends}
+    → AsksAt does plan from unit e → List Step
+questions_at {does} {plan} {from} {unit} {e} a = steps_asked does (record a.settings { unit = unit }) e.automation.held a.ear a.wire
+    a.wire' a.left None (asker_of a.settings.ask a.is_held (start_at plan from e)) a.asked
+
+abbrev pub asked_at : {W : Type 0} {does : Act → W → W → Type 0} {plan : Plan} {from unit : ℕ} {e : Ends}
+    → AsksAt does plan from unit e → Ends
+asked_at {e} a = ends_asked (questions_at a) a.ear e
+
+-- From these ends on, with these rows and this still to be written behind them, PLAYs were held, each for a while, by these acts:
+-- what was to be asked was, and these events happened, of which that was noted, up to the PLAY. Then all that waited was written.
+pub data IsHeldOn {W : Type 0} (does : Act → W → W → Type 0) (plan : Plan) (from unit : ℕ) (e : Ends) (rows : List Row)
+    (waits : Pending) : Ends → List Row → Pending → List Act → Type 0 where
+  begun : IsHeldOn does plan from unit e rows waits e rows waits []
+  went_on : {now : Ends} {earlier : List Row} {before : Pending} {acts : List Act}
+      → IsHeldOn does plan from unit e rows waits now earlier before acts → (a : AsksAt does plan from unit now) (events : List Event)
+      → AreMade at_once plan unit (driver_of (asked_at a).automation) events
+      → awaited plan (ends_by plan unit (asked_at a) events).automation.state ≡ None
+      → (written : List Row) (left : Pending)
+      → WaitsSince before (kept_in (steps_of at_once plan unit (driver_of (asked_at a).automation) events)) written left
+      → IsHeldOn does plan from unit e rows waits (ends_by plan unit (asked_at a) events)
+      ((earlier ++ written) ++ rows_left left) pending.Nothing
+      (acts ++ (acts_in (questions_at a) ++ acts_in (steps_of at_once plan unit (driver_of (asked_at a).automation) events)))

@@ -1,5 +1,6 @@
 -- An automation and a server that both hear at once, joined by two streams of bytes that keep order, over one connection
 -- after another.
+use Rattle.std.specs.Option.{option_to_list}
 use Rattle.std.specs.Prelude.{ℕ, ◌≡◌, List, [], ◌∷◌, ◌++◌, All, map, Option, None, Some}
 use Rattle.vdcp_value.specs.declared.part.Item.{Item}
 use Rattle.vdcp_frame.specs.Message.{Content}
@@ -17,7 +18,7 @@ use Rattle.vdcp_journal.specs.declared.row.Note.TheVariants as note
 use Rattle.vdcp_wire.specs.Wires.{Arrival, bytes, silence, close}
 use Rattle.vdcp_drive.specs.Steps.{given_notes}
 use Rattle.vdcp_laws.specs.Automation.{end_notes}
-use Rattle.vdcp_laws.specs.Automation.{Prompt, commands_in, gives, hears, listens, new_prompt, receives}
+use Rattle.vdcp_laws.specs.Automation.{Prompt, gives, hears, listens, new_prompt, receives}
 use Rattle.vdcp_laws.specs.Announced.{Announces}
 use Rattle.vdcp_laws.specs.Kills.{IsRun}
 use Rattle.vdcp_drive.specs.Reading.{Held, completed, holds}
@@ -31,11 +32,11 @@ use Rattle.vdcp_drive.specs.declared.hearing.Hearing.TheVariants as hearing
 use Rattle.vdcp_world.specs.LateLine.Asking.{Question, asked_in}
 use Rattle.vdcp_world.specs.LateLine.LateChannel.{LateChannel, CanStart, IsLateReached, IsQuestion, made_anew}
 
--- Both ends of a connection: what was asked over it before the run; the automation, with the exchanges since it began,
+-- Both ends of a connection: the commands that were given over it; the automation, with the exchanges since it began,
 -- and the bytes that came up to it; the port with which it began at the server, and its turns. Of the connections
 -- before: the exchanges, and what went to air. And what the automation's journal has, of all of them.
 pub record Ends : Type 0 where
-  pub asked : List Command
+  pub sent : List Command
   pub automation : Prompt
   pub ups : List ℕ
   pub port : ClockedPort
@@ -49,7 +50,7 @@ pub record Ends : Type 0 where
 abbrev pub new_ends : ClockedPort → List Command → Ends
 new_ends port asked =
     record {
-      asked = asked;
+      sent = asked;
       automation = new_prompt;
       ups = [];
       port = port;
@@ -61,11 +62,8 @@ new_ends port asked =
 
 -- What either end has sent over this connection, and what came of both since the first one.
 
-abbrev pub commands_sent : Plan → Ends → List Command
-commands_sent plan e = e.asked ++ commands_in plan e.automation
-
-abbrev pub sent_down : Plan → ℕ → Ends → List ℕ
-sent_down plan unit e = bytes_of unit (commands_sent plan e)
+abbrev pub sent_down : ℕ → Ends → List ℕ
+sent_down unit e = bytes_of unit e.sent
 
 -- the server, which hears at once
 abbrev pub server_new : Ends → Service
@@ -131,21 +129,22 @@ wishing state p = record p { state = state }
 
 -- What the automation does, with its notes.
 
--- this is asked beside the controller
-abbrev pub asking : Command → Ends → Ends
-asking c e = record e { asked = e.asked ++ c ∷ [] }
+-- these commands are given
+abbrev pub sending : List Command → Ends → Ends
+sending cs e = record e { sent = e.sent ++ cs }
 
--- these are, and this comes up, of which its ear then holds this
+-- these are asked beside the controller, and this comes up, of which its ear then holds this
 abbrev pub asked_first : List Command → Held → List ℕ → Ends → Ends
 asked_first cs held came e = record e {
-  asked = e.asked ++ cs;
+  sent = e.sent ++ cs;
   automation = record e.automation { held = held };
   ups = e.ups ++ came;
 }
 
 -- the next command is given
 abbrev pub with_command : Plan → Ends → Ends
-with_command plan e = with_automation (gives e.automation) (notes_given plan e.automation.state) e
+with_command plan e = sending (option_to_list (given plan e.automation.state))
+    (with_automation (gives e.automation) (notes_given plan e.automation.state) e)
 
 -- the operator takes
 abbrev pub with_take : Ends → Ends
@@ -170,7 +169,7 @@ pub data GoesOn (plan : Plan) (e : Ends) : Ends → Type 0 where
 abbrev pub connected_anew : Plan → ClockedPort → Ends → Ends
 connected_anew plan port e =
     record {
-      asked = [];
+      sent = [];
       automation = record { held = holds []; state = came_to plan None e.automation.state; log = [] };
       ups = [];
       port = port;
@@ -185,14 +184,13 @@ connected_anew plan port e =
 pub data Step (plan : Plan) (unit : ℕ) (e : Ends) : Ends → Type 0 where
   -- the automation gives its next command, if none is awaited and it hasn't ended
   gave : Step plan unit e (with_command plan e)
-  -- before its first command over this connection it asks what it may ask beside its controller, and hears what it likes of
-  -- the answers
+  -- it asks what it may ask beside its controller, and hears what it likes of the answers
   asks : (question : Question) (c : Command) → asked_in plan question e.automation.state.stage ≡ Some c
-      → commands_in plan e.automation ≡ [] → Step plan unit e (asking c e)
+      → Step plan unit e (sending (c ∷ []) e)
   came_up : (piece rest : List ℕ) → sent_up e ≡ e.ups ++ (piece ++ rest) → Step plan unit e (with_up piece
       (with_automation (listens plan unit (bytes piece) e.automation)
       (notes_heard plan unit (completed e.automation.held piece) e.automation) e))
-  came_down : (piece rest : List ℕ) → sent_down plan unit e ≡ bytes_in (arrivals e.downs) ++ (piece ++ rest)
+  came_down : (piece rest : List ℕ) → sent_down unit e ≡ bytes_in (arrivals e.downs) ++ (piece ++ rest)
       → Step plan unit e (with_down (listen (bytes piece)) e)
   -- its time is up, at any moment, or its line is closed
   waited : Step plan unit e (with_automation (listens plan unit silence e.automation)
@@ -222,7 +220,7 @@ AreJoined plan port asked e = AreLed plan port.state.unit (new_ends port asked) 
 -- no command is given in it
 abbrev pub GivesNone : {plan : Plan} {unit : ℕ} {e e' : Ends} → Step plan unit e e' → Type 0
 GivesNone gave = ⊥
-GivesNone (asks question c is none) = ⊥
+GivesNone (asks question c is) = ⊥
 GivesNone (resumed goes) = ⊥
 GivesNone (restarted goes) = ⊥
 GivesNone _ = Unit {0}

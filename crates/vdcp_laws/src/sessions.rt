@@ -1,5 +1,5 @@
 //! The laws of what `vdcp run` does over a connection, from its first question to its last byte, and over the next one.
-ghost use Rattle.std.specs.Prelude.{ℕ, ◌≡◌, ◌∷◌, ◌++◌, [], List, None, Option, map};
+ghost use Rattle.std.specs.Prelude.{ℕ, ◌≡◌, ◌∷◌, ◌++◌, [], List, None, Option};
 ghost use Rattle.vdcp_value.specs.declared.clip_id.ClipId.{ClipId};
 ghost use Rattle.vdcp_value.specs.declared.part.Item.{Item};
 ghost use Rattle.vdcp_value.specs.declared.rate.Rate.{Rate};
@@ -8,6 +8,7 @@ ghost use Rattle.vdcp_words.specs.declared.command.Command.{Command};
 ghost use Rattle.vdcp_port.specs.Clock.{ClockedPort};
 ghost use Rattle.vdcp_auto.specs.Plan.{Plan};
 ghost use Rattle.vdcp_auto.specs.State.{State};
+ghost use Rattle.vdcp_auto.specs.Turn.{awaited};
 ghost use Rattle.vdcp_auto.specs.declared.exchange.Exchange.{Exchange};
 ghost use Rattle.vdcp_wire.specs.Acts.{Act};
 ghost use Rattle.vdcp_drive.specs.Auto.{AreMade, Event};
@@ -26,19 +27,19 @@ ghost use Rattle.vdcp_journal_file.specs.Recording.{Recording, rows_left};
 ghost use Rattle.vdcp_journal_file.specs.declared.pending.Pending.{Pending};
 ghost use Rattle.vdcp_list.specs.Asrun.{asrun_text};
 ghost use Rattle.vdcp_laws.specs.AsrunLaw.{IsOfAired};
-ghost use Rattle.vdcp_laws.specs.Automation.{commands_in};
 ghost use Rattle.vdcp_laws.specs.Carried.{AreCarried, MayGive, driver_of};
 ghost use Rattle.vdcp_laws.specs.EndsHeadline.{EndsHeadline};
 ghost use Rattle.vdcp_laws.specs.Mended.{AreOfJoined, Finds, IsSession, anew, state_in};
 ghost use Rattle.vdcp_laws.specs.OneConnection.{ends_by};
 ghost use Rattle.vdcp_laws.specs.Servers.{IsServed};
-ghost use Rattle.vdcp_laws.specs.Sessions.{acts_asked, acts_tried, ends_asked, ends_tried, log_tried, state_tried};
+ghost use Rattle.vdcp_laws.specs.Sessions.{AsksAt, IsHeldOn, acts_tried, asked_at, ends_tried, log_tried, questions_at, start_at, state_tried};
 ghost use Rattle.vdcp_laws.specs.TwoEnds.{AreJoined, CanJoin, Ends, asked_first, bytes_in, connected_anew, log_now, new_ends, port_now};
-ghost use Rattle.vdcp_run.specs.Asking.{AreAsked, HasAsked, Start, asker_of, over};
+ghost use Rattle.vdcp_run.specs.Asking.{AreAsked, Start, over};
 ghost use Rattle.vdcp_run.specs.Ends.{Reports};
 ghost use Rattle.vdcp_run.specs.Run.{reported_text};
-ghost use Rattle.vdcp_run.specs.Session.{HasTried, TriesOver};
+ghost use Rattle.vdcp_run.specs.Session.{HasTried, TriesOver, onset_of, signs_at_first};
 ghost use Rattle.vdcp_run.specs.declared.run_end.RunEnd.{RunEnd};
+ghost use Rattle.vdcp_run.specs.declared.run_end.Signs.{Signs};
 ghost use Rattle.vdcp_run.specs.declared.settings.RunSettings.{RunSettings};
 
 use crate::killed_runs::a_mended_journal_is_gone_on_with;
@@ -51,30 +52,32 @@ use vdcp_port::Catalogue;
 use vdcp_wire::Wire;
 
 /// The headline holds of what `vdcp run` does over a connection with an ear that hears at once (`HasTried`, which
-/// `play_over` gives with a new ear), its first questions included, if the wires carry to each end, in order, a beginning
-/// of what the other sent by then. The controller is new, or goes on from its journal over a new connection; the server
-/// hears at once, or at silences none of which tears a command.
+/// `play_over` gives with a new ear), its first questions and any number of held PLAYs included, if the wires carry to each
+/// end, in order, a beginning of what the other sent by then. The controller is new, or goes on from its journal over a
+/// new connection; the server hears at once, or at silences none of which tears a command.
 pub fn a_session_keeps_the_headline<C: Catalogue, A: Wire, D: Disk, B: Wire, H: ServerHooks<C>>()
     ensures headline { (plan : Plan) (from : ℕ) (settings : RunSettings) (port : ClockedPort) (asked : List Command) (e : Ends)
-        (wire last : A) (recorder : Option (Recording D)) (end : RunEnd) (turns : List Turn) (below : List Act) (aired : List Item) →
-        CanJoin plan port asked → AreJoined plan port asked e → commands_in plan e.automation ≡ [] →
+        (wire last : A) (recorder : Option (Recording D)) (count : ℕ) (signs : Signs) (end : RunEnd) (turns : List Turn)
+        (below : List Act) (aired : List Item) →
+        CanJoin plan port asked → AreJoined plan port asked e → awaited plan e.automation.state ≡ None →
         (tried : HasTried A.does D.safe at_once (record settings { unit = port.state.unit })
-        (record { plan = plan; from = from; state = e.automation.state }) e.automation.held (over wire recorder) last end) →
+        (onset_of (start_at plan from e) e.automation.held (over wire recorder) count signs) last end) →
         IsServed B.does H.can_act H.does e turns below aired →
-        AreCarried plan port.state.unit e (acts_tried tried) below →
+        AreCarried port.state.unit e (acts_tried tried) below →
         EndsHeadline plan port.clips (state_tried tried) (log_now e ++ log_tried tried) aired }
     ensures joined { (plan : Plan) (from : ℕ) (settings : RunSettings) (port : ClockedPort) (asked : List Command) (e : Ends)
-        (wire last : A) (recorder : Option (Recording D)) (end : RunEnd) (turns : List Turn) (below : List Act) (aired : List Item) →
-        AreJoined plan port asked e → commands_in plan e.automation ≡ [] →
+        (wire last : A) (recorder : Option (Recording D)) (count : ℕ) (signs : Signs) (end : RunEnd) (turns : List Turn)
+        (below : List Act) (aired : List Item) →
+        AreJoined plan port asked e → awaited plan e.automation.state ≡ None →
         (tried : HasTried A.does D.safe at_once (record settings { unit = port.state.unit })
-        (record { plan = plan; from = from; state = e.automation.state }) e.automation.held (over wire recorder) last end) →
+        (onset_of (start_at plan from e) e.automation.held (over wire recorder) count signs) last end) →
         IsServed B.does H.can_act H.does e turns below aired →
-        AreCarried plan port.state.unit e (acts_tried tried) below →
+        AreCarried port.state.unit e (acts_tried tried) below →
         AreJoined plan port asked (ends_tried tried e (e.downs ++ turns)) }
     // What it reports is that of the headline.
     ensures reported { (plan : Plan) (from : ℕ) (settings : RunSettings) (e : Ends) (wire last : A) (recorder : Option (Recording D))
-        (end : RunEnd) → (tried : HasTried A.does D.safe at_once settings
-        (record { plan = plan; from = from; state = e.automation.state }) e.automation.held (over wire recorder) last end) →
+        (count : ℕ) (signs : Signs) (end : RunEnd) → (tried : HasTried A.does D.safe at_once settings
+        (onset_of (start_at plan from e) e.automation.held (over wire recorder) count signs) last end) →
         Reports from (state_tried tried) end }
     // If it began with the first event, the text that is written of what it reports has a row for each item that aired, in
     // order, but for the last at most.
@@ -82,17 +85,10 @@ pub fn a_session_keeps_the_headline<C: Catalogue, A: Wire, D: Disk, B: Wire, H: 
         (aired : List Item) (end : RunEnd) → EndsHeadline plan clips state log aired → Reports 0 state end →
         IsOfAired rate plan.list aired end.reported
         × (reported_text rate plan.list 0 end.reported ≡ asrun_text rate plan.list end.reported) }
-    // Killed while it asked: of its questions a beginning went out, and nothing was kept.
-    ensures asking { (plan : Plan) (from : ℕ) (port : ClockedPort) (asked questions : List Command) (e : Ends)
-        (acts : List Act) (unsent : List ℕ) (turns : List Turn) (below : List Act) (aired : List Item) →
-        AreJoined plan port asked e → commands_in plan e.automation ≡ [] →
-        AreAsked (record { plan = plan; from = from; state = e.automation.state }) questions →
-        bytes_of port.state.unit questions ≡ sent_in acts ++ unsent → IsServed B.does H.can_act H.does e turns below aired →
-        AreCarried plan port.state.unit e acts below → (held : Held) × AreJoined plan port asked
-        (record (asked_first questions held (bytes_in (came_in acts)) e) { downs = e.downs ++ turns }) }
     ensures given { (settings : RunSettings) (start : Start) (wire last : A) (recorder : Option (Recording D)) (end : RunEnd) →
         TriesOver A.does D.safe (record settings { hearing = Hearing.AtOnce }) start wire last recorder end →
-        HasTried A.does D.safe at_once (record settings { hearing = Hearing.AtOnce }) start (holds []) (over wire recorder) last end }
+        HasTried A.does D.safe at_once (record settings { hearing = Hearing.AtOnce })
+        (onset_of start (holds []) (over wire recorder) settings.listens signs_at_first) last end }
 {
     two_ends_are_a_late_channel();
     vdcp_world::laws::a_late_line_keeps_the_headline();
@@ -103,32 +99,36 @@ pub fn a_session_keeps_the_headline<C: Catalogue, A: Wire, D: Disk, B: Wire, H: 
     vdcp_run::laws::only_questions_are_asked::<AtOnce, A>();
 }
 
-/// A session that is killed after whatever events of its run, with its next command kept or not, leaves a journal whose
-/// rows are safe of joined ends, with the server's port as its turns left it, and all that aired, whether its recorder
-/// wrote none of what waits for a later row, the first of it or all. So the journal is gone on with
-/// (`a_mended_journal_is_gone_on_with`), which begins the next session (`sessions_keep_the_headline`). What was heard last
-/// may be lost. As long as nothing was kept, the journal is as it was.
+/// A session that is killed after any number of held PLAYs (`IsHeldOn`) and whatever events of its run since, with its
+/// next command kept or not, leaves a journal whose rows are safe of joined ends, with the server's port as its turns left
+/// it, and all that aired, whether its recorder wrote none of what waits for a later row, the first of it or all. So the
+/// journal is gone on with (`a_mended_journal_is_gone_on_with`), which begins the next session
+/// (`sessions_keep_the_headline`). What was heard last may be lost. As long as nothing was kept, the journal is as it was.
 pub fn a_killed_session_is_safe<C: Catalogue, A: Wire, B: Wire, H: ServerHooks<C>>()
-    ensures safe { (plan : Plan) (from : ℕ) (settings : RunSettings) (port : ClockedPort) (asked : List Command)
-        (e last : Ends) (ear : Held) (wire wire' : A) (left : ℕ) (events : List Event) (rows : List Kept) (out since : List Act)
-        (turns : List Turn) (below : List Act) (aired : List Item) (before waits : Pending)
-        (earlier written part rest : List Row) (first : Kept) (more : List Kept) →
-        CanJoin plan port asked → IsSession plan port asked earlier before e →
-        let start : Start = record { plan = plan; from = from; state = e.automation.state } in
-        let given : RunSettings = record settings { unit = port.state.unit } in
-        (asks : HasAsked (asker_of settings.ask start) A.does at_once given e.automation.held ear wire wire' left None) →
-        let now : Ends =
-        ends_asked A.does given e.automation.held ear wire wire' left None (asker_of settings.ask start) asks e in
-        let acts : List Act =
-        acts_asked A.does given e.automation.held ear wire wire' left None (asker_of settings.ask start) asks in
+    ensures safe { (plan : Plan) (from : ℕ) (port : ClockedPort) (asked : List Command) (e on last : Ends)
+        (events : List Event) (rows : List Kept) (so_far out since : List Act) (turns : List Turn) (below : List Act)
+        (aired : List Item) (due before waits : Pending) (first earlier written part rest : List Row) (one : Kept)
+        (more : List Kept) →
+        CanJoin plan port asked → IsSession plan port asked first due e →
+        IsHeldOn A.does plan from port.state.unit e first due on earlier before so_far →
+        (asks : AsksAt A.does plan from port.state.unit on) → let now : Ends = asked_at asks in
         let steps : List Step = steps_of at_once plan port.state.unit (driver_of now.automation) events in
         AreMade at_once plan port.state.unit (driver_of now.automation) events →
         MayGive plan port.state.unit (ends_by plan port.state.unit now events) rows out last → sent_in since ≡ [] →
         IsServed B.does H.can_act H.does e turns below aired →
-        AreCarried plan port.state.unit e (acts ++ (acts_in steps ++ (out ++ since))) below →
-        kept_in steps ++ rows ≡ first ∷ more → WaitsSince before (first ∷ more) written waits →
+        AreCarried port.state.unit e (so_far ++ (acts_in (questions_at asks) ++ (acts_in steps ++ (out ++ since)))) below →
+        kept_in steps ++ rows ≡ one ∷ more → WaitsSince before (one ∷ more) written waits →
         rows_left waits ≡ part ++ rest → AreOfJoined plan port asked (port_now (record e { downs = e.downs ++ turns })) aired
         ((earlier ++ written) ++ part) }
+    // One that asked before it kept anything more, whatever of that went out, is one with the rows that it had then.
+    ensures asking { (plan : Plan) (from : ℕ) (port : ClockedPort) (asked questions : List Command) (e on : Ends)
+        (so_far acts : List Act) (unsent : List ℕ) (turns : List Turn) (below : List Act) (aired : List Item)
+        (due before : Pending) (first earlier : List Row) → IsSession plan port asked first due e →
+        IsHeldOn A.does plan from port.state.unit e first due on earlier before so_far →
+        AreAsked (start_at plan from on) questions → bytes_of port.state.unit questions ≡ sent_in acts ++ unsent →
+        IsServed B.does H.can_act H.does e turns below aired → AreCarried port.state.unit e (so_far ++ acts) below →
+        (held : Held) × IsSession plan port asked earlier before
+        (record (asked_first questions held (bytes_in (came_in acts)) on) { downs = e.downs ++ turns }) }
     ensures new { (plan : Plan) (port : ClockedPort) → IsSession plan port [] [] Pending.Nothing (new_ends port []) }
     // One that kept nothing begins again, over a new connection.
     ensures again { (plan : Plan) (port found : ClockedPort) (asked : List Command) (rows : List Row) (waits : Pending)
@@ -149,15 +149,15 @@ pub fn a_killed_session_is_safe<C: Catalogue, A: Wire, B: Wire, H: ServerHooks<C
 /// anew, are together a beginning of the playlist, of which what is reported then lacks one at most.
 pub fn sessions_keep_the_headline<C: Catalogue, A: Wire, D: Disk, B: Wire, H: ServerHooks<C>>()
     ensures { (plan : Plan) (from : ℕ) (settings : RunSettings) (port now found : ClockedPort) (asked : List Command)
-        (journal : List Row) (time : Moment) (wire last : A) (recorder : Option (Recording D)) (end : RunEnd) (turns : List Turn)
-        (below : List Act) (before since : List Item) →
+        (journal : List Row) (time : Moment) (wire last : A) (recorder : Option (Recording D)) (count : ℕ) (signs : Signs)
+        (end : RunEnd) (turns : List Turn) (below : List Act) (before since : List Item) →
         CanJoin plan port asked → AreOfJoined plan port asked now before (last_run journal).rows → Finds now found →
         let rows : List Row = rows_at time (mended plan journal (last_run journal).rows) in
         let state : State = state_in plan ((last_run journal).rows ++ rows) in
         (tried : HasTried A.does D.safe at_once (record settings { unit = port.state.unit })
-        (record { plan = plan; from = from; state = state }) (holds []) (over wire recorder) last end) →
+        (onset_of (start_at plan from (anew found state)) (holds []) (over wire recorder) count signs) last end) →
         IsServed B.does H.can_act H.does (anew found state) turns below since →
-        AreCarried plan port.state.unit (anew found state) (acts_tried tried) below → (log : List Exchange) ×
+        AreCarried port.state.unit (anew found state) (acts_tried tried) below → (log : List Exchange) ×
         EndsHeadline plan port.clips (state_tried tried) (log ++ log_tried tried) (before ++ since) }
 {
     a_mended_journal_is_gone_on_with();

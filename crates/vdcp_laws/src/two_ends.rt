@@ -92,13 +92,13 @@ pub fn a_carried_run_keeps_the_headline<C: Catalogue, B: Wire, H: ServerHooks<C>
         (answer : Result Ran BrokenOff) (turns : List Turn) (below : List Act) (aired : List Item) → CanJoin plan port asked →
         AreJoined plan port asked e → (run : IsRun at_once plan port.state.unit count (driver_of e.automation) a' answer) →
         IsServed B.does H.can_act H.does e turns below aired →
-        AreCarried plan port.state.unit e (acts_in (steps_in run)) below → EndsHeadline plan port.clips a'.state
+        AreCarried port.state.unit e (acts_in (steps_in run)) below → EndsHeadline plan port.clips a'.state
         (log_now e ++ auto.log_of at_once plan port.state.unit (driver_of e.automation) run.events) aired }
     ensures joined { (plan : Plan) (port : ClockedPort) (asked : List Command) (e : Ends) (count : ℕ) (a' : Auto Held)
         (answer : Result Ran BrokenOff) (turns : List Turn) (below : List Act) (aired : List Item) →
         AreJoined plan port asked e → (run : IsRun at_once plan port.state.unit count (driver_of e.automation) a' answer) →
         IsServed B.does H.can_act H.does e turns below aired →
-        AreCarried plan port.state.unit e (acts_in (steps_in run)) below →
+        AreCarried port.state.unit e (acts_in (steps_in run)) below →
         AreJoined plan port asked (ends_at plan port.state.unit e run.events (e.downs ++ turns)) }
 {
     two_ends_are_a_late_channel();
@@ -170,7 +170,7 @@ pub fn what_is_never_silent_is_in_time<C: Catalogue, B: Wire, H: ServerHooks<C>>
         (turns : List Turn) (below : List Act) (aired : List Item) →
         (run : IsRun at_once plan port.state.unit count (driver_of new_prompt) a' answer) →
         All IsPiece (arrivals run.events) → IsServed B.does H.can_act H.does (new_ends port []) turns below aired →
-        AreCarried plan port.state.unit (new_ends port []) (acts_in (steps_in run)) below →
+        AreCarried port.state.unit (new_ends port []) (acts_in (steps_in run)) below →
         AreNewInTime plan port (ends_at plan port.state.unit (new_ends port []) run.events turns) }
 {
     untorn_turns_are_at_once();

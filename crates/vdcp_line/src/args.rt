@@ -221,7 +221,7 @@ static RUN: Subcommand = Subcommand {
         Argument::Unsure,
         Argument::Flag(
             "operator",
-            "Reads calls from standard input, a line each: take, stop, and with --stay skip EVENT, jump EVENT",
+            "Reads calls from standard input, a line each: take, stop, hold, go, and with --stay skip EVENT, jump EVENT",
         ),
         Argument::Value(
             "at",

@@ -1,5 +1,5 @@
 -- What stretches leave out.
-use Rattle.std.proofs.Common.{◌≡◌, ◌<◌, ◌≤◌, inl, inr, ℕ, Bool, true, false, Option, None, Some, List, [], ◌∷◌, refl, sym, ap, ◌∙◌, cond, arith}
+use Rattle.std.proofs.Common.{◌≡◌, ◌<◌, ◌≤◌, inl, inr, ℕ, Bool, true, false, Option, None, Some, List, [], ◌∷◌, refl, subst, sym, ap, ◌∙◌, cond, arith}
 use Rattle.std.proofs.lemmas.Bool.{and_from, and_parts, cases_Bool, le-leb, leb-false, leb-true, lt-ltb, ltb-false, ltb-true, or_cases, or_left, true≢false}
 use Rattle.std.specs.List.{find, list_any}
 use Rattle.std.specs.Prelude.{◌||◌, Err, Ok, Result, if◌then◌else◌, is_some, nat_le, nat_lt, not}
@@ -132,7 +132,7 @@ no_fault : (left : LeftOut) (ahead : Stretch) (event : ℕ) → fault_at left ah
     → (left.stays ≡ true) × (ahead.first ≤ event) × (event < ahead.end)
 no_fault left ahead event none =
     let h = none_if left.stays (nat_le ahead.end event) (nat_lt event ahead.first) faults.NoStay (faults.NoEvent event)
-    (faults.Asked event) none in
+    (faults.Past event) none in
     (h.0, ltb-false event ahead.first h.2, leb-false ahead.end event h.1)
 
 no_jump_fault : (fault : Option LeaveFault) (is_out : Bool) (event : ℕ) → or_left_out fault is_out event ≡ None → fault ≡ None
@@ -164,4 +164,13 @@ obeys_ahead ahead (said.Jump event) old new (done, h) =
     leaves_ahead ahead (up_to ahead event) (jump_fault_at old ahead event) old new done
     (λ none. jumps_free old ahead event (no_jump_fault (fault_at old ahead event) (is_left_out old event) event none)) h
 obeys_ahead ahead (said.Call call) old new h = leaves_same ahead old new h
+obeys_ahead ahead said.Hold old new h = leaves_same ahead old new h
+obeys_ahead ahead said.Go old new h = leaves_same ahead old new h
 obeys_ahead ahead said.Other old new h = leaves_same ahead old new h
+
+-- the same, with other words for what it leaves out of
+pub leaves_said : (ahead ahead' : Stretch) (s : Said) (old old' new : LeftOut) → ahead ≡ ahead' → old ≡ old' → Obeys ahead s old new
+    → LeavesOutAhead ahead' old' new
+leaves_said ahead ahead' s old old' new is same h =
+    subst (λ (it : Stretch). LeavesOutAhead it old' new) is
+    (subst (λ (it : LeftOut). LeavesOutAhead ahead it new) same (obeys_ahead ahead s old new h))

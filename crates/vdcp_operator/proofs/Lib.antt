@@ -3,7 +3,6 @@ pub mod Rounds
 pub mod Rows
 pub mod Showing
 pub mod Typing
-pub mod Numbers
 pub mod LeavingOut
 pub mod Pacing
 pub mod Unattended

@@ -7,9 +7,10 @@ use Rattle.std.specs.Cmp.Lexicographic.{same_text}
 use Rattle.std.specs.Io.KnownBytes.{Consumes, Keeps}
 use Rattle.std.specs.Prelude.{bytes_eq, codes, decimal, if◌then◌else◌, nat_eq, nat_lt}
 use Rattle.std.specs.Str.Parse.{digits_value}
-use Rattle.vdcp_operator.specs.Typed.{SaysOn, number_in, said_by_words, said_from, said_in, said_of, without_return}
+use Rattle.vdcp_operator.specs.Typed.{SaysOn, said_by_words, said_from, said_in, said_of, without_return}
 use Rattle.vdcp_operator.specs.declared.typed.Said.{Said}
 use Rattle.vdcp_operator.specs.declared.typed.Said.TheVariants as said
+use Rattle.vdcp_panel.specs.Numbers.{number_in}
 
 -- a long line is no call, and its bytes don't matter
 
@@ -47,8 +48,10 @@ long_words : (words : List ℕ) → 26 ≤ length words → said_by_words words 
 long_words words h =
     let takes = no_word words (codes "take") (omega (arith, h)) in
     let stops = no_word words (codes "stop") (omega (arith, h)) in
+    let holds = no_word words (codes "hold") (omega (arith, h)) in
+    let goes = no_word words (codes "go") (omega (arith, h)) in
     let none = long_number (drop 5 words) (omega (arith, length-drop 5 words, h)) in
-    rw (takes, stops)
+    rw (takes, stops, holds, goes)
     (no_event (bytes_eq (take 5 words) (codes "skip ")) (bytes_eq (take 5 words) (codes "jump "))
     (said_of said.Skip (number_in (drop 5 words))) (said_of said.Jump (number_in (drop 5 words)))
     (ap (said_of said.Skip) none) (ap (said_of said.Jump) none))

@@ -68,7 +68,7 @@ abbrev pub fault_at : LeftOut → (ahead : Stretch) → ℕ → Option LeaveFaul
 fault_at left ahead event =
     if not left.stays then Some faults.NoStay
     else if nat_le ahead.end event then Some (faults.NoEvent event)
-    else if nat_lt event ahead.first then Some (faults.Asked event)
+    else if nat_lt event ahead.first then Some (faults.Past event)
     else None
 
 abbrev pub or_left_out : Option LeaveFault → (is_out : Bool) → ℕ → Option LeaveFault

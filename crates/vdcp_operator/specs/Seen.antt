@@ -1,5 +1,5 @@
 -- What the page of a run shows.
-use Rattle.std.specs.Prelude.{ℕ, ◌≡◌, ◌≤◌, ◌+◌, ◌-◌, ◌^◌, All, min, List, [], ◌∷◌, codes, drop, is_some, length, map, string_bytes, take, Option, None, Some, if◌then◌else◌}
+use Rattle.std.specs.Prelude.{ℕ, ◌≡◌, ◌≤◌, ◌+◌, ◌-◌, ◌^◌, Bool, All, min, List, [], ◌∷◌, codes, drop, is_some, length, map, string_bytes, take, Option, None, Some, if◌then◌else◌}
 use Rattle.std.specs.Option.{option_flatten}
 use Rattle.serde_json.specs.Data.{Data, array, boolean, member, no_members, null, number, object, string, unsigned}
 use Rattle.serde_json.specs.View.{items_of}
@@ -12,10 +12,13 @@ use Rattle.vdcp_auto.specs.declared.snapshot.Standing.{Standing}
 use Rattle.vdcp_auto.specs.declared.snapshot.Standing.TheVariants as standing
 use Rattle.vdcp_auto.specs.declared.outcome.Outcome.{Outcome}
 use Rattle.vdcp_list.specs.Rests.{FromEvent}
+use Rattle.vdcp_operator.specs.LeftOut.{is_left_out}
 use Rattle.vdcp_operator.specs.Rows.{IsRow, news_of}
+use Rattle.vdcp_operator.specs.declared.left_out.LeftOut.{LeftOut}
 use Rattle.vdcp_operator.specs.declared.seen.Ending.{Ending}
 use Rattle.vdcp_operator.specs.declared.seen.Ending.TheVariants as endings
 use Rattle.vdcp_operator.specs.declared.seen.EventSeen.{EventSeen}
+use Rattle.vdcp_operator.specs.declared.seen.HandSeen.{HandSeen}
 use Rattle.vdcp_operator.specs.declared.seen.Record.{Record}
 use Rattle.vdcp_operator.specs.declared.seen.Record.TheVariants as records
 use Rattle.vdcp_operator.specs.declared.seen.RunSeen.{RunSeen}
@@ -89,29 +92,35 @@ abbrev pub record_data : Option Record → Data
 record_data None = null
 record_data (Some r) = string (record_text r)
 
-abbrev pub row_data : Rate → Option (List (ClipId × Timecode)) → EventSeen → Data
-row_data rate clips e =
+abbrev pub row_with : (item : List ℕ) → (length : Option ℕ) → (is_out : Bool) → EventSeen → Data
+row_with item length is_out e =
     object (member (codes "at") (number_data e.at)
     (member (codes "ending") (ending_data e.ending)
-    (member (codes "item") (string (item_text rate e.item))
+    (member (codes "item") (string item)
     (member (codes "kept") (record_data e.kept)
-    (member (codes "length") (number_data (length_by clips e.item))
+    (member (codes "length") (number_data length)
     (member (codes "number") (number (unsigned e.number))
-    (member (codes "until") (number_data e.until) no_members)))))))
+    (member (codes "out") (boolean is_out)
+    (member (codes "until") (number_data e.until) no_members))))))))
+
+abbrev pub row_data : Rate → Option (List (ClipId × Timecode)) → LeftOut → EventSeen → Data
+row_data rate clips left e = row_with (item_text rate e.item) (length_by clips e.item) (is_left_out left e.number) e
 
 -- what stays of a run, and how its line is
 abbrev pub run_data : RunSeen → Data
 run_data v =
     object (member (codes "channel") (string (string_bytes v.names.now.channel))
-    (member (codes "commands") (number (unsigned v.commands))
+    (member (codes "commands") (number (unsigned v.hand.commands))
     (member (codes "down") (number_data v.down)
     (member (codes "from") (number (unsigned v.from))
+    (member (codes "holding") (boolean v.hand.holds)
     (member (codes "journal") (string (string_bytes v.names.now.journal))
     (member (codes "list") (string (string_bytes v.names.now.list))
     (member (codes "over") (boolean v.is_over)
     (member (codes "rate") (number (unsigned (frames_per_second v.rate)))
     (member (codes "server") (string (string_bytes v.names.now.server))
-    (member (codes "unanswered") (number (unsigned v.snapshot.unanswered)) no_members))))))))))
+    (member (codes "stays") (boolean v.hand.left_out.now.stays)
+    (member (codes "unanswered") (number (unsigned v.snapshot.unanswered)) no_members))))))))))))
 
 abbrev pub seen_data : RunSeen → Data
 seen_data v =
@@ -119,10 +128,10 @@ seen_data v =
     (member (codes "events") (number (unsigned v.events))
     (member (codes "now") (number (unsigned v.clock))
     (member (codes "outcome") (string (outcome_text v.outcome))
-    (member (codes "rows") (array (items_of (map (row_data v.rate v.clips.now) v.rows.now)))
+    (member (codes "rows") (array (items_of (map (row_data v.rate v.clips.now v.hand.left_out.now) v.rows.now)))
     (member (codes "run") (run_data v)
     (member (codes "stage") (string (stage_text v.snapshot.standing))
-    (member (codes "start") (number_data v.start)
+    (member (codes "start") (number_data v.hand.start)
     (member (codes "stop") (boolean v.snapshot.stop)
     (member (codes "take") (boolean v.snapshot.take) no_members))))))))))
 
@@ -155,9 +164,10 @@ pub record AreRound (items : List Item) (event : ℕ) (rows : List EventSeen) : 
   pub are : map with_number rows ≡ take count (numbered (event - 20) (drop (event - 20) items))
 
 -- what is seen of a run, by its page as it was: the controller as it is, with the events round the one that is next, and what
--- is known of each; how it ended, if it is over; how many commands went out; and when it starts
+-- is known of each; how it ended, if it is over; and the hand: how many commands went out, when it starts, whether nothing new
+-- goes to air, and which events are left out
 pub record IsSeen {S : Type 0} (items : S → List Item) (c : View (FromEvent S)) (page : RunPage) (end : Option (Option Outcome))
-    (commands : ℕ) (start : Option ℕ) (view : RunSeen) : Type 0 where
+    (hand : HandSeen) (view : RunSeen) : Type 0 where
   pub names : view.names.now ≡ page.names
   pub clips : view.clips.now ≡ page.clips
   pub rate : view.rate ≡ page.rate
@@ -169,8 +179,7 @@ pub record IsSeen {S : Type 0} (items : S → List Item) (c : View (FromEvent S)
   pub events : view.events ≡ length (items c.source.source)
   pub round : AreRound (items c.source.source) (event_of c) view.rows.now
   pub rows : All (IsRow (news_of page.event page.standing (event_of c) view.snapshot view.clock) page.rows.items page.before.items) view.rows.now
-  pub commands_are : view.commands ≡ commands
-  pub start_is : view.start ≡ start
+  pub hand_is : view.hand ≡ hand
   pub down : view.down ≡ page.down
 
 -- the page keeps what was seen, for the next look
@@ -182,8 +191,8 @@ pub record Keeps (page : RunPage) (view : RunSeen) (page' : RunPage) : Type 0 wh
 
 -- requests were answered by that, and a call that is held is about the event that is next
 pub record ShowsRun {S : Type 0} (items : S → List Item) (c : View (FromEvent S)) (page : RunPage) (end : Option (Option Outcome))
-    (commands : ℕ) (start : Option ℕ) (page' : RunPage) : Type 0 where
+    (hand : HandSeen) (page' : RunPage) : Type 0 where
   pub view : RunSeen
-  pub is_seen : IsSeen items c page end commands start view
+  pub is_seen : IsSeen items c page end hand view
   pub keeps : Keeps page view page'
   pub served : ServesSome page_bytes state_bytes about page.panel.names view page.calls.items page'.calls.items

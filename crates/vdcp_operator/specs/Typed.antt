@@ -1,23 +1,17 @@
 -- What the lines say that are typed.
-use Rattle.std.specs.Prelude.{ℕ, ◌≡◌, ◌-◌, ◌^◌, ◌&&◌, ⊤, Option, None, Some, List, [], ◌∷◌, ◌++◌, bytes_eq, codes, decimal, drop, length, nat_eq, nat_lt, take, if◌then◌else◌}
-use Rattle.std.specs.Str.Parse.{digits_value}
+use Rattle.std.specs.Prelude.{ℕ, ◌≡◌, ◌-◌, ⊤, Option, None, Some, List, [], ◌∷◌, ◌++◌, bytes_eq, codes, drop, length, nat_eq, take, if◌then◌else◌}
 use Rattle.vdcp_drive.specs.declared.hooks.Call.TheVariants.{Take, Stop}
 use Rattle.vdcp_operator.specs.declared.typed.Got.{Got}
 use Rattle.vdcp_operator.specs.declared.typed.Got.TheVariants as got
 use Rattle.vdcp_operator.specs.declared.typed.Said.{Said}
 use Rattle.vdcp_operator.specs.declared.typed.Said.TheVariants as said
+use Rattle.vdcp_panel.specs.Numbers.{number_in}
 
 -- a line without the CR at its end, if it has one
 abbrev pub without_return : List ℕ → List ℕ
 without_return line =
     let front = length line - 1 in
     if bytes_eq (drop front line) (codes "\r") then take front line else line
-
--- the number that these bytes write in decimal digits, if it is a usize
-abbrev pub number_in : List ℕ → Option ℕ
-number_in digits =
-    let number = digits_value 10 digits in
-    if nat_lt number (2 ^ 64) && bytes_eq digits (decimal number) then Some number else None
 
 -- what is said of this event
 abbrev pub said_of : (ℕ → Said) → Option ℕ → Said
@@ -29,6 +23,8 @@ abbrev pub said_by_words : List ℕ → Said
 said_by_words words =
     if bytes_eq words (codes "take") then said.Call Take
     else if bytes_eq words (codes "stop") then said.Call Stop
+    else if bytes_eq words (codes "hold") then said.Hold
+    else if bytes_eq words (codes "go") then said.Go
     else if bytes_eq (take 5 words) (codes "skip ") then said_of said.Skip (number_in (drop 5 words))
     else if bytes_eq (take 5 words) (codes "jump ") then said_of said.Jump (number_in (drop 5 words))
     else said.Other

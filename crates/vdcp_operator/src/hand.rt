@@ -1,12 +1,12 @@
 //! The operator's part in a run: calls are taken, and commands wait.
 ghost use Rattle.std.specs.Duration.{as_nanos};
 ghost use Rattle.std.specs.Option.{unwrap_or};
-ghost use Rattle.std.specs.Prelude.{◌≡◌, ◌≢◌, ◌↔◌, ◌*◌, ◌+◌, ◌≤◌, min, IsSome, IsTrue, [], None, Option, Some, is_some, option_map, ℕ};
+ghost use Rattle.std.specs.Prelude.{◌≡◌, ◌≢◌, ◌↔◌, ◌*◌, ◌+◌, ◌≤◌, min, IsSome, IsTrue, [], None, Option, Some, false, true, is_some, option_map, ℕ};
 ghost use Rattle.vdcp_auto.specs.Plan.{plan_of};
 ghost use Rattle.vdcp_auto.specs.Turn.{given};
 ghost use Rattle.vdcp_drive.specs.declared.hooks.Call.{Call};
 ghost use Rattle.vdcp_list.specs.Rests.{items_left};
-ghost use Rattle.vdcp_operator.specs.Hands.{Asks, AwaitsLead, HasCome, IsNext, IsOver, PageCalls, TypedCalls, as_call, called_by, latest, millis_of, until_for};
+ghost use Rattle.vdcp_operator.specs.Hands.{Asks, AwaitsLead, GoesOn, HasCome, IsNext, IsOver, IsSaid, PageCalls, TypedSays, as_said, called_by, holds_after, holds_play, is_lifted, latest, millis_of, until_for};
 ghost use Rattle.vdcp_operator.specs.LeftOut.{IsNextKept, LeavesOutAhead, Obeys, ahead_of};
 ghost use Rattle.vdcp_operator.specs.Polls.{Paces};
 ghost use Rattle.vdcp_operator.specs.declared.hand.Until.{Until};
@@ -16,13 +16,13 @@ ghost use Rattle.vdcp_words.specs.declared.command.Command.{Command};
 use crate::ahead::ahead_of;
 use crate::left_out::{LeftOut, Stretch};
 use crate::polling::Polling;
-use crate::seen::EventBefore;
+use crate::seen::{EventBefore, HandSeen};
 use crate::shown::RunPage;
 use crate::typed::{Said, Typed};
 use std::io::{Read, Write};
 use std::rt::Clock;
 use std::time::Duration;
-use vdcp_auto::{Controller, Outcome, Source};
+use vdcp_auto::{Controller, Outcome, Phase, Source, Standing};
 use vdcp_drive::Call;
 use vdcp_list::Rest;
 use vdcp_panel as panel;
@@ -53,6 +53,8 @@ pub struct Hand<'a, R: Clock, I: Read, E: Write> {
     slept: Stopwatch<&'a R>,
     polling: Polling<'a, R>,
     commands: u64,
+    // Whether nothing new goes to air after what plays.
+    holds: bool,
     left_out: LeftOut,
     /// A call that was made before the driver asked for it.
     pub held: Option<Call>,
@@ -65,6 +67,8 @@ enum Until {
     Time(Duration),
     /// The state may be asked again.
     Poll,
+    /// The same, or nothing is held back any more.
+    PollOrGo,
     /// They are asked for once.
     Now,
 }
@@ -87,6 +91,7 @@ impl<'a, R: Clock, I: Read + Drop, E: Write> Hand<'a, R, I, E> {
         ensures held { result.held ≡ None }
         ensures least { result.polling.least ≡ poll * 1000000 }
         ensures due { result.polling.due ≡ 0 }
+        ensures holds { result.holds ≡ false }
         ensures stays { result.left_out.stays ≡ stays }
         ensures none { result.left_out.stretches.items ≡ [] }
     {
@@ -103,6 +108,7 @@ impl<'a, R: Clock, I: Read + Drop, E: Write> Hand<'a, R, I, E> {
             slept: Stopwatch::new(clock),
             polling: Polling::new(clock, poll),
             commands: 0,
+            holds: false,
             left_out: LeftOut::new(stays),
             held: None,
         }
@@ -120,6 +126,18 @@ impl<'a, R: Clock, I: Read + Drop, E: Write> Hand<'a, R, I, E> {
         ensures { IsNextKept self.now.left_out event result }
     {
         self.left_out.next_kept(event)
+    }
+
+    /// Whether the next command is a PLAY that is held back: the operator holds, and wants neither to take nor to stop. It
+    /// isn't to be sent, though `call` gives None.
+    pub fn holds_play<S: Source>(&self, controller: &Controller<Rest<S>>) -> bool
+        ensures { result ≡ holds_play self.now.holds controller.now.state }
+    {
+        let snapshot = controller.snapshot();
+        match snapshot.standing {
+            Standing::Ready(Phase::Play(_)) => self.holds && !snapshot.take && !snapshot.stop,
+            _ => false,
+        }
     }
 
     pub fn set_before(&mut self, before: Vec<EventBefore>)
@@ -153,7 +171,7 @@ impl<'a, R: Clock, I: Read + Drop, E: Write> Hand<'a, R, I, E> {
     /// Waits until two seconds before the start, if one is set, or until a call, which it holds.
     pub fn await_lead<S: Source>(&mut self, controller: &Controller<Rest<S>>)
         ensures asks { self.old.held ≡ None →
-            Asks S.items I.remaining controller.now self.old.page self.old.typed self.new.held self.new.page self.new.typed }
+            Asks S.items I.remaining controller.now self.old.holds self.old.page self.old.typed self.new.held self.new.holds self.new.page self.new.typed }
         ensures holds { (call : Call) → self.old.held ≡ Some call → self.new ≡ self.old }
         ensures leaves { LeavesOutAhead (ahead_of S.items controller.now) self.old.left_out self.new.left_out }
     {
@@ -168,7 +186,7 @@ impl<'a, R: Clock, I: Read + Drop, E: Write> Hand<'a, R, I, E> {
         ensures held { result ≡ self.new.held }
         ensures stop { self.old.held ≡ Some Call.Stop → self.new ≡ self.old }
         ensures asks { self.old.held ≢ Some Call.Stop → (said : Option Call)
-            × IsNext S.items I.remaining controller.now self.old.page self.old.typed said self.new.page self.new.typed
+            × IsNext S.items I.remaining controller.now self.old.holds self.old.page self.old.typed said self.new.holds self.new.page self.new.typed
             × (self.new.held ≡ latest said self.old.held) }
         ensures leaves { LeavesOutAhead (ahead_of S.items controller.now) self.old.left_out self.new.left_out }
     {
@@ -185,23 +203,29 @@ impl<'a, R: Clock, I: Read + Drop, E: Write> Hand<'a, R, I, E> {
     }
 
     /// Waits until the next command may go out, and answers requests for the page meanwhile. A call that is held or made
-    /// ends the wait, and is given: what it comes to waits for nothing, not even for the start.
+    /// ends the wait, and is given: what it comes to waits for nothing, not even for the start. `go` ends the wait of a
+    /// STATUS. A PLAY that is held back waits for the start at most, and isn't counted (`holds_play`).
     pub fn call<S: Source>(&mut self, controller: &Controller<Rest<S>>) -> Option<Call>
         ensures held { (call : Call) → self.old.held ≡ Some call →
-            (result ≡ Some call) × (self.new.page ≡ self.old.page) × (self.new.typed ≡ self.old.typed) }
+            (result ≡ Some call) × (self.new.page ≡ self.old.page) × (self.new.typed ≡ self.old.typed) × (self.new.holds ≡ self.old.holds) }
         ensures asks { self.old.held ≡ None →
-            Asks S.items I.remaining controller.now self.old.page self.old.typed result self.new.page self.new.typed }
+            Asks S.items I.remaining controller.now self.old.holds self.old.page self.old.typed result self.new.holds self.new.page self.new.typed }
         ensures once { self.new.held ≡ None }
         ensures unattended { self.old.held ≡ None → self.old.page ≡ None → self.old.typed ≡ None →
-            (result ≡ None) × (self.new.page ≡ None) × (self.new.typed ≡ None) }
+            (result ≡ None) × (self.new.holds ≡ self.old.holds) × (self.new.page ≡ None) × (self.new.typed ≡ None) }
         ensures start { IsSome result → self.new.start ≡ None }
         ensures starts { (start : Duration) → result ≡ None → self.old.start ≡ Some start →
             given (plan_of (items_left S.items) controller.now) controller.now.state ≡ Some Command.Play →
             HasCome start self.new.time }
         ensures sent { result ≡ None →
-            given (plan_of (items_left S.items) controller.now) controller.now.state ≡ Some Command.Play → self.new.start ≡ None }
-        ensures paces { result ≡ None → Paces (given (plan_of (items_left S.items) controller.now) controller.now.state)
-            self.old.polling self.new.polling }
+            given (plan_of (items_left S.items) controller.now) controller.now.state ≡ Some Command.Play →
+            holds_play self.new.holds controller.now.state ≡ false → self.new.start ≡ None }
+        ensures unsent { result ≡ None → holds_play self.new.holds controller.now.state ≡ true →
+            (self.new.start ≡ self.old.start) × (self.new.commands ≡ self.old.commands) }
+        ensures paces { result ≡ None → is_lifted self.old.holds self.new.holds ≡ false →
+            Paces (given (plan_of (items_left S.items) controller.now) controller.now.state) self.old.polling self.new.polling }
+        ensures goes { result ≡ None → is_lifted self.old.holds self.new.holds ≡ true →
+            GoesOn (given (plan_of (items_left S.items) controller.now) controller.now.state) self.old.polling self.new.polling }
         ensures hurries { IsSome result → self.new.polling.due ≡ 0 }
         ensures least { self.new.polling.least ≡ self.old.polling.least }
         ensures leaves { LeavesOutAhead (ahead_of S.items controller.now) self.old.left_out self.new.left_out }
@@ -217,10 +241,16 @@ impl<'a, R: Clock, I: Read + Drop, E: Write> Hand<'a, R, I, E> {
             self.note_call();
             return Some(call);
         }
-        let command = controller.to_send();
-        if let Some(call) = self.ask_until(controller, until_for(command, self.start)) {
+        let (command, held) = (controller.to_send(), self.holds);
+        if let Some(call) = self.ask_until(controller, until_for(command, self.start, held)) {
             self.note_call();
             return Some(call);
+        }
+        if self.holds_play(controller) {
+            return None;
+        }
+        if held && !self.holds {
+            self.polling.hurry();
         }
         self.note_sent(command);
         None
@@ -235,8 +265,14 @@ impl<'a, R: Clock, I: Read + Drop, E: Write> Hand<'a, R, I, E> {
         let Some(page) = &mut self.page else {
             return;
         };
+        let seen = HandSeen {
+            commands: self.commands,
+            start: None,
+            holds: self.holds,
+            left_out: &self.left_out,
+        };
         for _ in 0..LINGER {
-            page.show(self.clock, controller, Some(outcome), self.commands, None);
+            page.show(self.clock, controller, Some(outcome), seen);
             self.clock.sleep(Duration::from_nanos(PIECE));
         }
     }
@@ -246,8 +282,10 @@ impl<'a, R: Clock, I: Read + Drop, E: Write> Hand<'a, R, I, E> {
         ensures page { IsTrue result → self.now.page ≡ None }
         ensures typed { IsTrue result → self.now.typed ≡ None }
         ensures start { IsTrue result → self.now.start ≡ None }
+        ensures holds { IsTrue result → self.now.holds ≡ false }
     {
-        self.held.is_none() && self.page.is_none() && self.typed.is_none() && self.start.is_none()
+        let nobody_calls = self.held.is_none() && self.page.is_none() && self.typed.is_none();
+        nobody_calls && self.start.is_none() && !self.holds
     }
 
     fn ask_until<S: Source>(
@@ -255,9 +293,10 @@ impl<'a, R: Clock, I: Read + Drop, E: Write> Hand<'a, R, I, E> {
         controller: &Controller<Rest<S>>,
         until: Until,
     ) -> Option<Call>
-        ensures asks { Asks S.items I.remaining controller.now self.old.page self.old.typed result self.new.page self.new.typed }
+        ensures asks { Asks S.items I.remaining controller.now self.old.holds self.old.page self.old.typed result self.new.holds self.new.page self.new.typed }
         ensures held { self.new.held ≡ self.old.held }
         ensures start { self.new.start ≡ self.old.start }
+        ensures commands { self.new.commands ≡ self.old.commands }
         ensures paces { Paces None self.old.polling self.new.polling }
         ensures leaves { LeavesOutAhead (ahead_of S.items controller.now) self.old.left_out self.new.left_out }
         ensures waited { (time : Duration) → until ≡ Until.Time time → result ≡ None → HasCome time self.new.time }
@@ -277,52 +316,74 @@ impl<'a, R: Clock, I: Read + Drop, E: Write> Hand<'a, R, I, E> {
     }
 
     fn next<S: Source>(&mut self, controller: &Controller<Rest<S>>) -> Option<Call>
-        ensures next { IsNext S.items I.remaining controller.now self.old.page self.old.typed result self.new.page self.new.typed }
+        ensures next { IsNext S.items I.remaining controller.now self.old.holds self.old.page self.old.typed result self.new.holds self.new.page self.new.typed }
         ensures held { self.new.held ≡ self.old.held }
         ensures start { self.new.start ≡ self.old.start }
+        ensures commands { self.new.commands ≡ self.old.commands }
         ensures polling { self.new.polling ≡ self.old.polling }
         ensures leaves { LeavesOutAhead (ahead_of S.items controller.now) self.old.left_out self.new.left_out }
     {
+        match self.next_said(controller) {
+            Some(said) => self.obey(said, ahead_of(controller)),
+            None => None,
+        }
+    }
+
+    fn next_said<S: Source>(&mut self, controller: &Controller<Rest<S>>) -> Option<Said>
+        ensures said { IsSaid S.items I.remaining controller.now self.old.holds self.old.page self.old.typed result self.new.page self.new.typed }
+        ensures rest { self.new ≡ record self.old { page = self.new.page; typed = self.new.typed } }
+    {
         match self.page_call(controller) {
-            Some(call) => Some(call_of(call)),
-            None => self.typed_call(ahead_of(controller)),
+            Some(call) => Some(as_said(call)),
+            None => self.typed_line(),
         }
     }
 
     fn page_call<S: Source>(&mut self, controller: &Controller<Rest<S>>) -> Option<panel::Call>
-        ensures page { PageCalls S.items controller.now self.old.page result self.new.page }
+        ensures page { PageCalls S.items controller.now self.old.holds self.old.page result self.new.page }
         ensures rest { self.new ≡ record self.old { page = self.new.page } }
     {
         let start = millis_of(self.start);
         let Some(page) = &mut self.page else {
             return None;
         };
-        page.show(self.clock, controller, None, self.commands, start);
+        let seen = HandSeen {
+            commands: self.commands,
+            start,
+            holds: self.holds,
+            left_out: &self.left_out,
+        };
+        page.show(self.clock, controller, None, seen);
         page.next_call()
     }
 
-    fn typed_call(&mut self, ahead: Stretch) -> Option<Call>
-        ensures typed { TypedCalls I.remaining self.old.typed result self.new.typed }
-        ensures leaves { LeavesOutAhead ahead self.old.left_out self.new.left_out }
-        ensures rest { self.new ≡ record self.old { typed = self.new.typed; told = self.new.told; left_out = self.new.left_out } }
+    fn typed_line(&mut self) -> Option<Said>
+        ensures typed { TypedSays I.remaining self.old.typed result self.new.typed }
+        ensures rest { self.new ≡ record self.old { typed = self.new.typed } }
     {
         let Some(typed) = &mut self.typed else {
             return None;
         };
-        match typed.next() {
-            Some(said) => self.obey(said, ahead),
-            None => None,
-        }
+        typed.next()
     }
 
-    // Gives a call, or leaves out events, and tells so or why not.
+    // Gives a call, or holds or goes on, or leaves out events, and tells so or why not.
     fn obey(&mut self, said: Said, ahead: Stretch) -> Option<Call>
         ensures call { result ≡ called_by (Some said) }
+        ensures holds { self.new.holds ≡ holds_after (Some said) self.old.holds }
         ensures obeys { Obeys ahead said self.old.left_out self.new.left_out }
-        ensures rest { self.new ≡ record self.old { told = self.new.told; left_out = self.new.left_out } }
+        ensures rest { self.new ≡ record self.old { told = self.new.told; holds = self.new.holds; left_out = self.new.left_out } }
     {
         let _ = match said {
             Said::Call(call) => return Some(call),
+            Said::Hold => {
+                self.holds = true;
+                writeln!(self.told, "vdcp: holding: nothing new goes to air until go")
+            }
+            Said::Go => {
+                self.holds = false;
+                writeln!(self.told, "vdcp: going on")
+            }
             Said::Skip(event) => match self.left_out.skip(event, ahead) {
                 Ok(()) => writeln!(self.told, "vdcp: event {event} is left out"),
                 Err(fault) => writeln!(self.told, "vdcp: {fault}"),
@@ -333,7 +394,7 @@ impl<'a, R: Clock, I: Read + Drop, E: Write> Hand<'a, R, I, E> {
             },
             Said::Other => writeln!(
                 self.told,
-                "vdcp: no call: take, stop, skip EVENT, jump EVENT"
+                "vdcp: no call: take, stop, hold, go, skip EVENT, jump EVENT"
             ),
         };
         let _ = self.told.flush();
@@ -341,13 +402,14 @@ impl<'a, R: Clock, I: Read + Drop, E: Write> Hand<'a, R, I, E> {
     }
 
     fn wait_piece(&mut self, until: Until) -> bool
-        ensures over { IsTrue result → IsOver until self.new.time self.old.polling.due self.new.polling.stopwatch.now }
+        ensures over { IsTrue result → IsOver until self.old.holds self.new.time self.old.polling.due self.new.polling.stopwatch.now }
         ensures paces { Paces None self.old.polling self.new.polling }
         ensures rest { self.new ≡ record self.old { time = self.new.time; slept = self.new.slept; polling = self.new.polling } }
     {
         match until {
             Until::Time(time) => self.wait_for(time),
             Until::Poll => self.polling.wait_piece(PIECE),
+            Until::PollOrGo => !self.holds || self.polling.wait_piece(PIECE),
             Until::Now => true,
         }
     }
@@ -392,11 +454,12 @@ impl<'a, R: Clock, I: Read + Drop, E: Write> Hand<'a, R, I, E> {
     }
 }
 
-fn until_for(command: Option<Command>, start: Option<Duration>) -> Until
-    ensures { result ≡ until_for command start }
+fn until_for(command: Option<Command>, start: Option<Duration>, holds: bool) -> Until
+    ensures { result ≡ until_for command start holds }
 {
     match (command, start) {
         (Some(Command::Play), Some(start)) => Until::Time(start),
+        (Some(Command::Status(_)), _) if holds => Until::PollOrGo,
         (Some(Command::Status(_)), _) => Until::Poll,
         _ => Until::Now,
     }
@@ -426,11 +489,14 @@ fn millis_of(time: Option<Duration>) -> Option<u64>
     u64::try_from(time?.as_millis()).ok()
 }
 
-fn call_of(call: panel::Call) -> Call
-    ensures { result ≡ as_call call }
+fn as_said(call: panel::Call) -> Said
+    ensures { result ≡ as_said call }
 {
     match call {
-        panel::Call::Take => Call::Take,
-        panel::Call::Stop => Call::Stop,
+        panel::Call::Take => Said::Call(Call::Take),
+        panel::Call::Stop => Said::Call(Call::Stop),
+        panel::Call::Hold => Said::Hold,
+        panel::Call::Go => Said::Go,
+        panel::Call::Skip(event) => Said::Skip(event),
     }
 }

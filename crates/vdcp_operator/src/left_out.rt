@@ -31,8 +31,8 @@ pub enum LeaveFault {
     NoStay,
     #[error("there is no event {0}")]
     NoEvent(usize),
-    #[error("event {0} isn't left out any more: the server was asked about it")]
-    Asked(usize),
+    #[error("event {0} can't be left out any more")]
+    Past(usize),
     /// A jump can't lead to it.
     #[error("event {0} is left out already")]
     LeftOut(usize),
@@ -59,6 +59,12 @@ impl LeftOut {
         }
     }
 
+    pub fn stays(&self) -> bool
+        ensures { result ≡ self.now.stays }
+    {
+        self.stays
+    }
+
     /// The first event from this one on that isn't left out.
     pub fn next_kept(&self, event: usize) -> usize
         ensures { IsNextKept self.now event result }
@@ -70,7 +76,7 @@ impl LeftOut {
         kept
     }
 
-    /// Leaves out this event, if it is one of those that the server isn't asked about.
+    /// Leaves out this event, if it is one of those ahead.
     pub fn skip(&mut self, event: usize, ahead: Stretch) -> Result<(), LeaveFault>
         ensures { LeavesOut (fault_at self.old ahead event) (only event) self.old self.new result }
     {
@@ -83,7 +89,7 @@ impl LeftOut {
         })
     }
 
-    /// Leaves out those before this event that the server isn't asked about, if it is one of these.
+    /// Leaves out the events ahead up to this one, if it is one of these.
     pub fn jump(&mut self, event: usize, ahead: Stretch) -> Result<(), LeaveFault>
         ensures { LeavesOut (jump_fault_at self.old ahead event) (up_to ahead event) self.old self.new result }
     {
@@ -99,7 +105,7 @@ impl LeftOut {
         })
     }
 
-    fn is_left_out(&self, event: usize) -> bool
+    pub fn is_left_out(&self, event: usize) -> bool
         ensures { result ≡ is_left_out self.now event }
     {
         with_event(self.stretches.as_slice(), event).is_some()
@@ -113,7 +119,7 @@ impl LeftOut {
         } else if ahead.end <= event {
             Some(LeaveFault::NoEvent(event))
         } else if event < ahead.first {
-            Some(LeaveFault::Asked(event))
+            Some(LeaveFault::Past(event))
         } else {
             None
         }

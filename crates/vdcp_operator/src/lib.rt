@@ -2,7 +2,8 @@
 //!
 //! The hooks of a driver call `Hand` before each listen, also without an operator: it reads what was typed (`Typed`, by
 //! `Keys`, which never wait), answers requests for the page (`RunPage`), and waits until the next command may go out. A
-//! line may leave out events of a run that stays (`skip`, `jump`): `next_kept` says with which event the list goes on.
+//! line may leave out events of a run that stays (`skip`, `jump`): `next_kept` says with which event the list goes on. From
+//! `hold` to `go` a PLAY is held back: `holds_play` says of which one. What the page asks for is obeyed as a line is.
 //!
 //! Files, in reading order: `keys`, `typed`, `left_out`, `ahead`, `channel`, `seen`, `shown`, `page`, `start`, `polling`,
 //! `hand`, `progress`.

@@ -17,7 +17,11 @@ button { font: 700 20px/1 system-ui, "DejaVu Sans", sans-serif; padding: 16px 28
 #take { border-color: var(--cue); color: var(--cue); }
 #stop { border-color: var(--air); color: var(--air); }
 #take.asked { background: var(--cue); color: var(--on); }
-#stop.asked { background: var(--air); color: var(--on); }
+#stop.asked, td button.asked { background: var(--air); color: var(--on); }
+.holding #hold { border-color: var(--air); color: var(--air); }
+.held { color: var(--air); }
+#list:not(.stays) .skip { display: none; }
+td button { font-size: 13px; padding: 4px 10px; border-width: 1px; border-radius: 6px; }
 button:disabled, button[aria-disabled=true] { border-color: var(--line) !important; color: var(--dim) !important; background: var(--ground) !important; cursor: default; }
 button:focus-visible { outline: 3px solid var(--cue); outline-offset: 2px; }
 #told, #count { margin: 0; color: var(--dim); }
@@ -33,18 +37,18 @@ tr.ready td { color: var(--cue); font-weight: 700; }
 <section id="air" aria-labelledby="air-title"><h2 id="air-title">On air</h2><p class="item" id="air-item">nothing</p><p class="time" id="air-time"></p></section>
 <section id="next" aria-labelledby="next-title"><h2 id="next-title">Next</h2><p class="item" id="next-item">nothing</p><p class="time" id="next-time"></p></section>
 <section class="wide" aria-labelledby="calls-title"><h2 id="calls-title">Calls</h2>
-<div class="calls"><button id="take" type="button" disabled>Take (T)</button><button id="stop" type="button" disabled>Stop (S)</button><p id="told" role="status"></p></div></section>
+<div class="calls"><button id="take" name="take" type="button" disabled>Take (T)</button><button id="stop" name="stop" type="button" disabled>Stop (S)</button><button id="hold" name="hold" type="button" disabled>Hold (H)</button><p id="told" role="status"></p></div></section>
 <section class="wide" aria-labelledby="line-title"><h2 id="line-title">Line</h2>
 <dl><div><dt>Server</dt><dd id="server"></dd></div><div><dt>Journal</dt><dd id="journal"></dd></div><div><dt>Controller</dt><dd id="stage"></dd></div><div><dt>Unanswered in a row</dt><dd id="unanswered"></dd></div><div><dt>Left of the list</dt><dd id="left"></dd></div></dl></section>
 <section class="wide" id="list" aria-labelledby="list-title"><h2 id="list-title">List</h2>
 <p id="count">no event yet</p>
 <div class="scroll" id="scroll" tabindex="0" role="region" aria-labelledby="list-title">
-<table><thead><tr><th scope="col">#</th><th scope="col">Event</th><th scope="col">State</th><th scope="col">At</th></tr></thead><tbody id="rows"></tbody></table></div></section>
+<table><thead><tr><th scope="col">#</th><th scope="col">Event</th><th scope="col">State</th><th scope="col">At</th><th scope="col" class="skip">Leave out</th></tr></thead><tbody id="rows"></tbody></table></div></section>
 "#,
-    r#"// In milliseconds: how long Take is locked once it was made, a press waits for its second one, and the list stays where it was scrolled to.
+    r#"// In milliseconds: how long Take and Hold are locked once they were made, a press waits for its second one, and the list stays where it was scrolled to.
 const LOCKED = 500, ASKED = 3000, SCROLLED = 8000;
-const token = location.hash.slice(1), keys = { take: 'T', stop: 'S' };
-let seen = null, busy = '', sending = false, locked = 0, asked = { name: '', word: '', at: 0 }, scrolled = -SCROLLED, ahead = 0;
+const token = location.hash.slice(1), keys = { Take: 'T', 'Start now': 'T', Stop: 'S', Hold: 'H', Go: 'G' }, locked = { take: 0, hold: 0 };
+let seen = null, busy = '', sending = false, off = true, asked = { name: '', word: '', at: 0 }, scrolled = -SCROLLED, ahead = 0;
 
 // by the clock of the run's machine: an answer comes late, so the largest difference is the nearest
 function compare(theirs) {
@@ -73,7 +77,11 @@ const isWell = run => run.outcome === 'done' || run.outcome === 'stopped';
 const outcome = run => 'the run has ended: ' + (run.outcome === 'open' ? 'the line failed' : run.outcome);
 const heading = run => file(run.list) + ' \u2192 ' + run.server;
 const waits = () => seen !== null && seen.start !== null;
+const holds = () => seen !== null && seen.holding;
 const find = (run, number) => run.rows.find(r => r.number === number);
+// the event that comes next, and from which one on the server isn't asked about them
+const upNext = run => isOver(run) ? undefined : run.rows.find(r => r.number >= run.event && !r.out);
+const unasked = run => run.event + (run.stage === 'opening' || run.stage === 'checking' ? 0 : 1);
 // the last event that went to air in this run; it is on air until its end is seen, or that it was cut is answered
 const last = run => run.event > run.from ? find(run, run.event - 1) : undefined;
 const onAir = run => {
@@ -99,6 +107,7 @@ function past(run, row) {
 }
 
 function state(run, row) {
+  if (row.out) return ['left out', 'past'];
   if (row.number < run.event - 1 || row.number < run.from) return [past(run, row), 'past'];
   if (row.number === run.event - 1) return onAir(run) ? ['on air', 'air'] : [isOver(run) && !isWell(run) && row.until === null ? 'last seen' : ended(row), 'past'];
   if (row.number > run.event) return ['', ''];
@@ -106,14 +115,15 @@ function state(run, row) {
   return isCued(run) ? ['cued', 'ready'] : ['next', ''];
 }
 
-// When what comes goes to air, by its number, as far as lengths are known, and the end of all that is known.
+// When what comes goes to air, by its number, as far as lengths are known, and the end of all that is known. It isn't known while it holds.
 function plan(run) {
   const air = onAir(run), times = new Map();
-  let at = isOver(run) ? null : run.start !== null ? run.start : air && air.at !== null && air.length !== null ? Math.max(air.at + air.length, now()) : null;
+  let at = isOver(run) || run.holding ? null : run.start !== null ? run.start : air && air.at !== null && air.length !== null ? Math.max(air.at + air.length, now()) : null;
   let end = null, whole = false;
   for (let row = find(run, run.event); at !== null; row = find(run, row.number + 1)) {
     [end, whole] = [at, row === undefined && run.rows.length !== 0 && run.event <= run.events && run.rows[run.rows.length - 1].number + 1 >= run.events];
     if (row === undefined) break;
+    if (row.out) continue;
     times.set(row.number, at);
     at = row.length === null ? null : at + row.length;
   }
@@ -135,12 +145,18 @@ function rows(run, times) {
     let row = body.children[i];
     if (!row) {
       row = document.createElement('tr');
-      for (const c of ['', 'id', '', '']) { const cell = document.createElement('td'); cell.className = c; row.append(cell); }
+      for (const c of ['', 'id', '', '', 'skip']) { const cell = document.createElement('td'); cell.className = c; row.append(cell); }
+      const button = document.createElement('button');
+      button.type = 'button';
+      button.addEventListener('click', () => press(button.name));
+      row.lastChild.append(button);
       body.append(row);
     }
     const [word, kind] = state(run, r), planned = r.at === null && times.has(r.number);
     if (row.className !== kind) row.className = kind;
     row.children[3].className = planned ? 'plan' : '';
+    row.lastChild.firstChild.name = 'skip ' + r.number;
+    row.lastChild.firstChild.hidden = !run.stays || isOver(run) || run.stage === 'stopping' || r.out || r.number < unasked(run);
     [String(r.number), named(r.item), word, planned ? '~' + clock(times.get(r.number)) : between(r)].forEach((t, k) => {
       if (row.children[k].textContent !== t) row.children[k].textContent = t;
     });
@@ -178,9 +194,8 @@ function health(kind, text, stale) {
   $('health').className = kind;
   put('health', text);
   document.body.classList.toggle('stale', stale);
-  const off = kind === 'gone' || token === '' || seen === null || isOver(seen);
-  $('take').disabled = off;
-  $('stop').disabled = off;
+  off = kind === 'gone' || token === '' || seen === null || isOver(seen);
+  for (const button of document.querySelectorAll('button')) button.disabled = off;
   if (token === '') put('told', 'To make calls, open the address that the run has printed, with all that follows #.');
 }
 
@@ -190,22 +205,25 @@ function show(run) {
   seen = run;
   const air = onAir(run), before = last(run), unknown = isOver(run) && !isWell(run);
   slot('air', air ? named(air.item) : unknown ? 'unknown' + (before ? ', last seen ' + named(before.item) : '') : 'nothing', air ? 'air' : '');
-  const next = isOver(run) ? undefined : find(run, run.event);
+  const next = upNext(run), held = run.holding ? 'holding: nothing new goes to air' : '';
   slot('next', next ? named(next.item) : 'nothing', next && isCued(run) ? 'ready' : '');
   put('name', (run.channel === '' ? '' : run.channel + ' \u00b7 ') + heading(run));
   put('server', run.server);
   put('journal', run.journal || 'none');
-  put('stage', run.stage + (run.take ? ', to take' : '') + (run.stop ? ', to stop' : ''));
+  put('stage', run.stage + (run.take ? ', to take' : '') + (run.stop ? ', to stop' : '') + (run.holding ? ', holding' : ''));
   put('unanswered', String(run.unanswered));
   document.title = (run.channel === '' ? '' : run.channel + ' ') + (air ? '\u25B6 ' + air.item : isOver(run) ? 'ended' : 'off air') + ' \u00b7 ' + heading(run);
+  document.body.classList.toggle('holding', run.holding);
+  $('list').classList.toggle('stays', run.stays);
   rows(run, plan(run).times);
   follow(run);
   put('step', step(run));
   $('after').hidden = step(run) === '';
   if (isOver(run)) health(isWell(run) ? 'idle' : 'gone', outcome(run), false);
-  else if (run.start !== null) health('idle', 'waits for its start', false);
+  else if (run.start !== null) health('idle', 'waits for its start' + (held && '; ' + held), false);
   else if (run.down !== null) health('gone', 'no line since ' + clock(run.down) + ': connecting', true);
   else if (run.unanswered > 0) health('gone', 'no answer', true);
+  else if (held !== '') health('held', held, false);
   else health('good', 'runs', false);
   tick();
 }
@@ -213,13 +231,12 @@ function show(run) {
 // What goes on between two looks.
 function tick() {
   put('clock', clock(now()));
-  label('take');
-  label('stop');
+  for (const button of document.querySelectorAll('button')) label(button);
   if (seen === null) return;
-  const air = onAir(seen), next = isOver(seen) ? undefined : find(seen, seen.event), planned = plan(seen);
+  const air = onAir(seen), next = upNext(seen), planned = plan(seen);
   put('air-time', !air || air.at === null ? '' : 'for ' + time(now() - air.at) + (air.length === null ? '' : ', ' + frames(air.at + air.length - now(), seen.rate) + ' left'));
   const at = next && planned.times.has(next.number) ? ', about ' + clock(planned.times.get(next.number)) : '';
-  put('next-time', !next ? '' : waits() ? 'at ' + clock(seen.start) + ', in ' + frames(seen.start - now(), seen.rate) : (isCued(seen) ? 'cued' : seen.stage) + at);
+  put('next-time', !next ? '' : waits() ? 'at ' + clock(seen.start) + ', in ' + frames(seen.start - now(), seen.rate) : (isCued(seen) ? 'cued' : seen.stage) + (seen.holding ? ', held back' : at));
   put('left', isOver(seen) ? 'it has ended' : planned.end === null ? 'not known' : (planned.whole ? '' : 'more than ') + time(planned.end - now()));
 }
 
@@ -241,33 +258,36 @@ const said = {
   409: 'the list has moved on, look again',
 };
 
-async function call(name) {
+async function call(button) {
   if (sending) return;
+  const name = button === 'hold' && holds() ? 'go' : button;
   sending = true;
   try {
-    const answer = await fetch('/' + name, { method: 'POST', headers: { 'X-Panel-Token': token, 'X-Panel-Event': String(seen.event) }, signal: AbortSignal.timeout(3000) });
+    const answer = await fetch('/' + name.replace(' ', '/'), { method: 'POST', headers: { 'X-Panel-Token': token, 'X-Panel-Event': String(seen.event) }, signal: AbortSignal.timeout(3000) });
     put('told', name + ': ' + (said[answer.status] || 'refused (' + answer.status + ')'));
   } catch (e) { put('told', name + ': no answer, so it may have been made or not'); }
-  if (name === 'take') locked = performance.now() + LOCKED;
+  if (button in locked) locked[button] = performance.now() + LOCKED;
   sending = false;
 }
 
-// Stop, and Take before the start, are made by a second press.
-const word = name => name === 'stop' ? 'Stop' : waits() ? 'Start now' : 'Take';
-const isLocked = name => name === 'take' && (sending || performance.now() < locked);
+// Stop and Skip, and Take before the start, are made by a second press.
+const word = name => name === 'stop' ? 'Stop' : name === 'hold' ? (holds() ? 'Go' : 'Hold') : name !== 'take' ? 'Skip' : waits() ? 'Start now' : 'Take';
+const isLocked = name => name !== 'stop' && (sending || performance.now() < locked[name]);
 const isAsked = name => asked.name === name && Date.now() - asked.at < ASKED;
 function unask() { asked = { name: '', word: '', at: 0 }; }
 
-function label(name) {
-  const button = $(name), again = isAsked(name) && asked.word === word(name);
-  put(name, again ? word(name) + ': once more' : word(name) + ' (' + keys[name] + ')');
+function label(button) {
+  const name = button.name, said = word(name), again = isAsked(name) && asked.word === said;
+  const text = said + (again ? ': once more' : said in keys ? ' (' + keys[said] + ')' : '');
+  if (button.textContent !== text) button.textContent = text;
+  if (said === 'Skip' && button.ariaLabel !== text + ', event ' + name.slice(5)) button.ariaLabel = text + ', event ' + name.slice(5);
   if (button.className !== (again ? 'asked' : '')) button.className = again ? 'asked' : '';
   if (button.ariaDisabled !== String(isLocked(name))) button.ariaDisabled = String(isLocked(name));
 }
 
 function press(name) {
-  if (seen === null || $(name).disabled || isLocked(name)) return;
-  const was = isAsked(name) ? asked.word : '', once = name === 'take' && !waits();
+  if (seen === null || off || isLocked(name)) return;
+  const was = isAsked(name) ? asked.word : '', once = name === 'hold' || name === 'take' && !waits();
   unask();
   // (a press that was to start the run takes nothing once it has begun)
   if (was === '' ? once : was === word(name)) call(name);
@@ -275,11 +295,13 @@ function press(name) {
   tick();
 }
 
-for (const name of ['take', 'stop']) $(name).addEventListener('click', () => press(name));
+for (const name of ['take', 'stop', 'hold']) $(name).addEventListener('click', () => press(name));
 document.addEventListener('keydown', e => {
   if (e.repeat || e.ctrlKey || e.altKey || e.metaKey) return;
-  if (e.key === 't' || e.key === 'T') press('take');
-  else if (e.key === 's' || e.key === 'S') press('stop');
+  const key = e.key.toLowerCase();
+  if (key === 't') press('take');
+  else if (key === 's') press('stop');
+  else if (key === (holds() ? 'g' : 'h')) press('hold');
   else if (e.key === 'Escape') unask();
 });
 for (const what of ['wheel', 'touchmove', 'pointerdown', 'keydown']) $('scroll').addEventListener(what, () => { scrolled = performance.now(); }, { passive: true });

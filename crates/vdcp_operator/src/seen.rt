@@ -3,8 +3,9 @@ ghost use Rattle.std.specs.Prelude.{◌≡◌, IfOk, map};
 ghost use Rattle.serde_json.specs.Data.{array, string};
 ghost use Rattle.serde_json.specs.View.{items_of, view};
 ghost use Rattle.vdcp_text.specs.Outcome.{outcome_text};
-ghost use Rattle.vdcp_operator.specs.Seen.{ending_data, ending_text, length_by, number_data, record_data, record_text, row_data, run_data, seen_data, stage_text};
+ghost use Rattle.vdcp_operator.specs.Seen.{ending_data, ending_text, length_by, number_data, record_data, record_text, row_data, row_with, run_data, seen_data, stage_text};
 
+use crate::left_out::LeftOut;
 use serde_json::{Value, json};
 use std::alloc::{AllocError, Global};
 use vdcp_auto::{Outcome, Phase, Snapshot, Standing};
@@ -57,6 +58,18 @@ pub struct EventSeen {
     pub ending: Option<Ending>,
 }
 
+/// What a page shows of an operator's hand.
+#[derive(Clone, Copy)]
+pub struct HandSeen<'a> {
+    /// How many commands went out.
+    pub commands: u64,
+    /// When the first event goes to air, if that is waited for.
+    pub start: Option<u64>,
+    /// Whether nothing new goes to air after what plays.
+    pub holds: bool,
+    pub left_out: &'a LeftOut,
+}
+
 /// What the command line says of a run. `server` is an address; `channel` and `journal` are empty if it names none.
 #[derive(Drop)]
 pub struct RunNames {
@@ -85,10 +98,7 @@ pub struct RunSeen<'a> {
     pub events: u64,
     /// Those round `event`.
     pub rows: &'a [EventSeen],
-    /// How many went out.
-    pub commands: u64,
-    /// When the first event goes to air, if that is waited for.
-    pub start: Option<u64>,
+    pub hand: HandSeen<'a>,
     /// Since when there is no connection, if there is none.
     pub down: Option<u64>,
     pub clock: u64,
@@ -126,10 +136,10 @@ impl RunSeen<'_> {
             "events": self.events,
             "now": self.clock,
             "outcome": outcome_of(alloc, self.outcome)?,
-            "rows": rows_of(alloc, self.rate, self.clips, self.rows)?,
+            "rows": rows_of(alloc, self.rate, self.clips, self.hand.left_out, self.rows)?,
             "run": self.run(alloc)?,
             "stage": stage_text(self.snapshot.standing),
-            "start": number_or_null(self.start),
+            "start": number_or_null(self.hand.start),
             "stop": self.snapshot.stop,
             "take": self.snapshot.take
         })
@@ -140,14 +150,16 @@ impl RunSeen<'_> {
     {
         json!(in alloc; {
             "channel": self.names.channel.as_str(),
-            "commands": self.commands,
+            "commands": self.hand.commands,
             "down": number_or_null(self.down),
             "from": self.from,
+            "holding": self.hand.holds,
             "journal": self.names.journal.as_str(),
             "list": self.names.list.as_str(),
             "over": self.is_over,
             "rate": self.rate.frames_per_second(),
             "server": self.names.server.as_str(),
+            "stays": self.hand.left_out.stays(),
             "unanswered": self.snapshot.unanswered
         })
     }
@@ -193,13 +205,14 @@ fn rows_of(
     alloc: Global,
     rate: Rate,
     clips: &Option<Table>,
+    left_out: &LeftOut,
     events: &[EventSeen],
 ) -> Result<Value, AllocError>
-    ensures { IfOk result (λ v. view v ≡ array (items_of (map (row_data rate clips.now) events.now))) }
+    ensures { IfOk result (λ v. view v ≡ array (items_of (map (row_data rate clips.now left_out.now) events.now))) }
 {
     let mut rows = Vec::new(alloc);
     for k in 0..events.len() {
-        let row = row_of(alloc, rate, clips, &events[k])?;
+        let row = row_of(alloc, rate, clips, left_out, &events[k])?;
         rows.push(row)?;
     }
     Ok(Value::Array(rows))
@@ -209,22 +222,38 @@ fn row_of(
     alloc: Global,
     rate: Rate,
     clips: &Option<Table>,
+    left_out: &LeftOut,
     event: &EventSeen,
 ) -> Result<Value, AllocError>
-    ensures { IfOk result (λ v. view v ≡ row_data rate clips.now event.now) }
+    ensures { IfOk result (λ v. view v ≡ row_data rate clips.now left_out.now event.now) }
 {
     let text = ItemText {
         rate,
         item: event.item,
     };
     let item = format!(in alloc; "{text}")?;
+    let length = length_by(clips, event.item);
+    let is_out = left_out.is_left_out(event.number as usize);
+    row_with(alloc, item.as_str(), length, is_out, event)
+}
+
+fn row_with(
+    alloc: Global,
+    item: &str,
+    length: Option<u64>,
+    is_out: bool,
+    event: &EventSeen,
+) -> Result<Value, AllocError>
+    ensures { IfOk result (λ v. view v ≡ row_with item.now length is_out event.now) }
+{
     json!(in alloc; {
         "at": number_or_null(event.at),
         "ending": ending_or_null(alloc, event.ending)?,
-        "item": item.as_str(),
+        "item": item,
         "kept": record_or_null(alloc, event.kept)?,
-        "length": number_or_null(length_by(clips, event.item)),
+        "length": number_or_null(length),
         "number": event.number,
+        "out": is_out,
         "until": number_or_null(event.until)
     })
 }

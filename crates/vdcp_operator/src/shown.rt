@@ -5,7 +5,7 @@ ghost use Rattle.vdcp_operator.specs.Rows.{IsRow, at_in, before_of, ending_after
 ghost use Rattle.vdcp_operator.specs.Seen.{AreRound, ShowsRun, event_of, with_number};
 
 use crate::page::PAGE;
-use crate::seen::{Ending, EventBefore, EventSeen, RunNames, RunSeen};
+use crate::seen::{Ending, EventBefore, EventSeen, HandSeen, RunNames, RunSeen};
 use std::alloc::Global;
 use std::rt::Clock;
 use vdcp_auto::{Controller, Outcome, Phase, Snapshot, Source, Standing};
@@ -90,10 +90,9 @@ impl RunPage {
         clock: &R,
         controller: &Controller<Rest<S>>,
         end: Option<Option<Outcome>>,
-        commands: u64,
-        start: Option<u64>,
+        hand: HandSeen<'_>,
     )
-        ensures { ShowsRun S.items controller.now self.old end commands start self.new }
+        ensures { ShowsRun S.items controller.now self.old end hand.entry self.new }
     {
         let now = milliseconds(clock);
         let snapshot = controller.snapshot();
@@ -110,8 +109,7 @@ impl RunPage {
             event,
             events: number(controller.source().whole().len()),
             rows: self.rows.as_slice(),
-            commands,
-            start,
+            hand,
             down: self.down,
             clock: now,
         };

@@ -2,11 +2,12 @@
 ghost use Rattle.std.specs.Io.KnownBytes.{Consumes, IsAtEnd, Keeps};
 ghost use Rattle.std.specs.Option.{option_to_list};
 ghost use Rattle.std.specs.Prelude.{◌≡◌, ◌<◌, ◌≤◌, ◌∷◌, ◌++◌, [], IfOk, None, OnErr, length};
-ghost use Rattle.vdcp_operator.specs.Typed.{SaysOn, left, number_in, said_by, said_from, said_in, without_return};
+ghost use Rattle.vdcp_operator.specs.Typed.{SaysOn, left, said_by, said_from, said_in, without_return};
 
 use arrayvec::ArrayVec;
 use std::io::{self, Read};
 use vdcp_drive::Call;
+use vdcp_panel::number_in;
 
 // A longer line is no call.
 const MOST_BYTES: usize = 64;
@@ -14,6 +15,10 @@ const MOST_BYTES: usize = 64;
 #[derive(Clone, Copy, Debug, PartialEq, Eq)]
 pub enum Said {
     Call(Call),
+    /// Nothing new is to go to air after what plays.
+    Hold,
+    /// What is held back is to go to air again.
+    Go,
     /// This event of the list, counted from 0, is to be left out.
     Skip(usize),
     /// The list is to go on with this event.
@@ -29,7 +34,7 @@ enum Got {
     Nothing,
 }
 
-/// What is typed, a line each: the calls `take` and `stop`, and `skip EVENT` and `jump EVENT`.
+/// What is typed, a line each: the calls `take` and `stop`, `hold` and `go`, and `skip EVENT` and `jump EVENT`.
 #[derive(Drop)]
 pub struct Typed<I> {
     // None once it has ended.
@@ -133,6 +138,10 @@ fn said_in(line: &[u8]) -> Said
         Said::Call(Call::Take)
     } else if words == "stop".as_bytes() {
         Said::Call(Call::Stop)
+    } else if words == "hold".as_bytes() {
+        Said::Hold
+    } else if words == "go".as_bytes() {
+        Said::Go
     } else if let Some(digits) = words.strip_prefix(b"skip ") {
         number_in(digits).map_or(Said::Other, Said::Skip)
     } else if let Some(digits) = words.strip_prefix(b"jump ") {
@@ -146,21 +155,4 @@ fn without_return(line: &[u8]) -> &[u8]
     ensures { result.now ≡ without_return line.now }
 {
     line.strip_suffix(b"\r").unwrap_or(line)
-}
-
-// No sign or needless zero may stand before it.
-fn number_in(digits: &[u8]) -> Option<usize>
-    ensures { result ≡ number_in digits.now }
-{
-    let Ok(text) = str::from_utf8(digits) else {
-        return None;
-    };
-    let Ok(number) = text.parse::<usize>() else {
-        return None;
-    };
-    let mut buffer = itoa::Buffer::new();
-    if buffer.format(number) != text {
-        return None;
-    }
-    Some(number)
 }

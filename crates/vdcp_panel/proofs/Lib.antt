@@ -2,4 +2,5 @@
 pub mod Gained
 mod Guarding
 mod Keeping
+mod Numbers
 pub mod Turning

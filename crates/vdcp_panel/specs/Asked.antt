@@ -1,12 +1,13 @@
 -- Which requests are let in, what a request is shown, and which call it asks for.
-use Rattle.std.specs.Prelude.{ℕ, Bool, true, false, ◌&&◌, ◌||◌, List, [], ◌∷◌, codes, decimal, Option, None, Some, bytes_eq, if◌then◌else◌}
+use Rattle.std.specs.Prelude.{ℕ, Bool, true, false, ◌&&◌, ◌||◌, List, [], ◌∷◌, codes, decimal, drop, take, Option, None, Some, bytes_eq, if◌then◌else◌}
 use Rattle.http.specs.FieldValue.{FieldValue}
 use Rattle.http.specs.HeaderMap.{get, get_all}
 use Rattle.http.specs.Uri.{uri_authority, uri_path}
 use Rattle.http.specs.declared.request.Request.{Request}
 use Rattle.http.specs.Request.{head_of}
+use Rattle.vdcp_panel.specs.Numbers.{number_in}
 use Rattle.vdcp_panel.specs.declared.call.Call.{Call}
-use Rattle.vdcp_panel.specs.declared.call.Call.TheVariants.{Take, Stop}
+use Rattle.vdcp_panel.specs.declared.call.Call.TheVariants.{Take, Stop, Hold, Go, Skip}
 use Rattle.vdcp_panel.specs.declared.gate.Gate.{Gate}
 use Rattle.vdcp_panel.specs.declared.gate.Name.{Name}
 use Rattle.vdcp_panel.specs.declared.wish.Place.{Place}
@@ -60,12 +61,20 @@ verb_of method =
     else if bytes_eq method (codes "POST") then verbs.Post
     else verbs.Other
 
+-- the call that leaves out this event
+abbrev pub place_to_skip : Option ℕ → Place
+place_to_skip None = places.Nowhere
+place_to_skip (Some event) = places.Call (Skip event)
+
 abbrev pub place_of : List ℕ → Place
 place_of path =
     if bytes_eq path (codes "/") then places.Page
     else if bytes_eq path (codes "/state") then places.State
     else if bytes_eq path (codes "/take") then places.Call Take
     else if bytes_eq path (codes "/stop") then places.Call Stop
+    else if bytes_eq path (codes "/hold") then places.Call Hold
+    else if bytes_eq path (codes "/go") then places.Call Go
+    else if bytes_eq (take 6 path) (codes "/skip/") then place_to_skip (number_in (drop 6 path))
     else places.Nowhere
 
 abbrev pub shown_at : List ℕ → List ℕ → Place → Verb → Option (List ℕ)

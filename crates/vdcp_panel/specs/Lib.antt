@@ -1,4 +1,5 @@
 -- The definitions, file by file.
+pub mod Numbers
 pub mod Asked
 pub mod Wishes
 pub mod Answered

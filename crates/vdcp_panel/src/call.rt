@@ -10,6 +10,12 @@ pub enum Call {
     Take,
     /// What plays ends, and nothing comes after it.
     Stop,
+    /// Nothing new goes to air after what plays.
+    Hold,
+    /// What was held back goes to air again.
+    Go,
+    /// The event of this number in the whole list, from 0, is left out.
+    Skip(usize),
 }
 
 /// In the order in which they were asked for.

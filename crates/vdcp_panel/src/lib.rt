@@ -12,12 +12,13 @@
 //! }
 //! ```
 //!
-//! Files, in reading order: `view`, `call`, `gate`, `wish`, `desk`, `peer`, `peers`, `panel`, `open`; `page` for all pages.
+//! Files, in reading order: `view`, `call`, `number`, `gate`, `wish`, `desk`, `peer`, `peers`, `panel`, `open`; `page` for all pages.
 #![tactic(auto)]
 
 mod call;
 mod desk;
 mod gate;
+mod number;
 mod open;
 mod page;
 mod panel;
@@ -29,6 +30,7 @@ mod wish;
 pub use call::{Call, Calls, MOST_CALLS};
 pub use desk::Desk;
 pub use gate::{Gate, Name};
+pub use number::number_in;
 pub use open::open_panel;
 pub use panel::{Names, Panel};
 pub use peer::Peer;

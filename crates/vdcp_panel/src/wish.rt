@@ -1,10 +1,11 @@
 //! What a request wants, by its method, its path and its headers.
 ghost use Rattle.std.specs.Prelude.{◌≡◌, ◌&&◌, ℕ, List, None, Some, false, if◌then◌else◌};
-ghost use Rattle.vdcp_panel.specs.Asked.{called, has_token, is_about, is_let_in, place_of, shown, verb_of};
+ghost use Rattle.vdcp_panel.specs.Asked.{called, called_at, has_token, is_about, is_let_in, place_of, place_to_skip, shown, shown_at, verb_of};
 ghost use Rattle.vdcp_panel.specs.Wishes.{shown_by, wish_call};
 
 use crate::call::Call;
 use crate::gate::{Gate, is_text};
+use crate::number::number_in;
 use bytes::Bytes;
 use http::Request;
 use itoa::Buffer;
@@ -63,10 +64,22 @@ impl Place {
             Place::Call(Call::Take)
         } else if path == "/stop" {
             Place::Call(Call::Stop)
+        } else if path == "/hold" {
+            Place::Call(Call::Hold)
+        } else if path == "/go" {
+            Place::Call(Call::Go)
+        } else if let Some(digits) = path.as_bytes().strip_prefix(b"/skip/") {
+            number_in(digits).map_or(Place::Nowhere, place_to_skip)
         } else {
             Place::Nowhere
         }
     }
+}
+
+fn place_to_skip(event: usize) -> Place
+    ensures { result ≡ place_to_skip (Some event) }
+{
+    Place::Call(Call::Skip(event))
 }
 
 impl Wish {
@@ -80,13 +93,27 @@ impl Wish {
             return Wish::Forbidden;
         }
         let verb = Verb::of(request.method().as_str());
-        match (Place::of(request.uri().path()), verb) {
-            (Place::Page, Verb::Read) => Wish::Page,
-            (Place::State, Verb::Read) => Wish::State,
-            (Place::Call(call), Verb::Post) => wish_to(call, gate, event, request),
-            (Place::Nowhere, _) => Wish::NotFound,
-            (Place::Page | Place::State | Place::Call(_), _) => Wish::NotAllowed,
-        }
+        wish_at(Place::of(request.uri().path()), verb, gate, event, request)
+    }
+}
+
+fn wish_at(
+    place: Place,
+    verb: Verb,
+    gate: &Gate<'_>,
+    event: Option<u64>,
+    request: &Request<Bytes>,
+) -> Wish
+    ensures call { wish_call result
+        ≡ (if has_token gate.now request.now && is_about event request.now then called_at place verb else None) }
+    ensures shows { (page state : List ℕ) → shown_by page state result ≡ shown_at page state place verb }
+{
+    match (place, verb) {
+        (Place::Page, Verb::Read) => Wish::Page,
+        (Place::State, Verb::Read) => Wish::State,
+        (Place::Call(call), Verb::Post) => wish_to(call, gate, event, request),
+        (Place::Nowhere, _) => Wish::NotFound,
+        (Place::Page | Place::State | Place::Call(_), _) => Wish::NotAllowed,
     }
 }
 

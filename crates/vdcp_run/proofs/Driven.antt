@@ -1,10 +1,11 @@
 -- What a driver's run left, with what keeps it, and the end that it comes to.
-use Rattle.std.proofs.Common.{◌≡◌, ◌∙◌, ℕ, List, [], ◌∷◌, ◌++◌, ap, subst, sym}
-use Rattle.std.specs.Prelude.{Option, Result, Err, refl}
+use Rattle.std.proofs.Common.{◌≡◌, ◌∙◌, ◌+◌, ℕ, List, [], ◌∷◌, ◌++◌, ap, ap₂, subst, sym}
+use Rattle.std.specs.Prelude.{Bool, IsSomeAnd, IsTrue, None, Some, Option, Result, Err, refl}
 use Rattle.vdcp_auto.specs.Plan.{Plan, View, plan_of}
-use Rattle.vdcp_auto.specs.State.{State}
+use Rattle.vdcp_auto.specs.State.{Stage, State}
 use Rattle.vdcp_auto.specs.Turn.{outcome_of}
 use Rattle.vdcp_auto.specs.declared.outcome.Outcome.{Outcome}
+use Rattle.vdcp_auto.specs.declared.phase.Mode.{Mode}
 use Rattle.vdcp_wire.specs.Acts.{Act}
 use Rattle.vdcp_drive.specs.Auto.{Auto, Driving, Event, auto_of}
 use Rattle.vdcp_drive.specs.Ears.{Fold}
@@ -12,6 +13,7 @@ use Rattle.vdcp_drive.specs.Leaves.{Ending, HasRun, RunLeaves, by_hooks, by_itse
 use Rattle.vdcp_drive.specs.Steps.{Does, Happens, Rules, Step, World, acts, asks, keeps, misses, steps_of}
 use Rattle.vdcp_drive.specs.Traces.{kept_in}
 use Rattle.vdcp_drive.specs.declared.hooks.BrokenOff.{BrokenOff}
+use Rattle.vdcp_drive.specs.declared.hooks.Kept.{Kept}
 use Rattle.vdcp_drive.specs.declared.hooks.BrokenOff.TheVariants as fault
 use Rattle.vdcp_drive.specs.declared.hooks.Next.TheVariants as next
 use Rattle.vdcp_drive.specs.declared.line.Ran.{Ran}
@@ -19,9 +21,14 @@ use Rattle.vdcp_list.specs.Rests.{FromEvent, items_left}
 use Rattle.vdcp_journal_file.specs.Recorded.{recorder_rules}
 use Rattle.vdcp_journal_file.specs.Recording.{Recording}
 use Rattle.vdcp_run.specs.Ends.{Reports, line_end_of}
-use Rattle.vdcp_run.specs.Asking.{Comes, over, start_of}
-use Rattle.vdcp_run.specs.Session.{IsBeforeEvent, IsClosed, Keeping, Plays, playing_rules, signs_at_first, signs_by}
+use Rattle.vdcp_operator.specs.Hands.{is_to_play}
+use Rattle.vdcp_run.specs.Asking.{Comes, Start, over, start_of}
+use Rattle.vdcp_run.specs.Session.{AsksFirst, HasHeld, IsClosed, IsWritten, Keeping, LeavesBefore, Onset, Plays, held, onset_after, playing_rules, signs_by}
+use Rattle.vdcp_run.specs.declared.lack.Lack.{Lack}
+use Rattle.vdcp_run.specs.declared.run_end.LineEnd.{LineEnd}
 use Rattle.vdcp_run.specs.declared.run_end.RunEnd.{RunEnd}
+use Rattle.vdcp_run.specs.declared.run_end.Signs.{Signs}
+use Rattle.vdcp_run.specs.declared.settings.RunSettings.{RunSettings}
 use Rattle.vdcp_value.specs.declared.part.Item.{Item}
 
 -- ---- An automation that asks
@@ -43,31 +50,31 @@ comes_over items rules fold failures n turns is old new keep keep' answer left w
 
 -- ---- What a run keeps over its connection: its journal's recorder, and what came
 
-module _ {W F : Type 0} (does : Act → W → W → Type 0) (safe : F → Option (List ℕ)) where
+module _ {W F : Type 0} (mode : Mode) (does : Act → W → W → Type 0) (safe : F → Option (List ℕ)) where
   abbrev recorded : World W (Keeping F) → World W (Option (Recording F))
   recorded world = record { wire = world.wire; keep = world.keep.recorder }
 
-  step_recorded : (s : Step) (old new : World W (Keeping F)) → Does (playing_rules does safe) s old new
+  step_recorded : (s : Step) (old new : World W (Keeping F)) → Does (playing_rules mode does safe) s old new
       → Does (recorder_rules does safe) s (recorded old) (recorded new)
   step_recorded (acts a) old new h = (h.0, ap recorded h.1)
   step_recorded (asks s n) old new h = (ap (λ (k : Keeping F). k.recorder) h.0.0, ap recorded h.1)
   step_recorded (keeps r) old new h = (h.0.0, ap recorded h.1)
   step_recorded (misses r) old new h = (h.0.0, ap recorded h.1)
 
-  steps_recorded : (steps : List Step) (old new : World W (Keeping F)) → Happens (playing_rules does safe) steps old new
+  steps_recorded : (steps : List Step) (old new : World W (Keeping F)) → Happens (playing_rules mode does safe) steps old new
       → Happens (recorder_rules does safe) steps (recorded old) (recorded new)
   steps_recorded [] old new h = ap recorded h
   steps_recorded (s ∷ later) old new (next, one, rest) =
       (recorded next, step_recorded s old next one, steps_recorded later next new rest)
 
-  run_recorded : {E : Type 0} (fold : Fold E) (plan : Plan) (unit count : ℕ) (a a' : Auto E)
+  pub run_recorded : {E : Type 0} (fold : Fold E) (plan : Plan) (unit count : ℕ) (a a' : Auto E)
       (old new : World W (Keeping F)) (answer : Result Ran BrokenOff)
-      → HasRun (playing_rules does safe) fold plan unit count a a' old new answer
+      → HasRun (playing_rules mode does safe) fold plan unit count a a' old new answer
       → HasRun (recorder_rules does safe) fold plan unit count a a' (recorded old) (recorded new) answer
   run_recorded fold plan unit count a a' old new answer h =
       record { run = h.run; happened = steps_recorded (steps_in h.run) old new h.happened }
 
-  signs_so : (steps : List Step) (old new : World W (Keeping F)) → Happens (playing_rules does safe) steps old new
+  signs_so : (steps : List Step) (old new : World W (Keeping F)) → Happens (playing_rules mode does safe) steps old new
       → new.keep.signs ≡ signs_by (kept_in steps) old.keep.signs
   signs_so [] old new h = ap (λ (w : World W (Keeping F)). w.keep.signs) h
   signs_so (acts a ∷ later) old new (next, (done, is), rest) = signs_so later next new rest
@@ -79,78 +86,131 @@ module _ {W F : Type 0} (does : Act → W → W → Type 0) (safe : F → Option
   signs_so (misses r ∷ later) old new (next, (lost, is), rest) =
       signs_so later next new rest ∙ ap (signs_by (kept_in later)) lost.1
 
-  -- a run that was left was left before an event
+  -- a run that was left was left where it may be
 
   last_leaves : (steps : List Step) (s : State) (old new : World W (Keeping F))
-      → Happens (playing_rules does safe) (steps ++ asks s next.Leave ∷ []) old new → IsBeforeEvent s.stage
+      → Happens (playing_rules mode does safe) (steps ++ asks s next.Leave ∷ []) old new → LeavesBefore mode s.stage next.Leave
   last_leaves [] s old new (then, one, rest) = one.0.1
   last_leaves (first ∷ steps) s old new (then, one, rest) = last_leaves steps s then new rest
 
   left_by : {E : Type 0} (fold : Fold E) (plan : Plan) (unit count : ℕ) (a a' : Auto E) (old new : World W (Keeping F))
       (answer : Result Ran BrokenOff) (steps more : List Step) (events : List Event) (b : Auto E)
-      → Happens (playing_rules does safe) (steps ++ more) old new → Ending fold plan unit count events b answer more a'
-      → answer ≡ Err fault.Left → IsBeforeEvent a'.state.stage
+      → Happens (playing_rules mode does safe) (steps ++ more) old new → Ending fold plan unit count events b answer more a'
+      → answer ≡ Err fault.Left → LeavesBefore mode a'.state.stage next.Leave
   left_by fold plan unit count a a' old new answer steps more events b h (by_itself r is runs none same) left = cc
   left_by fold plan unit count a a' old new answer steps more events b h (by_hooks is none last same) left =
-      subst (λ (x : Auto _). IsBeforeEvent x.state.stage) (sym same) (last_leaves steps b.state old new
-      (subst (λ (l : List Step). Happens (playing_rules does safe) (steps ++ l) old new) last h))
+      subst (λ (x : Auto _). LeavesBefore mode x.state.stage next.Leave) (sym same) (last_leaves steps b.state old new
+      (subst (λ (l : List Step). Happens (playing_rules mode does safe) (steps ++ l) old new) last h))
   left_by fold plan unit count a a' old new answer steps more events b h (in_keep r is none last same) left = cc
   left_by fold plan unit count a a' old new answer steps more events b h (in_drop c is drops gives last same) left = cc
   left_by fold plan unit count a a' old new answer steps more events b h (in_send c front rest is gives parts last same) left = cc
   left_by fold plan unit count a a' old new answer steps more events b h (in_listen is last same) left = cc
 
   left_so : {E : Type 0} (fold : Fold E) (plan : Plan) (unit count : ℕ) (a a' : Auto E) (old new : World W (Keeping F))
-      (answer : Result Ran BrokenOff) → HasRun (playing_rules does safe) fold plan unit count a a' old new answer
-      → answer ≡ Err fault.Left → IsBeforeEvent a'.state.stage
+      (answer : Result Ran BrokenOff) → HasRun (playing_rules mode does safe) fold plan unit count a a' old new answer
+      → answer ≡ Err fault.Left → LeavesBefore mode a'.state.stage next.Leave
   left_so fold plan unit count a a' old new answer h left = left_by fold plan unit count a a' old new answer
       (steps_of fold plan unit a h.run.events) h.run.more h.run.events _ h.happened h.run.ending left
 
--- ---- A new driver has run, and its journal was ended
+-- ---- A driver has run
 
-pub record HasEnded {S E W F : Type 0} (items : S → List Item) (does : Act → W → W → Type 0)
-    (safe : F → Option (List ℕ)) (fold : Fold E) (failures : W → ℕ) (n turns : ℕ)
-    (old new : Driving (FromEvent S) E W) (keep keep' : Keeping F) (answer : Result Ran BrokenOff) (end : RunEnd)
-    : Type 0 where
+pub record Goes {S E W F : Type 0} (items : S → List Item) (does : Act → W → W → Type 0) (safe : F → Option (List ℕ))
+    (fold : Fold E) (failures : W → ℕ) (n turns : ℕ) (old new : Driving (FromEvent S) E W) (keep keep' : Keeping F)
+    (answer : Result Ran BrokenOff) : Type 0 where
   pub listens : n ≡ turns
-  pub leaves : RunLeaves (items_left items) (playing_rules does safe) fold failures n old new keep keep' answer
-  pub fresh : keep.signs ≡ signs_at_first
-  pub signs : end.signs ≡ keep'.signs
+  pub leaves : RunLeaves (items_left items) (playing_rules old.controller.mode does safe) fold failures n old new keep keep' answer
   pub works : failures old.wire ≡ 0
-  pub behind : ℕ
-  pub line : end.line ≡ line_end_of answer behind
-  pub reports : Reports new.controller.source.from new.controller.state end
-  pub closed : IsClosed safe new.controller.state.stage end.line end.unkept keep'.recorder
 
 module _ {S E W F : Type 0} (items : S → List Item) (does : Act → W → W → Type 0) (safe : F → Option (List ℕ))
     (fold : Fold E) (failures : W → ℕ) (n turns : ℕ) (old new : Driving (FromEvent S) E W)
-    (keep keep' : Keeping F) (answer : Result Ran BrokenOff) (end : RunEnd)
-    (h : HasEnded items does safe fold failures n turns old new keep keep' answer end) where
-  abbrev has_run : HasRun (playing_rules does safe) fold (plan_of (items_left items) old.controller) old.unit turns (auto_of old)
+    (keep keep' : Keeping F) (answer : Result Ran BrokenOff)
+    (h : Goes items does safe fold failures n turns old new keep keep' answer) where
+  abbrev has_run : HasRun (playing_rules old.controller.mode does safe) fold (plan_of (items_left items) old.controller) old.unit turns (auto_of old)
       (auto_of new) (over old.wire keep) (over new.wire keep') answer
-  has_run = subst (λ (m : ℕ). HasRun (playing_rules does safe) fold (plan_of (items_left items) old.controller) old.unit m
+  has_run = subst (λ (m : ℕ). HasRun (playing_rules old.controller.mode does safe) fold (plan_of (items_left items) old.controller) old.unit m
       (auto_of old) (auto_of new) (over old.wire keep) (over new.wire keep') answer) h.listens (h.leaves.runs h.works)
 
-  abbrev has_recorded : HasRun (recorder_rules does safe) fold (plan_of (items_left items) old.controller) old.unit turns
+  abbrev pub has_recorded : HasRun (recorder_rules does safe) fold (plan_of (items_left items) old.controller) old.unit turns
       (auto_of old) (auto_of new) (over old.wire keep.recorder) (over new.wire keep'.recorder) answer
-  has_recorded = run_recorded does safe fold (plan_of (items_left items) old.controller) old.unit turns (auto_of old)
+  has_recorded = run_recorded old.controller.mode does safe fold (plan_of (items_left items) old.controller) old.unit turns (auto_of old)
       (auto_of new) (over old.wire keep) (over new.wire keep') answer has_run
 
-  pub plays_so : Plays does safe fold old.ear old.unit turns (start_of items old.controller)
-      (over old.wire keep.recorder) new.wire end
+  pub signs_then : keep'.signs ≡ signs_by (kept_in (steps_in has_recorded.run)) keep.signs
   unfolding run_recorded
-  plays_so = record {
+  signs_then = signs_so old.controller.mode does safe (steps_in has_run.run) (over old.wire keep) (over new.wire keep') has_run.happened
+
+  -- its journal was ended
+  pub plays_so : (end : RunEnd) → end.signs ≡ keep'.signs → (kept : ℕ)
+      → end.line ≡ line_end_of answer (new.controller.source.from + new.controller.state.settled) kept
+      → Reports new.controller.source.from new.controller.state end
+      → IsClosed safe new.controller.state.stage end.line end.unkept keep'.recorder
+      → Plays does safe fold old.ear old.unit turns keep.signs (start_of items old.controller) (over old.wire keep.recorder)
+      new.wire end
+  plays_so end signs kept line reports closed = record {
     ran = answer;
     auto = auto_of new;
     left = over new.wire keep'.recorder;
     runs = has_recorded;
     last_is = refl;
-    left_before = left_so does safe fold (plan_of (items_left items) old.controller) old.unit turns (auto_of old) (auto_of new)
+    left_before = left_so old.controller.mode does safe fold (plan_of (items_left items) old.controller) old.unit turns (auto_of old) (auto_of new)
         (over old.wire keep) (over new.wire keep') answer has_run;
-    behind = h.behind;
-    line_is = h.line;
+    kept = kept;
+    line_is = subst (λ (from : ℕ). end.line ≡ line_end_of answer (from + new.controller.state.settled) kept)
+        (ap (λ (c : View (FromEvent S)). c.source.from) h.leaves.controller) line;
     reports = subst (λ (from : ℕ). Reports from new.controller.state end)
-        (ap (λ (c : View (FromEvent S)). c.source.from) h.leaves.controller) h.reports;
-    signs_are = h.signs ∙ signs_so does safe (steps_in has_run.run) (over old.wire keep) (over new.wire keep')
-        has_run.happened ∙ ap (signs_by (kept_in (steps_in has_run.run))) h.fresh;
-    closed = h.closed;
+        (ap (λ (c : View (FromEvent S)). c.source.from) h.leaves.controller) reports;
+    signs_are = signs ∙ signs_then;
+    closed = closed;
   }
+
+  -- it was left before a PLAY, all that waited was written, and the next stretch goes on
+  abbrev onset_before : E → W → (turns : ℕ) → Onset E W F
+  onset_before ear wire turns = record {
+    start = start_of items old.controller;
+    ear = ear;
+    world = over wire keep.recorder;
+    turns = turns;
+    signs = keep.signs;
+  }
+
+  abbrev onset_behind : Option (Recording F) → (turns : ℕ) → Onset E W F
+  onset_behind written turns = record {
+    start = start_of items new.controller;
+    ear = new.ear;
+    world = over new.wire written;
+    turns = turns;
+    signs = keep'.signs;
+  }
+
+  onset_so : (written : Option (Recording F)) (left : ℕ) (ear : E) (wire : W) (count : ℕ) (noted : List Kept)
+      → keep'.signs ≡ signs_by noted keep.signs → onset_behind written left
+      ≡ onset_after (onset_before ear wire count) (auto_of new) (over new.wire keep'.recorder) written left noted
+  onset_so written left ear wire count noted signs = ap₂ (λ (start : Start) (s : Signs). record {
+    start = start;
+    ear = new.ear;
+    world = over new.wire written;
+    turns = left;
+    signs = s;
+  }) (ap (start_of items) h.leaves.controller) signs
+
+  pub holds_on : (settings : RunSettings) (is_held : Bool) (ear : E) (wire : W) (count : ℕ)
+      → answer ≡ Err fault.Left → IsTrue (is_to_play new.controller.state.stage) → (written : Option (Recording F))
+      → IsWritten safe keep'.recorder written → (left : ℕ) (z : Onset E W F)
+      → AsksFirst does fold (record settings { unit = old.unit }) is_held (onset_before ear wire count) old.ear old.wire turns None
+      → HasHeld does safe fold (record settings { unit = old.unit }) z (onset_behind written left)
+      → HasHeld does safe fold (record settings { unit = old.unit }) z (onset_before ear wire count)
+  holds_on settings is_held ear wire count is to_play written wrote left z first later =
+      let ran = subst (λ (r : Result Ran BrokenOff). (runs : HasRun (recorder_rules does safe) fold
+      (plan_of (items_left items) old.controller) old.unit turns (auto_of old) (auto_of new) (over old.wire keep.recorder)
+      (over new.wire keep'.recorder) r) × (keep'.signs ≡ signs_by (kept_in (steps_in runs.run)) keep.signs)) is
+      (has_recorded, signs_then) in
+      held is_held old.ear old.wire turns first (auto_of new) (over new.wire keep'.recorder) ran.0 to_play written wrote left
+      (subst (HasHeld does safe fold (record settings { unit = old.unit }) z)
+      (onset_so written left ear wire count (kept_in (steps_in ran.0.run)) ran.1) later)
+
+-- a journal that can't be written out isn't whole
+pub unkept_so : {F : Type 0} (safe : F → Option (List ℕ)) (stage : Stage) (line : LineEnd) (lack : Lack)
+    (recorder : Option (Recording F)) → IsSomeAnd recorder (λ r. lack.journal ≡ r.name)
+    → IsClosed safe stage line (Some lack) recorder
+unkept_so safe stage line lack None h = absurd h
+unkept_so safe stage line lack (Some recorder) h = h

@@ -8,7 +8,7 @@ use Rattle.vdcp_drive.specs.Steps.{World}
 use Rattle.vdcp_journal_file.specs.Recording.{Recording}
 use Rattle.vdcp_run.specs.Asking.{Start}
 use Rattle.vdcp_run.specs.Run.{IsAsrunMade, IsEarlier, IsEnd, IsEndWith, IsTried, IsTry, IsUntried, later_after, later_of, latest_end, name_of}
-use Rattle.vdcp_run.specs.Session.{HasSession, HasTried, TriesBy, had_ended, no_wire, played, tried, unbegun, unconnected}
+use Rattle.vdcp_run.specs.Session.{HasEnded, HasSession, Onset, TriesBy, had_ended, no_wire, played, tried, unbegun, unconnected}
 use Rattle.vdcp_run.specs.declared.run_end.RunEnd.{RunEnd}
 use Rattle.vdcp_run.specs.declared.saved.SavedText.{SavedText}
 use Rattle.vdcp_run.specs.declared.settings.RunJournal.{RunJournal}
@@ -20,20 +20,22 @@ use Rattle.vdcp_wire.specs.Acts.{Act}
 
 -- a session's end is of no later try
 tried_unfailed : {E W F : Type 0} (does : Act → W → W → Type 0) (safe : F → Option (List ℕ)) (fold : Fold E)
-    (settings : RunSettings) (start : Start) (ear : E) (world : World W (Option (Recording F))) (last : W) (end : RunEnd)
-    → HasTried does safe fold settings start ear world last end → end.failed ≡ None
-tried_unfailed does safe fold settings start ear world last end (played ear' wire left asked plays) = plays.reports.unfailed
-tried_unfailed does safe fold settings start ear world last end (unbegun ear' left line asked is reports) = reports.unfailed
+    (settings : RunSettings) (x : Onset E W F) (last : W) (end : RunEnd) → HasEnded does safe fold settings x last end
+    → end.failed ≡ None
+tried_unfailed does safe fold settings x last end (played is_held ear wire left first plays) = plays.reports.unfailed
+tried_unfailed does safe fold settings x last end (unbegun is_held ear left line first is reports) = reports.unfailed
 
 tries_unfailed : {W F : Type 0} (hearing : Hearing) (does : Act → W → W → Type 0) (safe : F → Option (List ℕ))
     (settings : RunSettings) (start : Start) (world : World W (Option (Recording F))) (last : W) (end : RunEnd)
     → TriesBy hearing does safe settings start world last end → end.failed ≡ None
-tries_unfailed hears.AtSilences does safe settings start world last end h = tried_unfailed does safe _ settings start _ world last end h
-tries_unfailed hears.AtOnce does safe settings start world last end h = tried_unfailed does safe _ settings start _ world last end h
+tries_unfailed hears.AtSilences does safe settings start world last end h =
+    tried_unfailed does safe _ settings h.onset last end h.ended
+tries_unfailed hears.AtOnce does safe settings start world last end h =
+    tried_unfailed does safe _ settings h.onset last end h.ended
 
 unfailed : {F : Type 0} (safe : F → Option (List ℕ)) (settings : RunSettings) (start : Start)
     (recorder : Option (Recording F)) (end : RunEnd) → HasSession safe settings start recorder end → end.failed ≡ None
-unfailed safe settings start recorder end (had_ended ended line signs reports) = reports.unfailed
+unfailed safe settings start recorder end (had_ended ended line reports) = reports.unfailed
 unfailed safe settings start recorder end (no_wire line reports) = reports.unfailed
 unfailed safe settings start recorder end (unconnected why is stays line reports) = reports.unfailed
 unfailed safe settings start recorder end (tried wire last opened limits tries) =

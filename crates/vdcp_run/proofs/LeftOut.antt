@@ -13,7 +13,7 @@ use Rattle.vdcp_journal_file.specs.Resuming.{IsReplayed, IsUnopenedAgain, IsUnre
 use Rattle.vdcp_journal_file.specs.declared.reading.Refusal.{Refusal}
 use Rattle.vdcp_journal_file.specs.declared.reading.Refusal.TheVariants as refusal
 use Rattle.vdcp_list.specs.Rows.{FileBytes}
-use Rattle.vdcp_run.specs.Run.{BeginsBehind, CameTo, IsJournalRefused, IsPlaceRefused, IsUnkept, IsUntried, SendsAgain, beginning_anew, behind_left_out, behind_with, first_once, going_on, has_lost_port, heading_for, is_by_line, is_unplayable, later_after, later_by, leaving_out, may_try, not_kept, occupied, once_unsure_by, told_outcome, turns_left, unconnected, unsure_event}
+use Rattle.vdcp_run.specs.Run.{BeginsBehind, CameTo, IsJournalRefused, IsPlaceRefused, IsUnkept, IsUntried, SendsAgain, beginning_anew, behind_left_out, behind_with, first_once, going_on, has_lost_port, heading_for, is_by_line, is_unplayable, later_after, later_by, leaving_out, may_try, not_kept, occupied, once_occupied_by, once_unsure_by, told_outcome, turns_left, unconnected, unsure_event}
 use Rattle.vdcp_run.specs.declared.run_end.LineEnd.{LineEnd}
 use Rattle.vdcp_run.specs.declared.run_end.LineEnd.TheVariants as line_end
 use Rattle.vdcp_run.specs.declared.run_end.RunEnd.{RunEnd}
@@ -25,6 +25,7 @@ use Rattle.vdcp_run.specs.declared.settings.Staying.{Staying}
 use Rattle.vdcp_run.specs.declared.settings.Unsure.{Unsure}
 use Rattle.vdcp_run.specs.declared.settings.Unsure.TheVariants as unsure
 use Rattle.vdcp_text.specs.declared.failure.Failure.{Failure}
+use Rattle.vdcp_text.specs.declared.failure.Failure.TheVariants as failures
 use Rattle.vdcp_value.specs.declared.part.Item.{Item}
 
 -- ---- after an end: with the first that isn't reported, or behind it
@@ -193,10 +194,31 @@ after_refusal before next items failure (Some stay) (Some event) stays is untrie
     (next_so (nat_lt event (length items) && nat_lt 1 before.listens) stay.unsure event
     (λ first. record before { from = Some first; listens = before.listens - 1 }) next e)
 
+-- a port that wasn't empty is asked again by the same run
+asks_again : (may : Bool) (on next : RunSettings) (of name : Bor (List ℕ)) → on.journal ≡ Some (journals.Older of)
+    → (if may then Some on else None) ≡ Some next → next.journal ≡ Some (journals.Again name) → ⊥
+asks_again false on next of name older e again = cc
+asks_again true on next of name older e again =
+    let same : on ≡ next = cc e in
+    let wrong : Some (journals.Older of) ≡ Some (journals.Again name) =
+    sym older ∙ ap (λ (s : RunSettings). s.journal) same ∙ again in cc wrong
+
+occupied_again : (before next : RunSettings) (stay : Option Staying) (journal : Option RunJournal) (name : Bor (List ℕ))
+    → once_occupied_by before stay journal ≡ Some next → next.journal ≡ Some (journals.Again name) → ⊥
+occupied_again before next None journal name e again = cc
+occupied_again before next (Some stay) None name e again = cc
+occupied_again before next (Some stay) (Some (journals.New of)) name e again = cc
+occupied_again before next (Some stay) (Some (journals.Older of)) name e again =
+    asks_again (nat_lt 1 before.listens) (going_on before (journals.Older of) (before.listens - 1)) next of name refl e again
+occupied_again before next (Some stay) (Some (journals.Again of)) name e again =
+    asks_again (nat_lt 1 before.listens) (going_on before (journals.Again of) (before.listens - 1)) next of name refl e again
+
 pub begins_behind : (before next : RunSettings) (items : List Item) (end : Result RunEnd Failure) (name : Bor (List ℕ))
     → CameTo before items end → later_after before (length items) end ≡ Some next → next.journal ≡ Some (journals.Again name)
     → BeginsBehind items end next
 begins_behind before next items (Ok end) name came e again =
     after_end before next (length items) before.stay before.journal end name e again
+begins_behind before next items (Err failures.NotEmpty) name came e again =
+    absurd (occupied_again before next before.stay before.journal name e again)
 begins_behind before next items (Err failure) name came e again =
     after_refusal before next items failure before.stay (unsure_event failure) refl refl came e

@@ -2,7 +2,7 @@
 use Rattle.std.proofs.Common.{◌≡◌, ◌∙◌, ℕ, List, [], ◌∷◌, ap}
 use Rattle.std.proofs.Math.Nat.{min-eq_left}
 use Rattle.std.specs.Option.{option_map}
-use Rattle.std.specs.Prelude.{◌≤◌, ◌^◌, ◌-◌, min, None, Some, Option, Result}
+use Rattle.std.specs.Prelude.{◌≤◌, ◌^◌, ◌-◌, Bool, min, None, Some, Option, Result}
 use Rattle.vdcp_auto.specs.Plan.{Plan}
 use Rattle.vdcp_auto.specs.State.{State}
 use Rattle.vdcp_auto.specs.declared.outcome.Outcome.{Outcome}
@@ -19,10 +19,11 @@ use Rattle.vdcp_drive.specs.declared.line.Ran.{Ran}
 use Rattle.vdcp_drive.specs.declared.hearing.Hearing.{Hearing}
 use Rattle.vdcp_drive.specs.declared.hearing.Hearing.TheVariants as hears
 use Rattle.vdcp_journal_file.specs.Recording.{Recording}
-use Rattle.vdcp_run.specs.Session.{HasTried, Limits, Plays, TriesBy, played, unbegun}
+use Rattle.vdcp_run.specs.Session.{AsksFirst, HasEnded, HasHeld, HasTried, Limits, Onset, Plays, TriesBy, held, none, onset_of, played, signs_at_first, unbegun}
 use Rattle.vdcp_run.specs.Asking.{Asker, Comes, HasAsked, Start, asker_of}
 use Rattle.vdcp_run.specs.declared.run_end.LineEnd.{LineEnd}
 use Rattle.vdcp_run.specs.declared.run_end.RunEnd.{RunEnd}
+use Rattle.vdcp_run.specs.declared.run_end.Signs.{Signs}
 use Rattle.vdcp_run.specs.declared.settings.RunSettings.{RunSettings}
 use Rattle.vdcp_wire.specs.Acts.{Act}
 use Rattle.vdcp_wire.specs.Streams.{Streamed}
@@ -87,42 +88,67 @@ module _ {W W' : Type 0} (does : Act → W → W → Type 0) (does' : Act → W'
 
   -- what is played
   module _ {F : Type 0} (safe : F → Option (List ℕ)) where
-    plays_seen : {E : Type 0} (fold : Fold E) (ear : E) (unit listens : ℕ) (start : Start)
+    plays_seen : {E : Type 0} (fold : Fold E) (ear : E) (unit listens : ℕ) (signs : Signs) (start : Start)
         (world : World W (Option (Recording F))) (last : W) (end : RunEnd)
-        → Plays does safe fold ear unit listens start world last end
-        → Plays does' safe fold ear unit listens start (below world) (w last) end
+        → Plays does safe fold ear unit listens signs start world last end
+        → Plays does' safe fold ear unit listens signs start (below world) (w last) end
     unfolding run_seen
-    plays_seen fold ear unit listens start world last end plays = record {
+    plays_seen fold ear unit listens signs start world last end plays = record {
       ran = plays.ran;
       auto = plays.auto;
       left = below plays.left;
       runs = run_seen _ _ _ fold start.plan unit listens _ plays.auto world plays.left plays.ran plays.runs;
       last_is = ap w plays.last_is;
       left_before = plays.left_before;
-      behind = plays.behind;
+      kept = plays.kept;
       line_is = plays.line_is;
       reports = plays.reports;
       signs_are = plays.signs_are;
       closed = plays.closed;
     }
 
-    tries_seen : {E : Type 0} (fold : Fold E) (settings : RunSettings) (start : Start) (ear : E)
-        (world : World W (Option (Recording F))) (last : W) (end : RunEnd) → HasTried does safe fold settings start ear world last end
-        → HasTried does' safe fold settings start ear (below world) (w last) end
-    tries_seen fold settings start ear world last end (played ear' wire left asked plays) = played ear' (w wire) left
-        (asked_seen fold (asker_of settings.ask start) settings ear ear' world.wire wire left None asked)
-        (plays_seen fold ear' settings.unit left start (record world { wire = wire }) last end plays)
-    tries_seen fold settings start ear world last end (unbegun ear' left line asked is reports) = unbegun ear' left line
-        (asked_seen fold (asker_of settings.ask start) settings ear ear' world.wire last left (Some line) asked) is reports
+    abbrev onset_below : {E : Type 0} → Onset E W F → Onset E W' F
+    onset_below x = record { start = x.start; ear = x.ear; world = below x.world; turns = x.turns; signs = x.signs }
+
+    asks_seen : {E : Type 0} (fold : Fold E) (settings : RunSettings) (is_held : Bool) (x : Onset E W F) (ear : E) (wire : W)
+        (left : ℕ) (line : Option LineEnd) → AsksFirst does fold settings is_held x ear wire left line
+        → AsksFirst does' fold settings is_held (onset_below x) ear (w wire) left line
+    asks_seen fold settings is_held x ear wire left line first = asked_seen fold (asker_of settings.ask is_held x.start)
+        (record settings { listens = x.turns }) x.ear ear x.world.wire wire left line first
+
+    held_seen : {E : Type 0} (fold : Fold E) (settings : RunSettings) (z x : Onset E W F) → HasHeld does safe fold settings z x
+        → HasHeld does' safe fold settings (onset_below z) (onset_below x)
+    unfolding run_seen
+    held_seen fold settings z _ none = none
+    held_seen fold settings z _ (held {x} is_held ear wire count first auto left runs plays keep written turns later) =
+        held is_held ear (w wire) count (asks_seen fold settings is_held x ear wire count None first) auto (below left)
+        (run_seen _ _ _ fold x.start.plan settings.unit count _ auto _ left _ runs) plays keep written turns
+        (held_seen fold settings z _ later)
+
+    ended_seen : {E : Type 0} (fold : Fold E) (settings : RunSettings) (x : Onset E W F) (last : W) (end : RunEnd)
+        → HasEnded does safe fold settings x last end → HasEnded does' safe fold settings (onset_below x) (w last) end
+    ended_seen fold settings x last end (played is_held ear wire left first plays) =
+        played is_held ear (w wire) left (asks_seen fold settings is_held x ear wire left None first)
+        (plays_seen fold ear settings.unit left x.signs x.start (record x.world { wire = wire }) last end plays)
+    ended_seen fold settings x last end (unbegun is_held ear left line first is reports) =
+        unbegun is_held ear left line (asks_seen fold settings is_held x ear last left (Some line) first) is reports
+
+    tries_seen : {E : Type 0} (fold : Fold E) (settings : RunSettings) (x : Onset E W F) (last : W) (end : RunEnd)
+        → HasTried does safe fold settings x last end → HasTried does' safe fold settings (onset_below x) (w last) end
+    tries_seen fold settings x last end tried = record {
+      onset = onset_below tried.onset;
+      held = held_seen fold settings tried.onset x tried.held;
+      ended = ended_seen fold settings tried.onset last end tried.ended;
+    }
 
     pub tries_by_seen : (hearing : Hearing) (settings : RunSettings) (start : Start)
         (world : World W (Option (Recording F))) (last : W) (end : RunEnd)
         → TriesBy hearing does safe settings start world last end
         → TriesBy hearing does' safe settings start (below world) (w last) end
     tries_by_seen hears.AtSilences settings start world last end tries =
-        tries_seen ears.at_silences settings start (ears.begun (holds [])) world last end tries
+        tries_seen ears.at_silences settings (onset_of start (ears.begun (holds [])) world settings.listens signs_at_first) last end tries
     tries_by_seen hears.AtOnce settings start world last end tries =
-        tries_seen ears.at_once settings start (holds []) world last end tries
+        tries_seen ears.at_once settings (onset_of start (holds []) world settings.listens signs_at_first) last end tries
 
 -- ---- a connection
 

@@ -8,7 +8,7 @@ use Rattle.vdcp_auto.specs.Turn.{given, outcome_of}
 use Rattle.vdcp_auto.specs.declared.exchange.Heard.{Heard}
 use Rattle.vdcp_auto.specs.declared.exchange.Heard.TheVariants as heard
 use Rattle.vdcp_auto.specs.declared.outcome.Outcome.{Outcome}
-use Rattle.vdcp_auto.specs.declared.outcome.Outcome.TheVariants.{Denied, Strange}
+use Rattle.vdcp_auto.specs.declared.outcome.Outcome.TheVariants.{Denied, Lost, Strange}
 use Rattle.vdcp_auto.specs.declared.phase.Phase.TheVariants as phase
 use Rattle.vdcp_drive.specs.Auto.{Auto}
 use Rattle.vdcp_drive.specs.Ears.{Fold}
@@ -58,10 +58,11 @@ is_opening None = false
 is_opening (Some (command.Open port mode)) = true
 is_opening (Some other) = false
 
--- the event whose PLAY may have been lost
-abbrev pub probed_in : Stage → Option ℕ
-probed_in (Ready (phase.Probe k)) = Some k
-probed_in _ = None
+-- the event whose PLAY may have been lost, or is held
+abbrev pub waits_in : (holds : Bool) → Stage → Option (Purpose × ℕ)
+waits_in holds (Ready (phase.Probe k)) = Some (purpose.ClipEnd, k)
+waits_in true (Ready (phase.Play k)) = Some (purpose.Hold, k)
+waits_in holds _ = None
 
 -- an automation that asks: for what, by which list, and from which state
 pub record Asker : Type 0 where
@@ -69,12 +70,12 @@ pub record Asker : Type 0 where
   pub plan : Plan
   pub state : State
 
--- it waits for the clip before; or it asks by an empty list, if the port is to be asked and is opened next
-abbrev pub asker_with : Bool → Start → Option ℕ → Option Asker
-asker_with ask start (Some k) = Some (record {
-  purpose = purpose.ClipEnd;
+-- it waits as for the clip before; or it asks by an empty list, if the port is to be asked and is opened next
+abbrev pub asker_with : Bool → Start → Option (Purpose × ℕ) → Option Asker
+asker_with ask start (Some waits) = Some (record {
+  purpose = waits.0;
   plan = start.plan;
-  state = record start.state { stage = Ready (phase.Wait k) };
+  state = record start.state { stage = Ready (phase.Wait waits.1) };
 })
 asker_with ask start None = if ask && is_opening (given start.plan start.state) then Some (record {
   purpose = purpose.Vacancy;
@@ -82,17 +83,19 @@ asker_with ask start None = if ask && is_opening (given start.plan start.state) 
   state = turns.start;
 }) else None
 
-abbrev pub asker_of : Bool → Start → Option Asker
-asker_of ask start = asker_with ask start (probed_in start.state.stage)
+abbrev pub asker_of : (ask holds : Bool) → Start → Option Asker
+asker_of ask holds start = asker_with ask start (waits_in holds start.state.stage)
 
 -- a question to this port
 abbrev pub IsAsked : ℕ → Command → Type 0
 IsAsked port c = (c ≡ command.Open port 1) ⊎ (c ≡ command.Select port) ⊎ (c ≡ command.Status 1)
 
--- questions before the next command of a session's controller: the port is opened next, or it is asked whether a PLAY was lost
+-- questions before the next command of a session's controller: the port is opened next, or it is asked whether a PLAY was lost,
+-- or one is held
 pub data AreAsked (start : Start) (cs : List Command) : Type 0 where
   opening : start.state.stage ≡ Ready phase.Open → All (IsAsked start.plan.port) cs → AreAsked start cs
   probing : (k : ℕ) → start.state.stage ≡ Ready (phase.Probe k) → All (λ c. c ≡ command.Status 1) cs → AreAsked start cs
+  holding : (k : ℕ) → start.state.stage ≡ Ready (phase.Play k) → All (λ c. c ≡ command.Status 1) cs → AreAsked start cs
 
 -- ---- by which rules
 
@@ -110,17 +113,19 @@ pub record Inquiring : Type 0 where
   pub state : Option ℕ
   pub left : ℕ
 
--- the operator has called it off: by stop, or, while a clip is awaited, by any call
+-- the operator has called it off: by stop, or, while a clip is awaited or a PLAY is held, by any call
 abbrev pub is_called_off : Purpose → Option Call → Bool
 is_called_off purpose.Vacancy None = false
 is_called_off purpose.Vacancy (Some Take) = false
 is_called_off purpose.Vacancy (Some Stop) = true
 is_called_off purpose.ClipEnd held = is_some held
+is_called_off purpose.Hold held = is_some held
 
 -- the answer is there
 abbrev pub is_answered : Purpose → Option ℕ → Bool
 is_answered purpose.Vacancy state = is_some state
 is_answered purpose.ClipEnd state = false
+is_answered purpose.Hold state = false
 
 -- it goes on while an answer is awaited, and with a question, until the answer is there or it is called off
 abbrev pub may_ask : Inquiring → Option Command → Bool
@@ -166,15 +171,26 @@ state_line (Some state) = if nat_eq state 1 then None else Some (line_end.NotBeg
 abbrev pub left_line : Inquiring → Option LineEnd
 left_line i = if is_called_off i.purpose i.held then Some (line_end.NotBegun why.Stopped) else state_line i.state
 
-abbrev pub if_vacancy : Purpose → Option LineEnd → Option LineEnd
-if_vacancy purpose.Vacancy line = line
-if_vacancy purpose.ClipEnd line = None
+-- while a PLAY is held, a line that is lost ends, too
+abbrev pub held_line : Ran → Option Outcome → Option LineEnd
+held_line ran.Ended (Some Lost) = Some (line_end.NotBegun why.Unanswered)
+held_line ran.Ended outcome = None
+held_line r outcome = Some (line_end.Ran r)
+
+abbrev pub ran_line_for : Purpose → Ran → Option Outcome → Option LineEnd
+ran_line_for purpose.Vacancy r outcome = ran_line r outcome
+ran_line_for purpose.ClipEnd r outcome = None
+ran_line_for purpose.Hold r outcome = held_line r outcome
+
+abbrev pub left_line_for : Inquiring → Purpose → Option LineEnd
+left_line_for i purpose.Vacancy = left_line i
+left_line_for i _ = None
 
 abbrev pub line_of : Inquiring → Result Ran BrokenOff → Option Outcome → Option LineEnd
 line_of i (Err fault.Device) outcome = Some line_end.Failed
 line_of i (Err fault.Unkept) outcome = Some line_end.Failed
-line_of i (Err fault.Left) outcome = if_vacancy i.purpose (left_line i)
-line_of i (Ok r) outcome = if_vacancy i.purpose (ran_line r outcome)
+line_of i (Err fault.Left) outcome = left_line_for i i.purpose
+line_of i (Ok r) outcome = ran_line_for i.purpose r outcome
 
 -- ---- it has asked
 

@@ -1,5 +1,5 @@
 -- How the controller of a session ended, by the numbers of the whole list, and how its line did.
-use Rattle.std.specs.Prelude.{ℕ, ◌≡◌, ◌+◌, ◌-◌, ◌^◌, min, Option, None, option_map, Result, Ok, Err}
+use Rattle.std.specs.Prelude.{ℕ, ◌≡◌, ◌+◌, ◌-◌, ◌^◌, if◌then◌else◌, min, nat_eq, Option, None, option_map, Result, Ok, Err}
 use Rattle.vdcp_auto.specs.State.{State}
 use Rattle.vdcp_auto.specs.Turn.{outcome_of}
 use Rattle.vdcp_auto.specs.declared.outcome.Outcome.{Outcome}
@@ -29,13 +29,13 @@ outcome_with from (Strange k) = Strange (event_in_list from k)
 abbrev pub outcome_in_list : ℕ → Option Outcome → Option Outcome
 outcome_in_list from outcome = option_map (outcome_with from) outcome
 
--- how the line ended, by what the driver's run answered; it is left before an event that the operator leaves out, and then this
--- is the next one that isn't
-abbrev pub line_end_of : Result Ran BrokenOff → (kept : ℕ) → LineEnd
-line_end_of (Ok r) kept = line_end.Ran r
-line_end_of (Err fault.Device) kept = line_end.Failed
-line_end_of (Err fault.Unkept) kept = line_end.Unkept
-line_end_of (Err fault.Left) kept = line_end.LeftOut kept
+-- How the line ended, by what the driver's run answered, with this event as the next one, and this as the next one that isn't
+-- left out. It is left before an event that is; or before a PLAY that is held, and then ends only if the journal can't be written.
+abbrev pub line_end_of : Result Ran BrokenOff → (reported kept : ℕ) → LineEnd
+line_end_of (Ok r) reported kept = line_end.Ran r
+line_end_of (Err fault.Device) reported kept = line_end.Failed
+line_end_of (Err fault.Unkept) reported kept = line_end.Unkept
+line_end_of (Err fault.Left) reported kept = if nat_eq kept reported then line_end.Unkept else line_end.LeftOut kept
 
 -- the outcome and the first event that isn't reported are those of this state, whose controller began with this event
 pub record Reports (from : ℕ) (state : State) (end : RunEnd) : Type 0 where

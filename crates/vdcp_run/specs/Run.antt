@@ -196,9 +196,21 @@ once_unsure_by settings count (Some stay) (Some event) = if nat_lt event count &
 abbrev pub once_unsure : RunSettings → ℕ → Option ℕ → Option RunSettings
 once_unsure settings count event = once_unsure_by settings count settings.stay event
 
+-- a run that stays, and goes on in its journal, asks a port again that wasn't empty
+abbrev pub once_occupied_by : RunSettings → Option Staying → Option RunJournal → Option RunSettings
+once_occupied_by settings None journal = None
+once_occupied_by settings (Some stay) None = None
+once_occupied_by settings (Some stay) (Some (journals.New name)) = None
+once_occupied_by settings (Some stay) (Some journal) =
+    if nat_lt 1 settings.listens then Some (going_on settings journal (settings.listens - 1)) else None
+
+abbrev pub once_occupied : RunSettings → Option RunSettings
+once_occupied settings = once_occupied_by settings settings.stay settings.journal
+
 -- the settings of the next try of a list of so many events
 abbrev pub later_after : RunSettings → ℕ → Result RunEnd Failure → Option RunSettings
 later_after settings count (Ok end) = later_of settings count end
+later_after settings count (Err failures.NotEmpty) = once_occupied settings
 later_after settings count (Err failure) = once_unsure settings count (unsure_event failure)
 
 -- since this moment nothing was heard for so many seconds, by a stopwatch; that is never so without a number

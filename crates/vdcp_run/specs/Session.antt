@@ -1,11 +1,13 @@
 -- What a session did: it asked the port, if it was to, and ran a driver, with the journal that it has, if it has one.
 use Rattle.std.specs.Option.{option_map}
-use Rattle.std.specs.Prelude.{ℕ, ◌≡◌, ◌≢◌, ◌*◌, Bool, true, false, ◌&&◌, List, [], ◌∷◌, Option, None, Some, IfSome, IsSome, Result, Err}
+use Rattle.std.specs.Prelude.{ℕ, ◌≡◌, ◌≢◌, ◌⊎◌, ◌+◌, ◌*◌, Bool, true, false, ◌&&◌, List, [], ◌∷◌, Option, None, Some, IfSome, IsSome, IsTrue, Result, Err}
 use Rattle.vdcp_auto.specs.Commands.{is_cue_command}
 use Rattle.vdcp_auto.specs.State.{Stage, Ready}
 use Rattle.vdcp_auto.specs.Turn.{is_awaiting, outcome_of}
 use Rattle.vdcp_auto.specs.declared.exchange.Heard.{Heard}
 use Rattle.vdcp_auto.specs.declared.exchange.Heard.TheVariants as heard
+use Rattle.vdcp_auto.specs.declared.phase.Mode.{Mode}
+use Rattle.vdcp_auto.specs.declared.phase.Mode.TheVariants.{Plain}
 use Rattle.vdcp_auto.specs.declared.phase.Phase.TheVariants as phase
 use Rattle.vdcp_drive.specs.Auto.{Auto}
 use Rattle.vdcp_drive.specs.Ears.{Fold}
@@ -29,6 +31,8 @@ use Rattle.vdcp_drive.specs.declared.hearing.Hearing.{Hearing}
 use Rattle.vdcp_drive.specs.declared.hearing.Hearing.TheVariants as hears
 use Rattle.vdcp_journal_file.specs.Recorded.{Loses, Notes, NotesEnd, recorder_rules}
 use Rattle.vdcp_journal_file.specs.Recording.{Adds, Recording, outcome_rows}
+use Rattle.vdcp_journal_file.specs.declared.pending.Pending.TheVariants as pending
+use Rattle.vdcp_operator.specs.Hands.{is_to_play}
 use Rattle.vdcp_run.specs.Ends.{Reports, line_end_of}
 use Rattle.vdcp_run.specs.Asking.{HasAsked, Start, asker_of, over}
 use Rattle.vdcp_run.specs.declared.lack.Lack.{Lack}
@@ -83,20 +87,23 @@ KeepsOn safe one old new = MayKeep (Notes safe) one old.recorder new.recorder
 abbrev pub LosesIn : {F : Type 0} → (F → Option (List ℕ)) → Kept → Keeping F → Keeping F → Type 0
 LosesIn safe one old new = MayLose (Loses safe) one old.recorder new.recorder × (new.signs ≡ old.signs)
 
--- the controller asks about an event next
-abbrev pub IsBeforeEvent : Stage → Type 0
-IsBeforeEvent (Ready (phase.Exists k)) = Unit {0}
-IsBeforeEvent stage = ⊥
+-- No PLAY of the next event has gone out: the controller asks about it next, or, in plain mode, does what comes before the PLAY.
+abbrev pub IsBeforeEvent : Mode → Stage → Type 0
+IsBeforeEvent mode (Ready (phase.Exists k)) = Unit {0}
+IsBeforeEvent Plain (Ready (phase.Cue k)) = Unit {0}
+IsBeforeEvent Plain (Ready (phase.Wait k)) = Unit {0}
+IsBeforeEvent Plain (Ready (phase.Play k)) = Unit {0}
+IsBeforeEvent mode stage = ⊥
 
--- the line is left only then
-abbrev pub LeavesBefore : Stage → Next → Type 0
-LeavesBefore stage next.Leave = IsBeforeEvent stage
-LeavesBefore stage n = Unit {0}
+-- the line is left only then, or before a PLAY
+abbrev pub LeavesBefore : Mode → Stage → Next → Type 0
+LeavesBefore mode stage next.Leave = IsBeforeEvent mode stage ⊎ IsTrue (is_to_play stage)
+LeavesBefore mode stage n = Unit {0}
 
-abbrev pub playing_rules : {W F : Type 0} → (Act → W → W → Type 0) → (F → Option (List ℕ)) → Rules W (Keeping F)
-playing_rules does safe = record {
+abbrev pub playing_rules : {W F : Type 0} → Mode → (Act → W → W → Type 0) → (F → Option (List ℕ)) → Rules W (Keeping F)
+playing_rules mode does safe = record {
   does = does;
-  asks = λ state n before after. (after ≡ before) × LeavesBefore state.stage n;
+  asks = λ state n before after. (after ≡ before) × LeavesBefore mode state.stage n;
   adds = KeepsOn safe;
   loses = LosesIn safe;
 }
@@ -120,42 +127,98 @@ IsClosed safe stage line (Some lack) (Some recorder) = lack.journal ≡ recorder
 -- with this ear a driver ran, and came to this end: before each command went out and each call was given its journal,
 -- if it has one, had the rows safe that were due. Then the journal was ended. The wire was left so
 pub record Plays {E W F : Type 0} (does : Act → W → W → Type 0) (safe : F → Option (List ℕ)) (fold : Fold E) (ear : E)
-    (unit listens : ℕ) (start : Start) (world : World W (Option (Recording F))) (last : W) (end : RunEnd) : Type 0 where
+    (unit listens : ℕ) (signs : Signs) (start : Start) (world : World W (Option (Recording F))) (last : W) (end : RunEnd)
+    : Type 0 where
   pub ran : Result Ran BrokenOff
   pub auto : Auto E
   pub left : World W (Option (Recording F))
   pub runs : HasRun (recorder_rules does safe) fold start.plan unit listens (record { ear = ear; state = start.state }) auto world
       left ran
   pub last_is : left.wire ≡ last
-  pub left_before : ran ≡ Err fault.Left → IsBeforeEvent auto.state.stage
-  pub behind : ℕ
-  pub line_is : end.line ≡ line_end_of ran behind
+  pub left_before : ran ≡ Err fault.Left → LeavesBefore start.plan.mode auto.state.stage next.Leave
+  pub kept : ℕ
+  pub line_is : end.line ≡ line_end_of ran (start.from + auto.state.settled) kept
   pub reports : Reports start.from auto.state end
-  pub signs_are : end.signs ≡ signs_by (kept_in (steps_in runs.run)) signs_at_first
+  pub signs_are : end.signs ≡ signs_by (kept_in (steps_in runs.run)) signs
   pub closed : IsClosed safe auto.state.stage end.line end.unkept left.keep
 
 -- ---- over a connection
 
--- with this ear what was to be asked first was, and then, with the ear that this left, the list was played, unless that ends
--- the line
-pub data HasTried {E W F : Type 0} (does : Act → W → W → Type 0) (safe : F → Option (List ℕ)) (fold : Fold E)
-    (settings : RunSettings) (start : Start) (ear : E) (world : World W (Option (Recording F))) (last : W) (end : RunEnd)
-    : Type 0 where
-  played : (ear' : E) (wire : W) (left : ℕ)
-      → HasAsked (asker_of settings.ask start) does fold settings ear ear' world.wire wire left None
-      → Plays does safe fold ear' settings.unit left start (record world { wire = wire }) last end
-      → HasTried does safe fold settings start ear world last end
-  unbegun : (ear' : E) (left : ℕ) (line : LineEnd)
-      → HasAsked (asker_of settings.ask start) does fold settings ear ear' world.wire last left (Some line) → end.line ≡ line
-      → Reports start.from start.state end → HasTried does safe fold settings start ear world last end
+-- what a stretch of a session begins with: its controller, the ear, the wire and the journal, the turns that may be made, and
+-- the signs so far
+pub record Onset (E W F : Type 0) : Type 0 where
+  pub start : Start
+  pub ear : E
+  pub world : World W (Option (Recording F))
+  pub turns : ℕ
+  pub signs : Signs
+
+-- first what was to be asked was, with the ear and the turns of the stretch
+abbrev pub AsksFirst : {E W F : Type 0} → (Act → W → W → Type 0) → Fold E → RunSettings → (is_held : Bool) → Onset E W F → E → W
+    → (left : ℕ) → Option LineEnd → Type 0
+AsksFirst does fold settings is_held x ear wire left line = HasAsked (asker_of settings.ask is_held x.start) does fold
+    (record settings { listens = x.turns }) x.ear ear x.world.wire wire left line
+
+-- all that waited is written to the journal, if there is one
+abbrev pub IsWritten : {F : Type 0} → (F → Option (List ℕ)) → (old new : Option (Recording F)) → Type 0
+IsWritten safe None new = new ≡ None
+IsWritten safe (Some old) None = ⊥
+IsWritten safe (Some old) (Some new) = Adds safe old new [] × (new ≡ record old { file = new.file; pending = pending.Nothing })
+
+-- a stretch that was left before a PLAY so, with this journal, and these turns to make, leads to the next one
+abbrev pub onset_after : {E W F : Type 0} → Onset E W F → Auto E → World W (Option (Recording F)) → Option (Recording F)
+    → (turns : ℕ) → List Kept → Onset E W F
+onset_after x auto left keep turns noted = record {
+  start = record x.start { state = auto.state };
+  ear = auto.ear;
+  world = record left { keep = keep };
+  turns = turns;
+  signs = signs_by noted x.signs;
+}
+
+-- The operator held some PLAYs, each for a while: what was to be asked was, and with the ear that this left a driver ran that was
+-- left before the PLAY. All that waited was written, and the next stretch went on from there, over the same wire.
+pub data HasHeld {E W F : Type 0} (does : Act → W → W → Type 0) (safe : F → Option (List ℕ)) (fold : Fold E)
+    (settings : RunSettings) (z : Onset E W F) : Onset E W F → Type 0 where
+  none : HasHeld does safe fold settings z z
+  held : {x : Onset E W F} (is_held : Bool) (ear : E) (wire : W) (count : ℕ)
+      → AsksFirst does fold settings is_held x ear wire count None → (auto : Auto E) (left : World W (Option (Recording F)))
+      → (runs : HasRun (recorder_rules does safe) fold x.start.plan settings.unit count
+      (record { ear = ear; state = x.start.state }) auto (record x.world { wire = wire }) left (Err fault.Left))
+      → IsTrue (is_to_play auto.state.stage) → (keep : Option (Recording F)) → IsWritten safe left.keep keep → (turns : ℕ)
+      → HasHeld does safe fold settings z (onset_after x auto left keep turns (kept_in (steps_in runs.run)))
+      → HasHeld does safe fold settings z x
+
+-- the line ended so, with these signs, and with so many turns left
+abbrev pub EndsSo : LineEnd → Signs → (left : ℕ) → RunEnd → Type 0
+EndsSo line signs left end = (end.line ≡ line) × (end.signs ≡ signs) × (end.left ≡ left)
+
+-- The last stretch: what was to be asked was, and then the list was played, unless that ends the line.
+pub data HasEnded {E W F : Type 0} (does : Act → W → W → Type 0) (safe : F → Option (List ℕ)) (fold : Fold E)
+    (settings : RunSettings) (x : Onset E W F) (last : W) (end : RunEnd) : Type 0 where
+  played : (is_held : Bool) (ear : E) (wire : W) (left : ℕ) → AsksFirst does fold settings is_held x ear wire left None
+      → Plays does safe fold ear settings.unit left x.signs x.start (record x.world { wire = wire }) last end
+      → HasEnded does safe fold settings x last end
+  unbegun : (is_held : Bool) (ear : E) (left : ℕ) (line : LineEnd) → AsksFirst does fold settings is_held x ear last left (Some line)
+      → EndsSo line x.signs left end → Reports x.start.from x.start.state end → HasEnded does safe fold settings x last end
+
+-- one stretch after another
+pub record HasTried {E W F : Type 0} (does : Act → W → W → Type 0) (safe : F → Option (List ℕ)) (fold : Fold E)
+    (settings : RunSettings) (x : Onset E W F) (last : W) (end : RunEnd) : Type 0 where
+  pub onset : Onset E W F
+  pub held : HasHeld does safe fold settings onset x
+  pub ended : HasEnded does safe fold settings onset last end
+
+abbrev pub onset_of : {E W F : Type 0} → Start → E → World W (Option (Recording F)) → (turns : ℕ) → Signs → Onset E W F
+onset_of start ear world turns signs = record { start = start; ear = ear; world = world; turns = turns; signs = signs }
 
 -- so with a new ear
 abbrev pub TriesBy : {W F : Type 0} → Hearing → (Act → W → W → Type 0) → (F → Option (List ℕ)) → RunSettings → Start
     → World W (Option (Recording F)) → (last : W) → RunEnd → Type 0
 TriesBy hears.AtSilences does safe settings start world last end =
-    HasTried does safe ears.at_silences settings start (ears.begun (holds [])) world last end
+    HasTried does safe ears.at_silences settings (onset_of start (ears.begun (holds [])) world settings.listens signs_at_first) last end
 TriesBy hears.AtOnce does safe settings start world last end =
-    HasTried does safe ears.at_once settings start (holds []) world last end
+    HasTried does safe ears.at_once settings (onset_of start (holds []) world settings.listens signs_at_first) last end
 
 -- and over this wire
 abbrev pub TriesOver : {W F : Type 0} → (Act → W → W → Type 0) → (F → Option (List ℕ)) → RunSettings → Start → (wire last : W)
@@ -185,11 +248,11 @@ IsUnconnected patience other = ⊥
 -- a session of a connection: nothing went out if its controller had ended before, the connection was no wire, or there was none
 pub data HasSession {F : Type 0} (safe : F → Option (List ℕ)) (settings : RunSettings) (start : Start)
     (recorder : Option (Recording F)) (end : RunEnd) : Type 0 where
-  had_ended : IsSome (outcome_of start.state.stage) → end.line ≡ line_end.Ran ran.Ended → end.signs ≡ no_signs
+  had_ended : IsSome (outcome_of start.state.stage) → EndsSo (line_end.Ran ran.Ended) signs_at_first settings.listens end
       → Reports start.from start.state end → HasSession safe settings start recorder end
-  no_wire : end.line ≡ line_end.Failed → Reports start.from start.state end → HasSession safe settings start recorder end
+  no_wire : EndsSo line_end.Failed no_signs settings.listens end → Reports start.from start.state end → HasSession safe settings start recorder end
   unconnected : (why : Why) → IfSome settings.stay (λ stay. IsUnconnected stay.patience why) → IsSome settings.stay
-      → end.line ≡ line_end.NotBegun why → Reports start.from start.state end → HasSession safe settings start recorder end
+      → EndsSo (line_end.NotBegun why) no_signs settings.listens end → Reports start.from start.state end → HasSession safe settings start recorder end
   tried : (wire last : Streamed) → wire.connection ≡ connection.Open → Limits wire (longest_answer settings)
       → TriesOver StreamDoes safe settings start wire last recorder end
       → HasSession safe settings start recorder end

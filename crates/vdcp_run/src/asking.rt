@@ -1,10 +1,13 @@
-//! What is asked before a list's own commands: is the port empty, and has the clip before ended?
+//! What is asked before a list's own commands: is the port empty, has the clip before ended, and what does a port do whose PLAY
+//! is held?
 ghost use Rattle.std.specs.Option.{option_map};
-ghost use Rattle.std.specs.Prelude.{◌≡◌, ◌≢◌, ◌≤◌, Err, None};
+ghost use Rattle.std.specs.Prelude.{◌≡◌, ◌≢◌, ◌≤◌, Bool, Err, None};
 ghost use Rattle.vdcp_auto.specs.Plan.{View, plan_of};
 ghost use Rattle.vdcp_auto.specs.Turn as turns;
 ghost use Rattle.vdcp_list.specs.Rests.{FromEvent, items_left};
-ghost use Rattle.vdcp_run.specs.Asking.{Comes, HasAsked, asker_of, asking, is_answered, is_called_off, is_opening, is_question, left_line, line_of, may_ask, over, ran_line, start_of};
+ghost use Rattle.vdcp_operator.specs.Hands.{Asks as AsksHand, holds_play};
+ghost use Rattle.vdcp_run.specs.declared.asking.Purpose.{Purpose};
+ghost use Rattle.vdcp_run.specs.Asking.{Comes, HasAsked, asker_of, asking, held_line, is_answered, is_called_off, is_opening, is_question, left_line, line_of, may_ask, over, ran_line, start_of};
 
 use crate::console::Console;
 use crate::run_end::{LineEnd, Why};
@@ -23,6 +26,8 @@ pub enum Purpose {
     Vacancy,
     /// When the clip before ends. Each call ends the asking.
     ClipEnd,
+    /// What the port does while a PLAY is held. Each call ends the asking.
+    Hold,
 }
 
 /// What is left once the port was asked.
@@ -67,7 +72,8 @@ impl<
     V: io::Write + Drop,
 > Console<'r, 'l, R, I, O, V> {
     /// If OPEN is next and the settings want it, asks whether the port is empty; before a PLAY that may have been lost is
-    /// sent again, asks when the clip before ends. Only OPEN, SELECT and STATUS go out; the operator's calls are held.
+    /// sent again, asks when the clip before ends; before a PLAY that the operator holds, asks for the state. Only OPEN,
+    /// SELECT and STATUS go out; the operator's calls are held.
     pub fn ask_first<S: Source + Copy, E: Ear + Drop, W: Wire + Drop>(
         self,
         controller: &Controller<Rest<S>>,
@@ -77,11 +83,12 @@ impl<
     ) -> Asked<E, W, Self>
         requires unit { settings.unit ≤ 15 }
         requires works { W.failures wire ≡ 0 }
-        ensures asks { HasAsked (asker_of settings.entry.ask (start_of S.items controller.now)) W.does E.fold settings.entry
-            ear result.ear wire result.wire result.left result.line }
+        ensures asks { HasAsked (asker_of settings.entry.ask (holds_play self.entry.hand.holds controller.now.state)
+            (start_of S.items controller.now)) W.does E.fold settings.entry ear result.ear wire result.wire result.left result.line }
         ensures works { result.line ≡ None → W.failures result.wire ≡ 0 }
     {
-        let Some((purpose, asker)) = asker_of(controller, settings.ask) else {
+        let holds = self.hand.holds_play(controller);
+        let Some((purpose, asker)) = asker_of(controller, settings.ask, holds) else {
             return Asked {
                 line: None,
                 ear,
@@ -111,23 +118,29 @@ impl<
 fn asker_of<S: Source + Copy>(
     controller: &Controller<Rest<S>>,
     ask: bool,
+    holds: bool,
 ) -> Option<(Purpose, Controller<Rest<S>>)>
     ensures { option_map (λ (a : Purpose × View (FromEvent S)). record {
       purpose = a.0;
       plan = plan_of (items_left S.items) a.1;
       state = a.1.state;
-    }) result ≡ asker_of ask (start_of S.items controller.now) }
+    }) result ≡ asker_of ask holds (start_of S.items controller.now) }
 {
     let snapshot = controller.snapshot();
     let rest = controller.source();
     let whole = *rest.whole();
-    if let Standing::Ready(Phase::Probe(event)) = snapshot.standing {
+    let waits = match snapshot.standing {
+        Standing::Ready(Phase::Probe(event)) => Some((Purpose::ClipEnd, event)),
+        Standing::Ready(Phase::Play(event)) if holds => Some((Purpose::Hold, event)),
+        _ => None,
+    };
+    if let Some((purpose, event)) = waits {
         let waits = Snapshot {
             standing: Standing::Ready(Phase::Wait(event)),
             ..snapshot
         };
         let asker = Controller::of_snapshot(Rest::new(whole, rest.from()), &waits);
-        return Some((Purpose::ClipEnd, asker));
+        return Some((purpose, asker));
     }
     if !ask || !opens_next(controller) {
         return None;
@@ -200,7 +213,7 @@ impl<
     {
         match self.purpose {
             Purpose::Vacancy => self.state.is_some(),
-            Purpose::ClipEnd => false,
+            Purpose::ClipEnd | Purpose::Hold => false,
         }
     }
 
@@ -209,21 +222,26 @@ impl<
     {
         match (self.purpose, self.console.hand.held) {
             (Purpose::Vacancy, held) => held == Some(Call::Stop),
-            (Purpose::ClipEnd, held) => held.is_some(),
+            (Purpose::ClipEnd | Purpose::Hold, held) => held.is_some(),
         }
     }
 
-    // While the end of a clip is awaited, this waits until the state may be asked again.
-    fn heed(&mut self)
+    // While the end of a clip is awaited or a PLAY is held, this waits until the state may be asked again.
+    fn heed(&mut self, asker: &Controller<Rest<S>>)
         ensures purpose { self.new.purpose ≡ self.old.purpose }
         ensures state { self.new.state ≡ self.old.state }
         ensures left { self.new.left ≡ self.old.left }
+        ensures asks { self.old.purpose ≡ Purpose.Hold → self.old.console.hand.held ≡ None →
+            AsksHand S.items I.remaining asker.now self.old.console.hand.holds self.old.console.hand.page
+            self.old.console.hand.typed self.new.console.hand.held self.new.console.hand.holds self.new.console.hand.page
+            self.new.console.hand.typed }
     {
         match self.purpose {
             Purpose::Vacancy => {
                 self.console.hand.heed(self.controller);
             }
             Purpose::ClipEnd => self.console.hand.held = self.console.hand.call(self.controller),
+            Purpose::Hold => self.console.hand.held = self.console.hand.call(asker),
         }
     }
 
@@ -235,15 +253,12 @@ impl<
           left = self.now.left;
         }) ran outcome }
     {
-        let line = match ran {
-            Err(BrokenOff::Device) => return Some(LineEnd::Failed),
-            Err(BrokenOff::Unkept) => return Some(LineEnd::Failed),
-            Err(BrokenOff::Left) => self.left_line(),
-            Ok(ran) => ran_line(ran, outcome),
-        };
-        match self.purpose {
-            Purpose::Vacancy => line,
-            Purpose::ClipEnd => None,
+        match (ran, self.purpose) {
+            (Err(BrokenOff::Device | BrokenOff::Unkept), _) => Some(LineEnd::Failed),
+            (Err(BrokenOff::Left), Purpose::Vacancy) => self.left_line(),
+            (Ok(ran), Purpose::Vacancy) => ran_line(ran, outcome),
+            (Ok(ran), Purpose::Hold) => held_line(ran, outcome),
+            (_, Purpose::ClipEnd | Purpose::Hold) => None,
         }
     }
 
@@ -275,6 +290,16 @@ fn ran_line(ran: Ran, outcome: Option<Outcome>) -> Option<LineEnd>
         (Ran::Ended, Some(Outcome::Denied)) => None,
         (Ran::Ended, Some(Outcome::Strange(_))) => Some(LineEnd::NotBegun(Why::Occupied)),
         (Ran::Ended, _) => Some(LineEnd::NotBegun(Why::Unanswered)),
+    }
+}
+
+fn held_line(ran: Ran, outcome: Option<Outcome>) -> Option<LineEnd>
+    ensures { result ≡ held_line ran outcome }
+{
+    match (ran, outcome) {
+        (Ran::Closed | Ran::Spent, _) => Some(LineEnd::Ran(ran)),
+        (Ran::Ended, Some(Outcome::Lost)) => Some(LineEnd::NotBegun(Why::Unanswered)),
+        (Ran::Ended, _) => None,
     }
 }
 
@@ -336,7 +361,7 @@ impl<
         self.left = self.left.saturating_sub(1);
         let command = controller.to_send();
         if command.is_some() && self.may_ask(command) {
-            self.heed();
+            self.heed(controller);
         }
         if self.may_ask(command) {
             Next::GoOn
@@ -364,7 +389,7 @@ impl<
     fn see(&mut self, controller: &Controller<Rest<S>>) {
         match self.purpose {
             Purpose::Vacancy => self.console.see(self.controller),
-            Purpose::ClipEnd => self.console.see(controller),
+            Purpose::ClipEnd | Purpose::Hold => self.console.see(controller),
         }
     }
 }

@@ -1,9 +1,13 @@
 //! The operator's side of a run: calls, page, progress line and what is told.
-ghost use Rattle.std.specs.Prelude.{◌≡◌, IsTrue};
+ghost use Rattle.std.specs.Prelude.{ℕ, ◌≡◌, ◌≢◌, ◌+◌, IsTrue};
 ghost use Rattle.vdcp_run.specs.Ends.{Reports};
 ghost use Rattle.vdcp_run.specs.Run.{HasAsrun};
-ghost use Rattle.vdcp_run.specs.Session.{IsBeforeEvent};
+ghost use Rattle.vdcp_drive.specs.declared.hooks.Next.TheVariants.{Leave};
+ghost use Rattle.vdcp_operator.specs.Hands.{holds_play};
+ghost use Rattle.vdcp_operator.specs.LeftOut.{IsNextKept};
+ghost use Rattle.vdcp_run.specs.Session.{IsBeforeEvent, LeavesBefore};
 
+use crate::in_list::reported_in_list;
 use crate::lack::Lack;
 use crate::run_end::{LineEnd, RunEnd, Signs, ended};
 use crate::settings::{RunSettings, Staying, Unsure};
@@ -11,7 +15,7 @@ use crate::stalling::Stalling;
 use crate::staying::later_of;
 use std::rt::{Clock, Files};
 use std::{fmt, io};
-use vdcp_auto::{Controller, Heard, Phase, Source, Standing};
+use vdcp_auto::{Controller, Heard, Mode, Phase, Source, Standing};
 use vdcp_list::Rest;
 use vdcp_log::Log;
 use vdcp_operator::{Hand, Progress};
@@ -28,6 +32,8 @@ pub struct Console<'r, 'l, R: Clock, I: io::Read, O: io::Write, V: io::Write> {
     stalling: Stalling<'r, R>,
     // Whether the line was told to be down.
     is_down: bool,
+    // Whether the port was told not to be empty.
+    is_occupied: bool,
 }
 
 impl<
@@ -56,6 +62,7 @@ impl<
             },
             stalling: Stalling::new(rt, settings.hearing),
             is_down: false,
+            is_occupied: false,
         }
     }
 
@@ -90,13 +97,25 @@ impl<
         }
     }
 
-    /// Whether the controller asks next about an event that the operator leaves out.
-    pub fn leaves_out_next<S: Source>(&self, controller: &Controller<Rest<S>>) -> bool
-        ensures { IsTrue result → IsBeforeEvent controller.now.state.stage }
+    /// Whether the run is left here: the operator leaves out the next event, of which no PLAY has gone out, or holds its PLAY.
+    pub fn leaves_here<S: Source>(&self, controller: &Controller<Rest<S>>) -> bool
+        ensures before { IsTrue result → LeavesBefore controller.now.mode controller.now.state.stage Leave }
+        ensures holds { IsTrue (holds_play self.now.hand.holds controller.now.state) → IsTrue result }
     {
-        match controller.snapshot().standing {
-            Standing::Ready(Phase::Exists(event)) => {
-                let event = controller.source().from().saturating_add(event);
+        self.leaves_out_next(controller) || self.hand.holds_play(controller)
+    }
+
+    fn leaves_out_next<S: Source>(&self, controller: &Controller<Rest<S>>) -> bool
+        ensures before { IsTrue result → IsBeforeEvent controller.now.mode controller.now.state.stage }
+        ensures left_out { IsTrue result → (kept : ℕ)
+            × IsNextKept self.now.hand.left_out (controller.now.source.from + controller.now.state.settled) kept
+            × (kept ≢ controller.now.source.from + controller.now.state.settled) }
+    {
+        let snapshot = controller.snapshot();
+        match (snapshot.standing, snapshot.mode) {
+            (Standing::Ready(Phase::Exists(_)), _)
+            | (Standing::Ready(Phase::Cue(_) | Phase::Wait(_) | Phase::Play(_)), Mode::Plain) => {
+                let event = reported_in_list(controller);
                 self.hand.next_kept(event) != event
             }
             _ => false,
@@ -107,11 +126,16 @@ impl<
     pub fn tell_again(&mut self, end: &Result<RunEnd<'_>, Failure<'_>>, later: RunSettings<'_>) {
         let end = match end {
             Ok(end) => end,
+            Err(Failure::NotEmpty) => {
+                self.tell_occupied();
+                return;
+            }
             Err(failure) => {
                 self.tell_unsure(failure, later);
                 return;
             }
         };
+        self.is_occupied = false;
         if let LineEnd::LeftOut(kept) = end.line {
             self.tell(&format_args!("left out: by hand; going on with event {kept}"));
             return;
@@ -122,6 +146,14 @@ impl<
             None if end.is_by_line() => self.tell_down(&"lost; connecting again"),
             None if later.from.is_some() => self.tell(&format_args!("left out: {outcome}")),
             None => self.tell(&format_args!("port lost: going on with event {event}")),
+        }
+    }
+
+    // It is asked again each second, and told once.
+    fn tell_occupied(&mut self) {
+        if !self.is_occupied {
+            self.tell(&"port not empty: asking again");
+            self.is_occupied = true;
         }
     }
 
@@ -181,6 +213,7 @@ impl<
         ensures signs { result.signs ≡ signs }
         ensures asrun { HasAsrun settings.entry (S.items controller.now.source.source) result }
         ensures kept { result.unkept ≡ unkept.entry }
+        ensures left { result.left ≡ left }
     {
         let end = ended(self.rt, controller, line, signs, unkept, left, settings);
         if later_of(&end, controller.source().whole().len(), settings).is_none() {

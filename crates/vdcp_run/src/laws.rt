@@ -18,11 +18,11 @@ ghost use Rattle.vdcp_value.specs.declared.part.Item.{Item};
 use vdcp_drive::{Ear, Wire};
 
 /// Before a controller's next command nothing is asked but OPEN and SELECT of its port and STATUS, if it opens the port next,
-/// and STATUS, if it asks whether a PLAY was lost: each command that the automation gives that asks is one of these. (What
-/// goes out is a beginning of these: `vdcp_drive::laws::what_goes_out_is_kept`.)
+/// and STATUS, if it asks whether a PLAY was lost, or while one is held: each command that the automation gives that asks is
+/// one of these. (What goes out is a beginning of these: `vdcp_drive::laws::what_goes_out_is_kept`.)
 pub fn only_questions_are_asked<E: Ear, W: Wire>()
-    ensures { (ask : Bool) (start : Start) (asker : Asker) (unit count : ℕ) (a a' : Auto E) (old new : World W Inquiring)
-        (answer : Result Ran BrokenOff) → asker_of ask start ≡ Some asker → a.state ≡ asker.state →
+    ensures { (ask holds : Bool) (start : Start) (asker : Asker) (unit count : ℕ) (a a' : Auto E) (old new : World W Inquiring)
+        (answer : Result Ran BrokenOff) → asker_of ask holds start ≡ Some asker → a.state ≡ asker.state →
         (h : HasRun (asking W.does asker.plan) E.fold asker.plan unit count a a' old new answer) →
         AreAsked start (commands_kept (kept_in (steps_in h.run))) }
 {}

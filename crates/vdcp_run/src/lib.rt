@@ -1,7 +1,7 @@
 //! The subcommand `run` (`do_run`): the automation's end of a playout channel over TCP.
 //!
-//! Files, in reading order: `settings`, `run`, `begin`, `staying`, `connecting`, `session`, `playing`, `console`, `stalling`,
-//! `asking`, `lack`, `run_end`, `advice`, `asrun`, `saved`, `place`, `in_list`, `before`, `laws`.
+//! Files, in reading order: `settings`, `run`, `begin`, `staying`, `connecting`, `session`, `stretch`, `playing`, `console`,
+//! `stalling`, `asking`, `lack`, `run_end`, `advice`, `asrun`, `saved`, `place`, `in_list`, `before`, `laws`.
 #![tactic(auto)]
 
 mod advice;
@@ -23,6 +23,7 @@ mod session;
 mod settings;
 mod stalling;
 mod staying;
+mod stretch;
 
 pub use advice::{Advice, Next, Reason};
 pub use run::do_run;

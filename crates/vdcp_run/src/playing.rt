@@ -33,7 +33,7 @@ impl<
 
     ghost journal = { λ p. record { recorder = p.recorder; signs = p.signs } };
 
-    ghost asks = { λ _ state n old new. (new ≡ old) × LeavesBefore state.stage n };
+    ghost asks = { λ plan state n old new. (new ≡ old) × LeavesBefore plan.mode state.stage n };
 
     ghost adds = { KeepsOn F.safe };
 
@@ -43,7 +43,7 @@ impl<
         self.left = self.left.saturating_sub(1);
         match self.console.hand.call(controller) {
             Some(call) => Next::Call(call),
-            None if self.console.leaves_out_next(controller) => Next::Leave,
+            None if self.console.leaves_here(controller) => Next::Leave,
             None => Next::GoOn,
         }
     }

@@ -13,7 +13,7 @@ use crate::place::{Apart, tell_place};
 use crate::run_end::RunEnd;
 use crate::session::Session;
 use crate::settings::{RunJournal, RunSettings, Showing};
-use crate::staying::{Pace, later_of, once_unsure};
+use crate::staying::{Pace, later_of, once_occupied, once_unsure};
 use std::fs::{self, File};
 use std::io;
 use std::net::{Net, SocketAddrV4};
@@ -224,6 +224,7 @@ fn later_after<'a>(
     match end {
         Ok(end) => later_of(end, count, settings),
         Err(Failure::MayHaveAired(event)) => once_unsure(*event, count, settings),
+        Err(Failure::NotEmpty) => once_occupied(settings),
         Err(_) => None,
     }
 }

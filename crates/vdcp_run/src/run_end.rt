@@ -29,7 +29,7 @@ pub enum LineEnd {
     Failed,
     /// The next command couldn't be kept in the journal, and wasn't sent.
     Unkept,
-    /// The list wasn't begun.
+    /// The list wasn't begun, or not gone on with while a PLAY was held.
     NotBegun(Why),
     /// The operator leaves out the next event: the list goes on with this one.
     LeftOut(usize),
@@ -48,14 +48,16 @@ pub enum Why {
 }
 
 impl LineEnd {
-    /// A run is left before an event that the operator leaves out; `kept` is the next one that isn't.
-    pub fn of_run(ran: Result<Ran, BrokenOff>, kept: usize) -> LineEnd
-        ensures { result ≡ line_end_of ran kept }
+    /// `reported` is the next event, and `kept` the next one that isn't left out. A run is left before an event that is; or
+    /// before a PLAY that is held, which ends it only if the journal can't be written.
+    pub fn of_run(ran: Result<Ran, BrokenOff>, reported: usize, kept: usize) -> LineEnd
+        ensures { result ≡ line_end_of ran reported kept }
     {
         match ran {
             Ok(ran) => LineEnd::Ran(ran),
             Err(BrokenOff::Device) => LineEnd::Failed,
             Err(BrokenOff::Unkept) => LineEnd::Unkept,
+            Err(BrokenOff::Left) if kept == reported => LineEnd::Unkept,
             Err(BrokenOff::Left) => LineEnd::LeftOut(kept),
         }
     }
@@ -152,7 +154,7 @@ pub struct RunEnd<'a> {
     /// None if no as-run file is wanted.
     pub asrun: Option<Result<SavedText<'a>, Failure<'a>>>,
     pub unkept: Option<Lack<'a>>,
-    /// How many turns were left then; none if the controller had ended before.
+    /// How many turns were left then.
     pub left: u32,
     /// Why the run's last try came to nothing: this is the end of the one before.
     pub failed: Option<Failure<'a>>,
@@ -325,6 +327,7 @@ pub fn ended<'a, R: Files + AllocGlobal, S: Source>(
     ensures signs { result.signs ≡ signs }
     ensures asrun { HasAsrun settings.entry (S.items controller.now.source.source) result }
     ensures kept { result.unkept ≡ unkept.entry }
+    ensures left { result.left ≡ left }
 {
     let from = controller.source().from();
     let end = RunEnd {

@@ -1,6 +1,6 @@
 //! A run that stays: whether it tries again, and when.
 ghost use Rattle.std.specs.Prelude.{◌≡◌, ◌↔◌, ◌+◌, ◌-◌, ◌^◌, ◌<◌, ◌≤◌, IfSome, IsTrue, Some, min};
-ghost use Rattle.vdcp_run.specs.Run.{IsSilentFor, first_event, later_of, once_unsure};
+ghost use Rattle.vdcp_run.specs.Run.{IsSilentFor, first_event, later_of, once_occupied, once_unsure};
 
 use crate::run_end::RunEnd;
 use crate::settings::{RunJournal, RunSettings, Unsure};
@@ -78,6 +78,28 @@ pub fn once_unsure<'a>(
     };
     Some(RunSettings {
         from: Some(first),
+        listens: settings.listens - 1,
+        ..settings
+    })
+}
+
+/// The settings of a run that stays once the port wasn't empty: if it goes on in its journal it asks again.
+pub fn once_occupied<'a>(settings: RunSettings<'a>) -> Option<RunSettings<'a>>
+    ensures later { result ≡ once_occupied settings.entry }
+    ensures same { IfSome result (λ later. (later.unit ≡ settings.entry.unit) × (later.limit ≡ settings.entry.limit)) }
+    ensures listed { IfSome result (λ later. later.from ≡ settings.entry.from) }
+    ensures fewer { IfSome result (λ later. later.listens < settings.entry.listens) }
+{
+    settings.stay?;
+    let name = match settings.journal? {
+        RunJournal::New(_) => return None,
+        RunJournal::Older(name) | RunJournal::Again(name) => name,
+    };
+    if settings.listens <= 1 {
+        return None;
+    }
+    Some(RunSettings {
+        journal: Some(RunJournal::Older(name)),
         listens: settings.listens - 1,
         ..settings
     })

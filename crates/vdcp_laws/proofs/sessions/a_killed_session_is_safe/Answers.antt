@@ -1,20 +1,36 @@
-use Rattle.std.proofs.Common.{ℕ, List, ◌++◌, ◌∙◌, None, ap, refl, sym, append_assoc}
+use Rattle.std.proofs.Common.{ℕ, List, ◌++◌, ◌∙◌, ap, ap₂, refl, sym, append_assoc}
+use Rattle.vdcp_value.specs.declared.part.Item.{Item}
+use Rattle.vdcp_port.specs.Clock.{ClockedPort}
 use Rattle.vdcp_wire.specs.Acts.{Act}
-use Rattle.vdcp_laws.specs.Sessions.{acts_asked, ends_asked}
+use Rattle.vdcp_laws.specs.Sessions.{asked_at, questions_at, start_at}
 use Rattle.vdcp_journal.specs.Thinned.{whole}
 use Rattle.vdcp_laws.specs.TwoEnds.{Ends, aired_now, begun, new_ends, port_now}
-use Rattle.vdcp_laws.proofs.CarriedRun.{carried_before, killed_so, stays_killed}
+use Rattle.vdcp_laws.proofs.CarriedRun.{carried_before, killed_so, led_by, stays_killed}
+use Rattle.vdcp_laws.proofs.HeldPlays.{held_since}
 use Rattle.vdcp_laws.proofs.KilledSession.{is_left_safe, steps_at}
 use Rattle.vdcp_laws.proofs.Mended.{Below, begins_again}
 use Rattle.vdcp_laws.proofs.OneRun.{led_on}
 use Rattle.vdcp_laws.proofs.Servers.{Laws, served_so}
-use Rattle.vdcp_laws.proofs.Tried.{asked_led}
+use Rattle.vdcp_laws.proofs.Tried.{asked_on, asking_side, may_ask}
 use Rattle.vdcp_laws.proofs.Tried as session
 use Rattle.vdcp_drive.specs.Traces.{acts_in}
 use Rattle.vdcp_drive.specs.Turns.{Turn}
-use Rattle.vdcp_run.specs.Asking.{Start}
-use Rattle.vdcp_run.specs.declared.settings.RunSettings.{RunSettings}
+use Rattle.vdcp_laws.proofs.sessions.a_killed_session_is_safe.Given.{Over}
 use Rattle.vdcp_laws.proofs.sessions.a_killed_session_is_safe.Goals as goal
+
+laws : (g : Over) → goal.After-a_journal_makes_the_automation g → Laws
+laws g c = record {
+  goes_on = c.servers_go_on.ensures.acts;
+  answered = c.what_goes_out_is_answered.ensures;
+  acts = c.untorn_turns_are_at_once.ensures.acts;
+  items = c.untorn_turns_are_at_once.ensures.items;
+}
+
+tried_laws : (g : Over) → goal.After-a_journal_makes_the_automation g → session.Laws g.A.Wire.does
+tried_laws g c = record {
+  asks = c.only_questions_are_asked.ensures;
+  steps = record { bytes = c.steps_are_exchanges.ensures.bytes; came = c.steps_are_exchanges.ensures.came };
+}
 
 pub returns-clause-new : goal.returns-clause-new
 returns-clause-new g c plan port = record { joined = begun; ready = refl; thinned = whole; unseen = refl }
@@ -22,43 +38,62 @@ returns-clause-new g c plan port = record { joined = begun; ready = refl; thinne
 pub returns-clause-again : goal.returns-clause-again
 returns-clause-again g c = begins_again
 
-pub returns-clause-safe : goal.returns-clause-safe
-returns-clause-safe g c plan from settings port asked e last ear wire wire' left events rows out since turns below aired before waits
-    earlier written part rest first more can begins asks made may unsent served carried kept w split =
+pub returns-clause-asking : goal.returns-clause-asking
+returns-clause-asking g c plan from port asked questions e on so_far acts unsent turns below aired due before first earlier begins
+    held asks part served carried =
     let unit : ℕ = port.state.unit in
-    let given : RunSettings = record settings { unit = unit } in
-    let start : Start = record { plan = plan; from = from; state = e.automation.state } in
-    let questions : List Act = acts_asked g.A.Wire.does given e.automation.held ear wire wire' left None _ asks in
-    let now : Ends = ends_asked g.A.Wire.does given e.automation.held ear wire wire' left None _ asks e in
-    let laws : Laws = record {
-      goes_on = c.servers_go_on.ensures.acts;
-      answered = c.what_goes_out_is_answered.ensures;
-      acts = c.untorn_turns_are_at_once.ensures.acts;
-      items = c.untorn_turns_are_at_once.ensures.items;
-    } in
-    let tried : session.Laws g.A.Wire.does = record {
-      asks = c.only_questions_are_asked.ensures;
-      steps = record { bytes = c.steps_are_exchanges.ensures.bytes; came = c.steps_are_exchanges.ensures.came };
-    } in
+    let h = held_since (tried_laws g c) plan from unit e first due begins.ready begins.thinned begins.unseen held in (
+      _,
+      record {
+        joined = led_on plan unit (new_ends port asked) e _ begins.joined (led_by plan unit e (so_far ++ acts) _ turns below aired
+            (h.side acts _ (asking_side plan unit on questions _ acts h.ready (record {
+              may = may_ask (start_at plan from on) questions asks;
+              ear = refl;
+              unsent = unsent;
+              part = part;
+            }))) (served_so (laws g c) e turns below aired served) carried);
+        ready = h.ready;
+        thinned = h.thinned;
+        unseen = h.unseen;
+      },
+    )
+
+pub returns-clause-safe : goal.returns-clause-safe
+returns-clause-safe g c plan from port asked e on last events rows so_far out since turns below aired
+    due before waits first earlier written part rest one more can begins held asks made may unsent served carried kept w split =
+    let unit : ℕ = port.state.unit in
+    let questions : List Act = acts_in (questions_at asks) in
+    let now : Ends = asked_at asks in
     let below_laws : Below = record {
       comes = c.an_announced_play_comes_next.ensures;
       makes = c.a_journal_makes_the_automation.ensures.makes;
       told = c.a_journal_makes_the_automation.ensures.told;
     } in
-    let so = served_so laws e turns below aired served in
+    let so = served_so (laws g c) e turns below aired served in
+    let h = held_since (tried_laws g c) plan from unit e first due begins.ready begins.thinned begins.unseen held in
     let downs : List Turn = e.downs ++ turns in
-    is_left_safe below_laws c.steps_are_exchanges.ensures.bytes plan port asked _ aired e now questions _
+    is_left_safe below_laws c.steps_are_exchanges.ensures.bytes plan port asked _ aired on now (so_far ++ questions) _
     (λ events rows out since last made may unsent acts.
     let done : List Act = acts_in (steps_at plan port now events) in
-    let then = killed_so plan unit now last events rows out made may in record {
+    let then = killed_so plan unit now last events rows out made may in
+    let all : List Act = so_far ++ (questions ++ (done ++ out)) in record {
       ends = record last { downs = downs };
       joined = led_on plan unit (new_ends port asked) e _ begins.joined
-          (asked_led tried given start e last ear wire wire' left (done ++ out) turns below aired refl begins.ready asks then.0 so
-          (carried_before plan unit e (questions ++ (done ++ out)) carried since
-          (acts ∙ sym (append_assoc questions (done ++ out) since
-          ∙ ap (λ (l : List Act). questions ++ l) (append_assoc done out since))) unsent));
-      port_is = stays_killed (λ p i. port_now (record e { port = p; downs = downs })) plan unit now last events rows out may;
+          (led_by plan unit e all last turns below aired
+          (h.side (questions ++ (done ++ out)) last
+          (asked_on (tried_laws g c) (record asks.settings { unit = unit }) asks.is_held (start_at plan from on) on last
+          on.automation.held asks.ear asks.wire asks.wire' asks.left (done ++ out) h.ready asks.asked then.0)) so
+          (carried_before unit e all carried since
+          (acts ∙ append_assoc so_far questions (done ++ (out ++ since))
+          ∙ ap (λ (l : List Act). so_far ++ l) (sym (append_assoc questions (done ++ out) since
+          ∙ ap (λ (l : List Act). questions ++ l) (append_assoc done out since)))
+          ∙ sym (append_assoc so_far (questions ++ (done ++ out)) since)) unsent));
+      port_is = stays_killed (λ p i. port_now (record e { port = p; downs = downs })) plan unit now last events rows out may
+          ∙ ap (λ (p : ClockedPort). port_now (record e { port = p; downs = downs })) h.port_is;
       aired_are = stays_killed (λ p i. aired_now (record e { port = p; downs = downs; aired_before = i })) plan unit now last
-          events rows out may ∙ so.aired_is;
+          events rows out may
+          ∙ ap₂ (λ (p : ClockedPort) (i : List Item). aired_now (record e { port = p; downs = downs; aired_before = i })) h.port_is
+          h.before_is ∙ so.aired_is;
       notes_are = then.1;
-    }) can before waits earlier written part rest begins.thinned begins.unseen events rows out since last first more made may unsent refl kept w split
+    }) can before waits earlier written part rest h.thinned h.unseen events rows out since last one more made may unsent
+    (sym (append_assoc so_far questions _)) kept w split

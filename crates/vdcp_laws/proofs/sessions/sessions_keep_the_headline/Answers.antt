@@ -11,14 +11,14 @@ use Rattle.vdcp_laws.proofs.Servers.{served_behind}
 use Rattle.vdcp_laws.proofs.sessions.sessions_keep_the_headline.Goals as goal
 
 pub returns : goal.returns
-returns g c plan from settings port now found asked journal time wire last recorder end turns below before since can left finds tried
+returns g c plan from settings port now found asked journal time wire last recorder count signs end turns below before since can left finds tried
     served carried =
     let rows : List Row = (last_run journal).rows ++ rows_at time (mended plan journal (last_run journal).rows) in
     let state : State = state_in plan rows in
     let gone = c.a_mended_journal_is_gone_on_with.ensures plan port now found asked before journal time can left finds in
     let e : Ends = behind gone.log before gone.notes (anew found state) in (
       log_now e,
-      c.a_session_keeps_the_headline.ensures.headline plan from settings port asked e wire last recorder end turns below _ can gone.joined
+      c.a_session_keeps_the_headline.ensures.headline plan from settings port asked e wire last recorder count signs end turns below _ can gone.joined
           (ready plan rows) tried (served_behind gone.log before gone.notes found state turns below since served)
-          (carried_behind plan port.state.unit (anew found state) gone.log before gone.notes carried),
+          (carried_behind port.state.unit (anew found state) gone.log before gone.notes carried),
     )

@@ -6,12 +6,13 @@ use Rattle.vdcp_operator.proofs.hand.Hand.ask_until.Goals as goal
 use Rattle.vdcp_operator.specs.Hands.{unasked, once_more}
 
 pub asks-init : goal.asks-init
-asks-init g c = record { held = refl; start = refl; paces = paces_nothing _; left = leaves_nothing _ _; asked = unasked }
+asks-init g c = record { held = refl; start = refl; commands = refl; paces = paces_nothing _; left = leaves_nothing _ _; asked = unasked }
 
 pub asks-preserved : goal.asks-preserved
 asks-preserved g c = record {
   held = cc c.wait_piece.ensures.rest;
   start = cc c.wait_piece.ensures.rest;
+  commands = cc c.wait_piece.ensures.rest;
   paces = paces_on None _ _ _ c.asks.invariant.paces (rw c.next.ensures.polling at c.wait_piece.ensures.paces);
   left = leaves_on _ _ _ _ c.asks.invariant.left (rw c.wait_piece.ensures.rest c.next.ensures.leaves);
   asked = rw c.wait_piece.ensures.rest (once_more c.asks.invariant.asked c.in-None.ensures.next);

@@ -10,7 +10,8 @@ abbrev pub invariant-asks : goal.invariant-asks
 invariant-asks g l = record {
   held : l.self.held ≡ l.initial.self.held;
   start : l.self.start ≡ l.initial.self.start;
+  commands : l.self.commands ≡ l.initial.self.commands;
   paces : Paces None l.initial.self.polling l.self.polling;
   left : LeavesOutAhead (ahead_of g.S.Source.items l.controller) l.initial.self.left_out l.self.left_out;
-  asked : Asks g.S.Source.items g.I.Read.remaining l.controller l.initial.self.page l.initial.self.typed None l.self.page l.self.typed;
+  asked : Asks g.S.Source.items g.I.Read.remaining l.controller l.initial.self.holds l.initial.self.page l.initial.self.typed None l.self.holds l.self.page l.self.typed;
 }

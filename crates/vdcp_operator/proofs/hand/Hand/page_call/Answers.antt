@@ -1,6 +1,7 @@
+use Rattle.std.proofs.Common.{refl}
 use Rattle.vdcp_operator.proofs.hand.Hand.page_call.Goals as goal
 
 pub returns-clause-page : goal.returns-clause-page
 returns-clause-page g c =
     rw c.in-Some.is
-    (c.args.self.now.commands, c.millis_of-start.result, c.show.new.self, c.show.ensures, c.next_call.ensures.rest, c.next_call.ensures.calls, c.next_call.ensures.none)
+    (_, refl, c.show.new.self, c.show.ensures, c.next_call.ensures.rest, c.next_call.ensures.calls, c.next_call.ensures.none)

@@ -8,7 +8,7 @@ pub returns : goal.returns
 returns g c =
     let from : c.number.result ≡ c.args.controller.now.source.from =
     cc (c.number.ensures, c.from.ensures.from, c.source.ensures) in
-    shows g.S.Source.items c.args.controller.now c.args.self.now c.follow-event.new.self _ c.args.«end» c.args.commands c.args.start _
+    shows g.S.Source.items c.args.controller.now c.args.self.now c.follow-event.new.self _ c.args.«end» c.args.hand _
     c.follow-event.ensures.rest
     (record {
       names = ap (λ (p : RunPage). p.names) c.follow-event.ensures.rest;
@@ -22,8 +22,7 @@ returns g c =
       events = cc (c.number-2.ensures, c.len.ensures, c.whole.ensures, c.source-2.ensures);
       round = rw c.as_slice.ensures.value c.follow-event.ensures.round;
       rows = rw c.as_slice.ensures.value c.follow-event.ensures.rows;
-      commands_are = refl;
-      start_is = refl;
+      hand_is = refl;
       down = ap (λ (p : RunPage). p.down) c.follow-event.ensures.rest;
     })
     (record {

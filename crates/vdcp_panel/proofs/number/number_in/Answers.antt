@@ -3,8 +3,8 @@ use Rattle.std.proofs.lemmas.Fmt.{IsAscii-decimal, parse-decimal}
 use Rattle.std.proofs.lemmas.Str.{IsUtf8-from_ascii}
 use Rattle.std.specs.Prelude.{decimal}
 use Rattle.std.specs.Str.{IsUtf8}
-use Rattle.vdcp_operator.proofs.Numbers.{differ, reads_none, reads_number, same_unless}
-use Rattle.vdcp_operator.proofs.typed.number_in.Goals as goal
+use Rattle.vdcp_panel.proofs.Numbers.{differ, reads_none, reads_number, same_unless}
+use Rattle.vdcp_panel.proofs.number.number_in.Goals as goal
 
 pub returns-in_default : goal.returns-in_default
 returns-in_default c = reads_none c.args.digits.now (λ n small e.

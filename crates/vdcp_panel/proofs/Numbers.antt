@@ -5,7 +5,7 @@ use Rattle.std.proofs.lemmas.Fmt.{decimal_is_IsNumeral}
 use Rattle.std.specs.Cmp.Lexicographic.{bytes_decides}
 use Rattle.std.specs.Prelude.{bytes_eq, decimal, if◌then◌else◌, nat_lt, not}
 use Rattle.std.specs.Str.Parse.{digits_value}
-use Rattle.vdcp_operator.specs.Typed.{number_in}
+use Rattle.vdcp_panel.specs.Numbers.{number_in}
 
 abbrev writes : List ℕ → ℕ → Bool
 writes digits n = nat_lt n (2 ^ 64) && bytes_eq digits (decimal n)

@@ -1,5 +1,5 @@
 use Rattle.std.proofs.Common.{rules}
-use Rattle.vdcp_run.proofs.session.close.Goals as goal
+use Rattle.vdcp_run.proofs.stretch.close.Goals as goal
 
 pub returns-in-Ok-2 : goal.returns-in-Ok-2
 returns-in-Ok-2 g c =
