@@ -12,8 +12,9 @@ use Rattle.vdcp_auto.specs.Log.{is_answered, is_play}
 use Rattle.vdcp_auto.specs.Settled.{has_open_play, may_have_aired, settled, settles, tells_of_play}
 use Rattle.vdcp_auto.specs.declared.exchange.Exchange.{Exchange}
 use Rattle.vdcp_auto.specs.declared.phase.Mode.{Mode}
-use Rattle.vdcp_journal.specs.Airings.{AreAirings, FoundSoFar, IsAiring, IsLastPlayIf, announces_after, announces_from, asked_after, asks_play, end_in, ended_by, ended_from, is_play_row, sends_play, settled_in, unsettled_event}
+use Rattle.vdcp_journal.specs.Airings.{AreAirings, FoundSoFar, IsAiring, IsLastPlayIf, announces_after, announces_from, asked_after, asks_play, end_in, ended_by, ended_from, is_play_row, may_have_played, sends_play, settled_in, unsettled_event}
 use Rattle.vdcp_journal.specs.Resume.{ended_at, exchange_with, log_from, log_of, open_after}
+use Rattle.vdcp_journal.specs.Runs.{Run}
 use Rattle.vdcp_journal.specs.declared.airings.Airing.{Airing}
 use Rattle.vdcp_journal.specs.declared.airings.AiringsSoFar.{AiringsSoFar}
 use Rattle.vdcp_journal.specs.declared.moment.Moment.{Moment}
@@ -107,20 +108,21 @@ shown_is : SettledGrows → (mode : Mode) (rows : List Row) → settled_in mode 
 shown_is law mode rows = ap (settled mode) (log_is None rows) ∙ silent_settled law mode (ended_in rows) (asked_in rows)
 
 -- and those and the command that is open say which event may have aired besides
-pub unsettled_is : {S : Type 0} (items : S → List Item) → SettledGrows → AiringGrows → (mode : Mode) (rows : List Row)
-    (so_far : AiringsSoFar S) → FoundSoFar items mode rows so_far
-    → (if (asks_play so_far.asked || so_far.judge.may_have_aired) || so_far.announced
-    then Some so_far.judge.settled else None) ≡ unsettled_event mode rows
-unsettled_is items law airs mode rows so_far found =
+pub unsettled_is : {S : Type 0} (items : S → List Item) → SettledGrows → AiringGrows → (mode : Mode) (run : Run) (left : Bool)
+    (so_far : AiringsSoFar S) → FoundSoFar items mode run.rows so_far → run.left ≡ left
+    → (if (asks_play so_far.asked || so_far.judge.may_have_aired) || (so_far.announced && not left)
+    then Some so_far.judge.settled else None) ≡ unsettled_event mode run
+unsettled_is items law airs mode run left so_far found left_is =
+    let rows = run.rows in
     let log = ended_in rows in
     let has = found.knows.airing ∙ ap (λ m. may_have_aired m log) found.mode_is in
     let count = found.knows.settled ∙ ap (λ m. settled m log) found.mode_is in
     let may : (asks_play so_far.asked || so_far.judge.may_have_aired) ≡ may_have_aired mode (log_of rows) =
     ap₂ (λ c b. asks_play c || b) found.asked_is has
     ∙ sym (ap (may_have_aired mode) (log_is None rows) ∙ silent_airing airs mode log (asked_in rows)) in
-    ap₂ (λ (a b : Bool). if a || b then Some so_far.judge.settled else None) may found.announced_is
-    ∙ ap (λ n. if may_have_aired mode (log_of rows) || announces_from false rows then Some n else None)
-    (count ∙ sym (shown_is law mode rows))
+    ap₂ (λ (a b : Bool). if a || b then Some so_far.judge.settled else None) may
+    (ap₂ (λ (a b : Bool). a && not b) found.announced_is (sym left_is))
+    ∙ ap (λ n. if may_have_played mode run then Some n else None) (count ∙ sym (shown_is law mode rows))
 
 -- What one row more shows.
 
@@ -229,7 +231,7 @@ played_on rows row false (Some time) is h = record {
 
 -- The ends of airings.
 
-end_more : (rows : List Row) (row : Row) → end_in (rows ++ row ∷ []) ≡ option_or (end_in rows) (end_in (row ∷ []))
+pub end_more : (rows : List Row) (row : Row) → end_in (rows ++ row ∷ []) ≡ option_or (end_in rows) (end_in (row ∷ []))
 end_more [] row = refl
 end_more (first ∷ rows) row =
     let rest = end_more rows row in
@@ -263,7 +265,7 @@ Are mode rows airings =
     (k : ℕ) (airing : Airing) → slice_get airings k ≡ Some airing → IsAiring mode rows k airing
 
 more_rows : (mode : Mode) (rows : List Row) (row : Row) (k : ℕ) (airing : Airing) → IsAiring mode rows k airing
-    → IsAiring mode (rows ++ row ∷ []) k (ended_by row airing)
+    → IsAiring mode (rows ++ row ∷ []) k (ended_by (end_in (row ∷ [])) airing)
 more_rows mode rows row k airing h = record {
   before = h.before;
   play = h.play;
@@ -282,7 +284,7 @@ more_rows mode rows row k airing h = record {
   ended = ap (λ t. option_or t (end_in (row ∷ []))) h.ended ∙ sym (end_more (h.settling ∷ h.after) row);
 }
 
-stays : (airing : Airing) (row : Row) → airing.ended ≢ None → ended_by row airing ≡ airing
+stays : (airing : Airing) (row : Row) → airing.ended ≢ None → ended_by (end_in (row ∷ [])) airing ≡ airing
 stays airing row some = grind arith
 
 -- what stands in a list after a write was written, or stood there
@@ -297,7 +299,7 @@ some_last a (b ∷ airings) = some_last b airings
 -- what a row leaves of the airings so far, of which all but the last have ended
 pub record Noted (row : Row) (airings airings' : List Airing) : Type 0 where
   pub last : (k : ℕ) (last : Airing) → length airings ≡ k + 1 → slice_get airings k ≡ Some last
-      → airings' ≡ slice_set airings k (ended_by row last)
+      → airings' ≡ slice_set airings k (ended_by (end_in (row ∷ [])) last)
   pub none : airings ≡ [] → airings' ≡ []
 
 noted : SettledGrows → OpenGrows → (mode : Mode) (rows : List Row) (row : Row) (airings airings' : List Airing)
@@ -312,7 +314,7 @@ noted law opens mode rows row (a ∷ airings) airings' are one_each n =
     let size : length old ≡ place + 1 = omega arith in
     let is = n.last place last.0 size last.1 in
     let found = λ (k : ℕ) (airing : Airing) (at : slice_get airings' k ≡ Some airing).
-    found_set old place k (ended_by row last.0) airing (ap (λ l. slice_get l k) (sym is) ∙ at) in (
+    found_set old place k (ended_by (end_in (row ∷ [])) last.0) airing (ap (λ l. slice_get l k) (sym is) ∙ at) in (
       λ k airing at. elim (found k airing at) [
         | inl w ↦ subst (λ (n : ℕ). IsAiring mode (rows ++ row ∷ []) n airing) w.0
             (subst (IsAiring mode (rows ++ row ∷ []) place) w.1
@@ -324,7 +326,7 @@ noted law opens mode rows row (a ∷ airings) airings' are one_each n =
             subst (IsAiring mode (rows ++ row ∷ []) k) (stays airing row has_ended)
             (more_rows mode rows row k airing here)
       ],
-      ap length is ∙ length-set old place (ended_by row last.0),
+      ap length is ∙ length-set old place (ended_by (end_in (row ∷ [])) last.0),
     )
 
 -- what stands in a longer list stood in the shorter one, or is the last
@@ -399,11 +401,11 @@ added law opens mode rows row played airings airings' last one_each are a =
 
 -- the airings after one row more
 pub airings_more : SettledGrows → OpenGrows → (mode : Mode) (rows : List Row) (row : Row) (played : Option Moment)
-    (airings airings' airings'' : List Airing) (count : ℕ) (event : Option ℕ) → AreAirings mode rows airings event
+    (airings airings' airings'' : List Airing) (count : ℕ) → AreAirings mode rows airings
     → IsLastPlayIf rows played → Noted row airings airings' → count ≡ settled mode (ended_in (rows ++ row ∷ []))
     → Added played row count airings' airings''
-    → AreAirings mode (rows ++ row ∷ []) airings'' (unsettled_event mode (rows ++ row ∷ []))
-airings_more law opens mode rows row played airings airings' airings'' count event h last n count_is a =
+    → AreAirings mode (rows ++ row ∷ []) airings''
+airings_more law opens mode rows row played airings airings' airings'' count h last n count_is a =
     let one_each = h.one_each ∙ shown_is law mode rows in
     let old = noted law opens mode rows row airings airings' h.are one_each n in
     let new = added law opens mode rows row played airings' airings'' last (old.1 ∙ one_each) old.0
@@ -411,7 +413,6 @@ airings_more law opens mode rows row played airings airings' airings'' count eve
     record {
       one_each = new.1 ∙ sym (shown_is law mode (rows ++ row ∷ []));
       are = new.0;
-      besides = refl;
     }
 
 -- what is announced after one row more

@@ -150,6 +150,7 @@ note_plain v unit (note.Heard (heard.Reply r)) h =
     (refl, (reply_plain v r, (encoded (spelling (reply_message unit r)), tt)))
 note_plain v unit (note.End outcome) h = (refl, outcome_plain outcome h)
 note_plain v unit (note.From k) h = (refl, (numeral k h, (refl, tt)))
+note_plain v unit (note.Left k) h = (refl, (numeral k h, (refl, tt)))
 note_plain v unit other h = (refl, (refl, (refl, tt)))
 
 -- only what is no reply has no digits

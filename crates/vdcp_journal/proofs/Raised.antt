@@ -130,6 +130,7 @@ ends_so plan (row ∷ rows) s outcome is =
 only_lost : (plan plan' : Plan) (n : Note) (s t : State) → s.stage ≡ Ended Lost → Tells plan s n → Tells plan' t n
 only_lost plan plan' (note.End Lost) s t is tells = tt
 only_lost plan plan' (note.From k) s t is tells = absurd tells
+only_lost plan plan' (note.Left k) s t is tells = absurd tells
 only_lost plan plan' other s t is tells = cc
 
 all_lost : (plan plan' : Plan) (rows : List Row) (s t : State) → s.stage ≡ Ended Lost → AreTold plan s rows
@@ -149,6 +150,7 @@ lost_if o outcome is (inr lost) = cc
 told_alike : (plan : Plan) (limit : ℕ) (n : Note) (s : State) → Tells plan s n → Tells (raised limit plan) s n
 told_alike plan limit (note.End Lost) s tells = tt
 told_alike plan limit (note.From k) s tells = absurd tells
+told_alike plan limit (note.Left k) s tells = absurd tells
 told_alike plan limit other s tells = tells
 
 after_one : (plan : Plan) (limit : ℕ) (rows : List Row) (s t : State) → AreTold plan s rows

@@ -113,6 +113,7 @@ awaits_none plan came s outcome is ends = cc
 tells_going_by : (plan : Plan) (n : Note) (call : Call) (s : State) (outcome : Outcome) → call_of n ≡ Some call
     → Tells plan s n → s.stage ≡ Ended outcome → ⊥
 tells_going_by plan (note.From k) call s outcome is tells ended = tells
+tells_going_by plan (note.Left k) call s outcome is tells ended = tells
 tells_going_by plan other call s outcome is tells ended = cc
 
 same_of : (s t : State) → ((outcome : Outcome) → s.stage ≡ Ended outcome → ⊥) → EndedOr s t → t ≡ s

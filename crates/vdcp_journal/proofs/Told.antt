@@ -129,6 +129,7 @@ reaches_row plan note.Take rows more s log asked r is tells told = more (taken s
 reaches_row plan note.Stop rows more s log asked r is tells told = more (stopped s) log asked (called r Stop) is told
 reaches_row plan (note.End outcome) rows more s log asked r is tells told = more s log asked r is told
 reaches_row plan (note.From k) rows more s log asked r is tells told = absurd tells
+reaches_row plan (note.Left k) rows more s log asked r is tells told = absurd tells
 
 pub reaches : (plan : Plan) (rows : List Row) → Reaches plan rows
 reaches plan [] = reaches_none plan

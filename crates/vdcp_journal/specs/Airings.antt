@@ -1,7 +1,7 @@
 -- When the events that a journal's rows report aired, and which event may have aired besides.
 use Rattle.std.specs.List.{list_any}
 use Rattle.std.specs.Option.{option_or}
-use Rattle.std.specs.Prelude.{◌≡◌, ℕ, ◌+◌, ◌||◌, ◌&&◌, Bool, false, IsTrue, Option, None, Some, List, [], ◌∷◌, ◌++◌, if◌then◌else◌, length, slice_get}
+use Rattle.std.specs.Prelude.{◌≡◌, ℕ, ◌+◌, ◌||◌, ◌&&◌, Bool, false, not, IsTrue, Option, None, Some, List, [], ◌∷◌, ◌++◌, if◌then◌else◌, length, slice_get}
 use Rattle.vdcp_auto.specs.Commands.{is_play_command, is_status_command, is_stop_command}
 use Rattle.vdcp_auto.specs.Judging.{Knows}
 use Rattle.vdcp_auto.specs.Log.{hears}
@@ -10,6 +10,7 @@ use Rattle.vdcp_auto.specs.Settled.{may_have_aired, settled}
 use Rattle.vdcp_auto.specs.declared.exchange.Exchange.{Exchange}
 use Rattle.vdcp_auto.specs.declared.phase.Mode.{Mode}
 use Rattle.vdcp_journal.specs.Resume.{ended_at, log_of, open_after}
+use Rattle.vdcp_journal.specs.Runs.{Run}
 use Rattle.vdcp_journal.specs.declared.airings.Airing.{Airing}
 use Rattle.vdcp_journal.specs.declared.airings.AiringsSoFar.{AiringsSoFar}
 use Rattle.vdcp_journal.specs.declared.moment.Moment.{Moment}
@@ -59,9 +60,9 @@ pub record IsAiring (mode : Mode) (rows : List Row) (k : ℕ) (airing : Airing) 
   pub known : airing.known ≡ settling.time
   pub ended : airing.ended ≡ end_in (settling ∷ after)
 
--- an airing after one more row
-abbrev pub ended_by : Row → Airing → Airing
-ended_by row airing = record airing { ended = option_or airing.ended (end_in (row ∷ [])) }
+-- an airing, if this row is the first behind its rows that shows an end, or none is
+abbrev pub ended_by : Option Row → Airing → Airing
+ended_by end airing = record airing { ended = option_or airing.ended end }
 
 -- after a note: a state was heard with the cue done and a clip playing, and since then at the most that this has ended. It
 -- announces a PLAY, which may have gone out before its row was safe
@@ -74,19 +75,18 @@ abbrev pub announces_from : Bool → List Row → Bool
 announces_from before [] = before
 announces_from before (row ∷ rows) = announces_from (announces_after before row.note) rows
 
--- one event more than the rows show may have aired: by its PLAY, or one that is announced
-abbrev pub may_have_played : Mode → List Row → Bool
-may_have_played mode rows = may_have_aired mode (log_of rows) || announces_from false rows
+-- one event more than a run's rows show may have aired: by its PLAY, or one that is announced, unless the operator left the run
+abbrev pub may_have_played : Mode → Run → Bool
+may_have_played mode run = may_have_aired mode (log_of run.rows) || (announces_from false run.rows && not run.left)
 
 -- the event that may have aired besides, if one may: the first that isn't settled
-abbrev pub unsettled_event : Mode → List Row → Option ℕ
-unsettled_event mode rows = if may_have_played mode rows then Some (settled_in mode rows) else None
+abbrev pub unsettled_event : Mode → Run → Option ℕ
+unsettled_event mode run = if may_have_played mode run then Some (settled_in mode run.rows) else None
 
--- these are the airings of the events that the rows show to be aired, and the event that may have aired besides
-pub record AreAirings (mode : Mode) (rows : List Row) (airings : List Airing) (event : Option ℕ) : Type 0 where
+-- these are the airings of the events that the rows show to be aired
+pub record AreAirings (mode : Mode) (rows : List Row) (airings : List Airing) : Type 0 where
   pub one_each : length airings ≡ settled_in mode rows
   pub are : (k : ℕ) (airing : Airing) → slice_get airings k ≡ Some airing → IsAiring mode rows k airing
-  pub besides : event ≡ unsettled_event mode rows
 
 -- the command that is open after rows, if this one was open before them
 abbrev pub asked_after : Option Command → List Row → Option Command
@@ -126,4 +126,5 @@ pub record FoundSoFar {S : Type 0} (items : S → List Item) (mode : Mode) (rows
   pub asked_is : so_far.asked ≡ asked_after None rows
   pub announced_is : so_far.announced ≡ announces_from false rows
   pub played : IsLastPlayIf rows so_far.played
-  pub are : AreAirings mode rows so_far.airings.items (unsettled_event mode rows)
+  pub first_end_is : so_far.first_end ≡ end_in rows
+  pub are : AreAirings mode rows so_far.airings.items

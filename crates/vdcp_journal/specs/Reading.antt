@@ -49,6 +49,7 @@ IsWritableNote (note.Sent c) = IsWritableCommand c
 IsWritableNote (note.Heard (heard.Reply r)) = IsWritableReply r
 IsWritableNote (note.End outcome) = IsWritableOutcome outcome
 IsWritableNote (note.From k) = k < 2 ^ 64
+IsWritableNote (note.Left k) = k < 2 ^ 64
 IsWritableNote n = ⊤
 
 abbrev pub AreWritable : List Row → Type 0

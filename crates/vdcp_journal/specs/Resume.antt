@@ -24,6 +24,7 @@ call_of note.Take = Some Take
 call_of note.Stop = Some Stop
 call_of (note.End outcome) = None
 call_of (note.From k) = None
+call_of (note.Left k) = None
 
 abbrev pub after_call_if : Plan → Option Call → State → State
 after_call_if plan None state = state
@@ -46,6 +47,7 @@ Tells plan state note.Stop = outcome_of state.stage ≡ None
 Tells plan state (note.End Lost) = ⊤
 Tells plan state (note.End outcome) = outcome_of state.stage ≡ Some outcome
 Tells plan state (note.From k) = ⊥
+Tells plan state (note.Left k) = ⊥
 
 -- each row tells what the controller does there
 abbrev pub AreTold : Plan → State → List Row → Type 0

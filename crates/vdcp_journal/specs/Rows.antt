@@ -45,6 +45,7 @@ note_fields unit note.Take = codes "take" ∷ [] ∷ [] ∷ []
 note_fields unit note.Stop = codes "stop" ∷ [] ∷ [] ∷ []
 note_fields unit (note.End outcome) = codes "end" ∷ outcome_fields outcome
 note_fields unit (note.From k) = codes "from" ∷ decimal k ∷ [] ∷ []
+note_fields unit (note.Left k) = codes "left" ∷ decimal k ∷ [] ∷ []
 
 -- these bytes carry the note's command to the unit, if it is of a command
 abbrev pub AreBytesOf : ℕ → List ℕ → Note → Type 0

@@ -71,6 +71,7 @@ heard_after before note.Take = None
 heard_after before note.Stop = None
 heard_after before (note.End outcome) = None
 heard_after before (note.From k) = None
+heard_after before (note.Left k) = None
 
 abbrev pub heard_from : Option Heard → List Note → Option Heard
 heard_from before [] = before

@@ -7,6 +7,7 @@ ghost use Rattle.vdcp_auto.specs.declared.exchange.Exchange.{Exchange};
 ghost use Rattle.vdcp_auto.specs.declared.phase.Mode.{Mode};
 ghost use Rattle.vdcp_journal.specs.Airings.{AreAirings, FoundSoFar, announces_after, asks_play, end_in, ended_by, is_play_row, shows_end, unsettled_event};
 ghost use Rattle.vdcp_journal.specs.Resume.{ended_at, exchange_with, open_after};
+ghost use Rattle.vdcp_journal.specs.Runs.{Run};
 ghost use Rattle.vdcp_journal.specs.Times.{end_at, end_shown};
 ghost use Rattle.vdcp_journal.specs.declared.row.Row.{Row};
 
@@ -28,6 +29,18 @@ pub struct Airing {
     pub known: Moment,
     /// The row that first shows its end: nothing plays any more, or the next PLAY or a STOP goes out.
     pub ended: Option<Row>,
+}
+
+impl Airing {
+    /// If no row showed the end so far, this one does, if there is one.
+    pub fn ended_by(self, row: Option<Row>) -> Self
+        ensures { result ≡ ended_by row self }
+    {
+        Airing {
+            ended: self.ended.or(row),
+            ..self
+        }
+    }
 }
 
 impl Timed for Airing {
@@ -80,8 +93,7 @@ fn end_shown<'a>(note: &Note) -> &'a str
         Note::Heard(_) => "ran out",
         Note::Sent(Command::Play) => "cut by a take",
         Note::Sent(Command::Stop) => "stopped",
-        Note::Sent(_) | Note::Silence | Note::Take | Note::Stop | Note::End(_) | Note::From(_) =>
-            "not seen",
+        _ => "not seen",
     }
 }
 
@@ -90,8 +102,10 @@ pub struct Airings {
     /// One of each reported event, in order.
     pub airings: Vec<Airing>,
     /// The event that may have aired besides: its PLAY went out and nothing has settled it since, or a state announces its
-    /// PLAY, which may have gone out without a row.
+    /// PLAY, which may have gone out without a row unless the operator left the run.
     pub unsettled: Option<usize>,
+    /// The row that first shows an end of what is on air, also of what was before the run.
+    pub first_end: Option<Row>,
 }
 
 /// Finds when the events of a run aired, from its rows one by one.
@@ -104,6 +118,7 @@ pub struct AiringsSoFar<S: Source> {
     // Whether the last rows announce a PLAY.
     announced: bool,
     played: Option<Moment>,
+    first_end: Option<Row>,
     airings: Vec<Airing>,
 }
 
@@ -117,6 +132,7 @@ impl<S: Source + Drop> AiringsSoFar<S> {
             asked: None,
             announced: false,
             played: None,
+            first_end: None,
             airings: Vec::new(alloc),
         }
     }
@@ -128,30 +144,38 @@ impl<S: Source + Drop> AiringsSoFar<S> {
     {
         a_log_grows();
         follow(&mut self.judge, &mut self.asked, &row.note);
-        note_end(&mut self.airings, row);
+        let end = end_in(row);
+        note_end(&mut self.airings, end);
         let settled = self.judge.settled();
-        add_airing(&mut self.airings, settled, self.played, row)?;
+        add_airing(&mut self.airings, settled, self.played, row.time, end)?;
+        self.first_end = self.first_end.or(end);
         self.played = last_play(self.played, row);
         self.announced = announces_after(self.announced, &row.note);
         Ok(())
     }
 
+    /// `left` says whether the operator left the run: then no PLAY went out without a row.
     #[tactic(auto, using(crate::proofs::AiringSteps::unsettled_is))]
-    pub fn unsettled(&self) -> Option<usize>
-        ensures { (mode : Mode) (rows : List Row) → FoundSoFar S.items mode rows self.now →
-            result ≡ unsettled_event mode rows }
+    pub fn finish(self, left: bool) -> Airings
+        ensures are { (mode : Mode) (rows : List Row) → FoundSoFar S.items mode rows self →
+            AreAirings mode rows result.airings.items }
+        ensures unsettled { (mode : Mode) (run : Run) → FoundSoFar S.items mode run.rows self → run.left ≡ left →
+            result.unsettled ≡ unsettled_event mode run }
+        ensures first_end { (mode : Mode) (rows : List Row) → FoundSoFar S.items mode rows self →
+            result.first_end ≡ end_in rows }
     {
         a_log_grows();
-        unsettled_event(&self.judge, self.asked, self.announced)
-    }
-
-    pub fn finish(self) -> Airings
-        ensures { (mode : Mode) (rows : List Row) → FoundSoFar S.items mode rows self →
-            AreAirings mode rows result.airings.items result.unsettled }
-    {
-        let unsettled = self.unsettled();
-        let AiringsSoFar { airings, .. } = self;
-        Airings { airings, unsettled }
+        let unsettled = unsettled_event(&self.judge, self.asked, self.announced && !left);
+        let AiringsSoFar {
+            airings,
+            first_end,
+            ..
+        } = self;
+        Airings {
+            airings,
+            unsettled,
+            first_end,
+        }
     }
 }
 
@@ -165,7 +189,7 @@ fn follow<S: Source>(judge: &mut Judge<S>, asked: &mut Option<Command>, note: &N
         Note::Sent(command) => *asked = Some(*command),
         Note::Heard(heard) => end(judge, asked, Some(*heard)),
         Note::Silence => end(judge, asked, None),
-        Note::Take | Note::Stop | Note::End(_) | Note::From(_) => {}
+        Note::Take | Note::Stop | Note::End(_) | Note::From(_) | Note::Left(_) => {}
     }
 }
 
@@ -181,51 +205,49 @@ fn end<S: Source>(judge: &mut Judge<S>, asked: &mut Option<Command>, heard: Opti
     *asked = None;
 }
 
-// If more events are settled than have an airing, this row has settled one.
+// If more events are settled than have an airing, the row of this time has settled one, which `end` says if it shows its end.
 fn add_airing(
     airings: &mut Vec<Airing>,
     settled: usize,
     played: Option<Moment>,
-    row: &Row,
+    known: Moment,
+    end: Option<Row>,
 ) -> Result<(), AllocError>
     ensures same { OnOk result (settled ≤ length airings.old.items → airings.new.items ≡ airings.old.items) }
     ensures more { OnOk result (length airings.old.items < settled → (play : Moment) → played ≡ Some play →
         airings.new.items ≡ airings.old.items
-        ++ record { played = play; known = row.now.time; ended = end_in (row.now ∷ []) } ∷ []) }
+        ++ record { played = play; known = known; ended = end } ∷ []) }
 {
     match played {
         Some(played) if airings.len() < settled => {
-            let airing = Airing {
+            airings.push(Airing {
                 played,
-                known: row.time,
-                ended: None,
-            };
-            airings.push(ended_by(airing, row))?;
+                known,
+                ended: end,
+            })?;
         }
         _ => {}
     }
     Ok(())
 }
 
-fn note_end(airings: &mut Vec<Airing>, row: &Row)
+fn note_end(airings: &mut Vec<Airing>, end: Option<Row>)
     ensures last { (k : ℕ) (last : Airing) → length airings.old.items ≡ k + 1 → slice_get airings.old.items k ≡ Some last →
-        airings.new.items ≡ slice_set airings.old.items k (ended_by row.now last) }
+        airings.new.items ≡ slice_set airings.old.items k (ended_by end last) }
     ensures none { airings.old.items ≡ [] → airings.new.items ≡ [] }
 {
     if let Some(place) = airings.len().checked_sub(1) {
-        airings[place] = ended_by(airings[place], row);
+        airings[place] = airings[place].ended_by(end);
     }
 }
 
-fn ended_by(airing: Airing, row: &Row) -> Airing
-    ensures { result ≡ ended_by row.now airing }
+fn end_in(row: &Row) -> Option<Row>
+    ensures { result ≡ end_in (row.now ∷ []) }
 {
-    match airing.ended {
-        None if shows_end(&row.note) => Airing {
-            ended: Some(*row),
-            ..airing
-        },
-        _ => airing,
+    if shows_end(&row.note) {
+        Some(*row)
+    } else {
+        None
     }
 }
 
@@ -235,7 +257,7 @@ fn shows_end(note: &Note) -> bool
     match note {
         Note::Sent(command) => matches!(command, Command::Play | Command::Stop),
         Note::Heard(heard) => hears_idle(heard),
-        Note::Silence | Note::Take | Note::Stop | Note::End(_) | Note::From(_) => false,
+        _ => false,
     }
 }
 
@@ -255,7 +277,7 @@ fn announces_after(before: bool, note: &Note) -> bool
     match note {
         Note::Sent(command) => matches!(command, Command::Status(_)) && before,
         Note::Heard(heard) => hears_done(heard) && (hears_playing(heard) || before),
-        Note::Silence | Note::Take | Note::Stop | Note::End(_) | Note::From(_) => false,
+        _ => false,
     }
 }
 

@@ -61,6 +61,10 @@ pub(crate) fn fields_of<'a>(
             push_number(&mut text, *event);
             "from"
         }
+        Note::Left(event) => {
+            push_number(&mut text, *event);
+            "left"
+        }
     };
     NoteFields { word, text, detail }
 }

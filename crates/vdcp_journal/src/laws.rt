@@ -13,7 +13,7 @@ ghost use Rattle.vdcp_journal.specs.Airings.{settled_in};
 ghost use Rattle.vdcp_journal.specs.Resume.{AreTold, MayGoOn, after_rows, log_of, timed_out};
 ghost use Rattle.vdcp_journal.specs.Reading.{AreWritable, IsWritableHeading, whole_lines};
 ghost use Rattle.vdcp_journal.specs.Rows.{journal_fields, journal_text};
-ghost use Rattle.vdcp_journal.specs.Runs.{begins_at, ended_in, ended_runs, last_run, run_after, runs_of};
+ghost use Rattle.vdcp_journal.specs.Runs.{begins_at, ended_in, ended_runs, last_run, leaves, run_after, runs_of};
 ghost use Rattle.vdcp_journal.specs.Mending.{announced_state};
 ghost use Rattle.vdcp_journal.specs.Thinned.{AreThinned, hears_done, hears_free};
 ghost use Rattle.vdcp_journal.specs.declared.moment.Moment.{Moment};
@@ -44,13 +44,14 @@ pub fn a_greater_limit_tells_the_same()
         AreTold (record plan { limit = limit }) start rows }
 {}
 
-/// The runs of a journal follow one another: a row belongs to the last run, or begins another after it.
+/// The runs of a journal follow one another: a row belongs to the last run, which nobody has left, or begins another after it.
 pub fn runs_follow_one_another()
     ensures all { (rows : List Row) → runs_of rows ≡ ended_in rows ++ last_run rows ∷ [] }
     ensures goes_on { (rows : List Row) (row : Row) → last_run (rows ++ row ∷ [])
         ≡ run_after (begins_at row.note) row (last_run rows) }
     ensures ends { (rows : List Row) (row : Row) → ended_in (rows ++ row ∷ [])
-        ≡ ended_in rows ++ ended_runs (begins_at row.note) (last_run rows) }
+        ≡ ended_in rows ++ ended_runs (begins_at row.note) (leaves row.note) (last_run rows) }
+    ensures stays { (rows : List Row) → (last_run rows).left ≡ false }
     ensures counts { (rows : List Row) → (last_run rows).begin + length (last_run rows).rows ≡ length rows }
 {}
 

@@ -36,7 +36,7 @@ pub use moment::Moment;
 pub use read::JournalRows;
 pub use replay::{Resumed, RunSoFar};
 pub use row::{Heading, Note, Row};
-pub use runs::begins_at;
+pub use runs::{begins_at, leaves};
 pub use size::size_of_lines;
 pub use whole::WholeLines;
 pub use write::{write_heading, write_row};

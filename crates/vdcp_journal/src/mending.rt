@@ -140,7 +140,6 @@ pub fn heard_after(before: Option<Heard>, note: &Note) -> Option<Heard>
     match note {
         Note::Sent(Command::Status(_)) => before,
         Note::Heard(heard) => Some(*heard),
-        Note::Sent(_) | Note::Silence | Note::Take | Note::Stop | Note::End(_) | Note::From(_) =>
-            None,
+        _ => None,
     }
 }

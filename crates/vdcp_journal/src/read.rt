@@ -39,7 +39,7 @@ fn fault_of(word: &[u8]) -> JournalRowFault
         b"sent" => JournalRowFault::Command,
         b"heard" => JournalRowFault::Reply,
         b"end" => JournalRowFault::Outcome,
-        b"from" => JournalRowFault::Event,
+        b"from" | b"left" => JournalRowFault::Event,
         b"silence" | b"take" | b"stop" => JournalRowFault::Detail,
         _ => JournalRowFault::Word,
     }

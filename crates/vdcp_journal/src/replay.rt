@@ -217,7 +217,7 @@ fn goes_on<S: Source>(controller: &mut Controller<S>, note: &Note) -> bool
         Note::End(Outcome::Lost) => true,
         Note::End(outcome) => controller.outcome() == Some(*outcome),
         // (no controller goes on as a new one)
-        Note::From(_) => false,
+        Note::From(_) | Note::Left(_) => false,
     }
 }
 
@@ -234,7 +234,7 @@ pub(crate) fn give<S: Source>(controller: &mut Controller<S>, note: &Note)
         Note::Silence => controller.timeout(),
         Note::Take => controller.take(),
         Note::Stop => controller.stop(),
-        Note::End(_) | Note::From(_) => {}
+        Note::End(_) | Note::From(_) | Note::Left(_) => {}
     }
 }
 
@@ -243,9 +243,8 @@ fn fault_of(note: &Note) -> ResumeFault
 {
     match note {
         Note::Sent(_) => ResumeFault::Command,
-        Note::Heard(_) | Note::Silence | Note::Take | Note::Stop | Note::From(_) => {
-            ResumeFault::Unawaited
-        }
+        Note::Heard(_) | Note::Silence | Note::Take | Note::Stop | Note::From(_) | Note::Left(_) =>
+            ResumeFault::Unawaited,
         Note::End(_) => ResumeFault::Outcome,
     }
 }

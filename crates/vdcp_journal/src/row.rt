@@ -35,4 +35,6 @@ pub enum Note {
     End(Outcome),
     /// A new run begins with this event of the list, counted from 0.
     From(usize),
+    /// A new run begins so, and the operator left the one before it: that has a row for each command that went out.
+    Left(usize),
 }

@@ -1,6 +1,6 @@
 //! Where a journal's runs begin.
 ghost use Rattle.std.specs.Prelude.{◌≡◌};
-ghost use Rattle.vdcp_journal.specs.Runs.{begins_at};
+ghost use Rattle.vdcp_journal.specs.Runs.{begins_at, leaves};
 
 use crate::row::Note;
 
@@ -9,7 +9,14 @@ pub fn begins_at(note: &Note) -> Option<usize>
     ensures { result ≡ begins_at note.now }
 {
     match note {
-        Note::From(event) => Some(*event),
+        Note::From(event) | Note::Left(event) => Some(*event),
         _ => None,
     }
+}
+
+/// Whether the operator left the run that ends before this note.
+pub fn leaves(note: &Note) -> bool
+    ensures { result ≡ leaves note.now }
+{
+    matches!(note, Note::Left(_))
 }

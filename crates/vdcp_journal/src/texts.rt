@@ -184,6 +184,7 @@ pub(crate) fn note_in(unit: u8, word: &[u8], text: &[u8], detail: &[u8]) -> Opti
         b"stop" => Some(Note::Stop),
         b"end" => outcome_in(text, detail).map(Note::End),
         b"from" => number_in(text).map(Note::From),
+        b"left" => number_in(text).map(Note::Left),
         _ => None,
     }
 }

@@ -1,28 +1,31 @@
 -- The rows of a journal so far, and what is made of them.
-use Rattle.std.proofs.Common.{ℕ, zero, suc, ◌≡◌, ◌⊎◌, inl, inr, ◌+◌, ◌*◌, ◌≤◌, List, [], ◌∷◌, ◌++◌, ap, arith, length, refl, subst, sym, take, ◌∙◌}
+use Rattle.std.proofs.Common.{ℕ, zero, suc, ◌≡◌, ◌+◌, ◌-◌, ◌*◌, ◌≤◌, ◌||◌, true, false, List, [], ◌∷◌, ◌++◌, ap, ap₂, arith, length, map, refl, subst, sym, take, ◌∙◌}
+use Rattle.std.proofs.lemmas.List.{length-drop}
 use Rattle.std.proofs.Math.Nat.{one-le-mul}
-use Rattle.std.specs.Prelude.{⊤, IfNone, IfOk, IfSome, OnOk, Option, None, Some, Ok, Err, Result, slice_get}
+use Rattle.std.specs.Borrow.{Bor}
+use Rattle.std.specs.Option.{option_or}
+use Rattle.std.specs.Prelude.{⊤, Bool, IfNone, IfSome, Option, None, Some, Ok, Err, Result, if◌then◌else◌, slice_get}
 use Rattle.vdcp_auto.specs.Law.{IsLawful}
-use Rattle.vdcp_auto.specs.declared.phase.Mode.{Mode}
+use Rattle.vdcp_auto.specs.declared.outcome.Outcome.{Outcome}
 use Rattle.vdcp_auto.specs.Plan.{Plan, View, plan_of}
 use Rattle.vdcp_auto.specs.Snapshots.{CanStand, view_of}
 use Rattle.vdcp_auto.specs.State.{State}
 use Rattle.vdcp_auto.specs.declared.exchange.Heard.{Heard}
 use Rattle.vdcp_auto.specs.declared.snapshot.Snapshot.{Snapshot}
-use Rattle.vdcp_auto.specs.Turn.{awaited, start}
-use Rattle.vdcp_journal.specs.Airings.{FoundSoFar, unsettled_event}
-use Rattle.vdcp_journal.specs.Journals.{IsJournal, Journal}
+use Rattle.vdcp_auto.specs.Turn.{awaited, outcome_of, start}
+use Rattle.vdcp_journal.specs.Airings.{end_in, ended_by, settled_in, unsettled_event}
 use Rattle.vdcp_journal.specs.RunsSoFar.{RunView}
 use Rattle.vdcp_journal.specs.Resume.{AllStand, AreTold, IsResumeFault, Stands, after_rows, fault_of, limit_after, log_of, losses, timed_out}
 use Rattle.vdcp_journal.specs.Mending.{last_note}
 use Rattle.vdcp_journal.specs.Runs.{Run, begins_at, last_run, run_after}
 use Rattle.vdcp_journal.specs.Thinned.{heard_after, heard_from, heard_last, notes_in}
-use Rattle.vdcp_journal.specs.declared.airings.AiringsSoFar.{AiringsSoFar}
+use Rattle.vdcp_journal.specs.declared.airings.Airing.{Airing}
 use Rattle.vdcp_journal.specs.declared.faults.JournalReadFault.TheVariants as unread
 use Rattle.vdcp_journal.specs.declared.faults.ResumeFault.{ResumeFault}
 use Rattle.vdcp_journal.specs.declared.row.Heading.{Heading}
 use Rattle.vdcp_journal.specs.declared.row.Row.{Row}
-use Rattle.vdcp_journal_file.specs.Resuming.{Differs, HasStood, IsLastRun, IsMadeOrRefused, IsOther, IsRefused, IsRunOn, IsRunRefused, RunShows, RunsShow, bad_run, falls, no_event, no_journal, of_other, plan_begun, plan_of_run, state_after}
+use Rattle.vdcp_journal_file.specs.Resuming.{EachShowsAlone, EndsSo, FoundSoFar, HasStood, IsMadeOrRefused, IsRefused, IsRunOn, IsRunRefused, RunShows, falls, is_passed_over, next_begin, no_event, no_journal, plan_begun, plan_of_run, plays_on, rows_behind, state_after}
+use Rattle.vdcp_journal_file.specs.declared.reading.FoundRun.{FoundRun}
 use Rattle.vdcp_journal_file.specs.declared.reading.Refusal.{Refusal}
 use Rattle.vdcp_journal_file.specs.declared.reading.RunAirings.{RunAirings}
 use Rattle.vdcp_journal_file.specs.declared.reading.Refusal.TheVariants as refusal
@@ -100,7 +103,7 @@ pub runs_on : {S : Type 0} (items : S → List Item) (wanted : Heading) (list : 
     → resumed ≡ record made.controller
     { state = timed_out (plan_of (items_left items) made.controller) made.controller.state }
     → asked ≡ awaited (plan_of (items_left items) made.controller) made.controller.state
-    → unsettled ≡ unsettled_event wanted.mode run.rows
+    → unsettled ≡ unsettled_event wanted.mode run
     → IsRunOn items wanted list run resumed asked unsettled
 runs_on {S} items wanted list run made resumed asked unsettled law (within, source, of, f) resumed_is asked_is unsettled_is =
     let plan : Plan = plan_of_run wanted list run in
@@ -127,51 +130,134 @@ runs_on {S} items wanted list run made resumed asked unsettled law (within, sour
 
 -- ---- the rows so far
 
--- what is made of the last run
-pub record MadeSoFar {S : Type 0} (items : S → List Item) (heading : Heading) (list : List Item) (run : Run)
-    (made : Result (RunView (FromEvent S)) Refusal) (airings : AiringsSoFar S) : Type 0 where
-  pub is : IsMadeOrRefused items heading list run made
-  pub found : FoundSoFar items heading.mode run.rows airings
+-- that its operator left a run changes nothing of what is made of it
+pub made_left : {S : Type 0} (items : S → List Item) (heading : Heading) (list : List Item) (run : Run) (left : Bool)
+    (made : Result (RunView (FromEvent S)) Refusal) → IsMadeOrRefused items heading list run made
+    → IsMadeOrRefused items heading list (record run { left = left }) made
+made_left items heading list run left (Ok made) is = is
+made_left items heading list run left (Err why) (no_event past is) = no_event past is
+made_left items heading list run left (Err why) (falls k wrong f is) = falls k wrong f is
 
--- a row more, which begins no run
-pub other : {S : Type 0} (items : S → List Item) (heading : Heading) (list : List Item) (rows : List Row) (row : Row)
-    (made : Result (RunView (FromEvent S)) Refusal) (airings : AiringsSoFar S)
-    → last_run (rows ++ row ∷ []) ≡ run_after (begins_at row.note) row (last_run rows) → begins_at row.note ≡ None
-    → IsMadeOrRefused items heading list (record (last_run rows) { rows = (last_run rows).rows ++ row ∷ [] }) made
-    → FoundSoFar items heading.mode ((last_run rows).rows ++ row ∷ []) airings
-    → MadeSoFar items heading list (last_run (rows ++ row ∷ [])) made airings
-other items heading list rows row made airings next none is found =
-    subst (λ (run : Run). MadeSoFar items heading list run made airings)
-    (sym (next ∙ ap (λ (o : Option ℕ). run_after o row (last_run rows)) none)) (record { is = is; found = found })
+-- what is found of the last run, after a row that begins it or doesn't
+pub found_next : {S : Type 0} (items : Bor S → List Item) (heading : Heading) (list : List Item) (rows : List Row) (row : Row)
+    (found : FoundRun S) (begins : Option ℕ) → last_run (rows ++ row ∷ []) ≡ run_after (begins_at row.note) row (last_run rows)
+    → begins_at row.note ≡ begins → FoundSoFar items heading list (run_after begins row (last_run rows)) found
+    → FoundSoFar items heading list (last_run (rows ++ row ∷ [])) found
+found_next items heading list rows row found begins next is so =
+    subst (λ (run : Run). FoundSoFar items heading list run found)
+    (sym (next ∙ ap (λ (o : Option ℕ). run_after o row (last_run rows)) is)) so
 
--- a row that begins another run
-pub begins : {S : Type 0} (items : S → List Item) (heading : Heading) (list : List Item) (rows : List Row) (row : Row) (event : ℕ)
-    (made : Result (RunView (FromEvent S)) Refusal) (airings : AiringsSoFar S)
-    → last_run (rows ++ row ∷ []) ≡ run_after (begins_at row.note) row (last_run rows) → begins_at row.note ≡ Some event
-    → IsMadeOrRefused items heading list (run_after (Some event) row (last_run rows)) made → FoundSoFar items heading.mode [] airings
-    → MadeSoFar items heading list (last_run (rows ++ row ∷ [])) made airings
-begins items heading list rows row event made airings next some is found =
-    subst (λ (run : Run). MadeSoFar items heading list run made airings)
-    (sym (next ∙ ap (λ (o : Option ℕ). run_after o row (last_run rows)) some)) (record { is = is; found = found })
+-- a run that goes on stands, and ended so
+pub stands_so : {S : Type 0} (items : S → List Item) (heading : Heading) (list : List Item) (run : Run)
+    (controller : View (FromEvent S)) (asked : Option Command) (unsettled : Option ℕ) (first : ℕ) (ended : Option Outcome)
+    → IsRunOn items heading list run controller asked unsettled → first ≡ controller.source.from + controller.state.settled
+    → first ≤ controller.source.from + length (items_left items controller.source) → ended ≡ outcome_of controller.state.stage
+    → EndsSo list heading run (Ok (first, ended))
+stands_so items heading list run controller asked unsettled first ended on first_is within ended_is =
+    let settled_is : controller.state.settled ≡ settled_in heading.mode run.rows = on.resumes.lawful.is_settled in
+    let left : length (items_left items controller.source) ≡ length list - run.from =
+    ap (λ (p : Plan). length p.list) on.resumes.plan_is ∙ length-drop run.from list in (
+      record {
+        within = omega (arith, on.from_is, first_is, within, settled_is, left, on.within);
+        stand = on.stand;
+        told = on.resumes.told;
+        lawful = subst (λ (s : State). IsLawful (plan_of_run heading list run) s (log_of run.rows)) on.resumes.state_is
+            on.resumes.lawful;
+      },
+      omega (arith, first_is, on.from_is, settled_is),
+      ended_is ∙ ap (λ (s : State). outcome_of s.stage) on.resumes.state_is,
+    )
 
--- what one run more shows
-pub shows_more : (mode : Mode) (runs : List Run) (shown : List RunAirings) (run : Run) (last : RunAirings)
-    → RunsShow mode runs shown → RunShows mode run last → RunsShow mode (runs ++ run ∷ []) (shown ++ last ∷ [])
-shows_more mode [] [] run last all so = (so, tt)
-shows_more mode [] (first ∷ shown) run last all so = absurd all
-shows_more mode (next ∷ runs) [] run last all so = absurd all
-shows_more mode (next ∷ runs) (first ∷ shown) run last all so = (all.0, shows_more mode runs shown run last all.1 so)
+-- ---- what the runs show
+
+-- if no end is seen behind a run, nothing changes
+unended : (airing : Airing) → ended_by None airing ≡ airing
+unended airing = grind arith
+
+pub alone : (own : List Airing) → map (ended_by None) own ≡ own
+alone [] = refl
+alone (airing ∷ own) = ap₂ (λ (a : Airing) (l : List Airing). a ∷ l) (unended airing) (alone own)
+
+-- one run more
+pub shows_more : (items : List Item) (heading : Heading) (runs : List Run) (shown : List RunAirings) (run : Run)
+    (last : RunAirings) → EachShowsAlone items heading runs shown → RunShows items heading run None last
+    → EachShowsAlone items heading (runs ++ run ∷ []) (shown ++ last ∷ [])
+shows_more items heading [] [] run last all so = (so, tt)
+shows_more items heading [] (first ∷ shown) run last all so = absurd all
+shows_more items heading (next ∷ runs) [] run last all so = absurd all
+shows_more items heading (next ∷ runs) (first ∷ shown) run last all so =
+    (all.0, shows_more items heading runs shown run last all.1 so)
+
+-- one run fewer
+pub shows_fewer : (items : List Item) (heading : Heading) (runs : List Run) (shown : List RunAirings) (last : RunAirings)
+    → EachShowsAlone items heading runs (shown ++ last ∷ [])
+    → (front : List Run) × (run : Run) × (runs ≡ front ++ run ∷ []) × EachShowsAlone items heading front shown
+    × RunShows items heading run None last
+shows_fewer items heading [] [] last all = absurd all
+shows_fewer items heading [] (first ∷ shown) last all = absurd all
+shows_fewer items heading (run ∷ []) [] last all = ([], run, refl, tt, all.0)
+shows_fewer items heading (run ∷ next ∷ runs) [] last all = absurd all.1
+shows_fewer items heading (next ∷ runs) (first ∷ shown) last all =
+    let (front, run, is, so, shows) = shows_fewer items heading runs shown last all.1 in
+    (next ∷ front, run, ap (λ (rs : List Run). next ∷ rs) is, (all.0, so), shows)
+
+-- and none
+pub shows_none : (items : List Item) (heading : Heading) (runs : List Run) → EachShowsAlone items heading runs [] → runs ≡ []
+shows_none items heading [] all = refl
+shows_none items heading (run ∷ runs) all = absurd all
+
+-- the first end that these runs show, if the first of them plays on in the others, of what played before them
+abbrev pub end_ahead : List Run → Option Row
+end_ahead [] = None
+end_ahead (run ∷ runs) = option_or (end_in run.rows) (end_in (rows_behind run runs))
+
+end_on : (rows more : List Row) → end_in (rows ++ more) ≡ option_or (end_in rows) (end_in more)
+end_on [] more = refl
+end_on (row ∷ rows) more = let rest = end_on rows more in grind arith
+
+end_if : (b : Bool) (rows more : List Row)
+    → (if b then option_or (end_in rows) (end_in more) else None) ≡ end_in (if b then rows ++ more else [])
+end_if true rows more = sym (end_on rows more)
+end_if false rows more = refl
+
+pub behind_is : (items : List Item) (heading : Heading) (run : Run) (shown : RunAirings) (rest : List Run) (next : Option ℕ)
+    (end behind : Option Row) → RunShows items heading run None shown → next ≡ next_begin rest → end ≡ end_ahead rest
+    → IfNone next (behind ≡ None) → IfSome next (λ n. behind
+    ≡ (if shown.left || is_passed_over shown.from n shown.last then end else None))
+    → behind ≡ end_in (rows_behind run rest)
+behind_is items heading run shown [] next end behind so next_is end_is none some =
+    subst (λ (o : Option ℕ). IfNone o (behind ≡ None)) next_is none
+behind_is items heading run shown (following ∷ rest) next end behind so next_is end_is none some =
+    let on : Bool = shown.left || is_passed_over shown.from following.from shown.last in
+    let same : on ≡ plays_on run following.from = cc (so.left_is, so.from_is, so.last_is) in
+    subst (λ (o : Option ℕ). IfSome o (λ n. behind
+    ≡ (if shown.left || is_passed_over shown.from n shown.last then end else None))) next_is some
+    ∙ ap₂ (λ (b : Bool) (e : Option Row). if b then e else None) same end_is
+    ∙ end_if (plays_on run following.from) following.rows (rows_behind following rest)
+
+-- a run and the end that is seen behind it
+pub shows_ended : (items : List Item) (heading : Heading) (run : Run) (end : Option Row) (shown ended : RunAirings)
+    → RunShows items heading run None shown → ended.airings.items ≡ map (ended_by end) shown.airings.items
+    → ended ≡ record shown { airings = ended.airings } → RunShows items heading run end ended
+shows_ended items heading run end shown ended so airings_are same =
+    subst (λ (r : RunAirings). RunShows items heading run end r) (sym same) (record {
+      begin_is = so.begin_is;
+      from_is = so.from_is;
+      own = so.own;
+      are = so.are;
+      airings_are = airings_are ∙ ap (map (ended_by end)) (so.airings_are ∙ alone so.own);
+      besides = so.besides;
+      left_is = so.left_is;
+      last_is = so.last_is;
+      first_end_is = so.first_end_is;
+      ends_so = so.ends_so;
+    })
 
 -- ---- the end of the rows
 
 pub some_rows : (file : FileBytes) → HasRows file (λ lines. ⊤)
 some_rows None = ([], tt, tt)
 some_rows (Some bytes) = (rows_of bytes, refl, tt)
-
-pub both_ok : {A E : Type 0} (result : Result A E) (P : Type 0) (Q : A → Type 0) → OnOk result P → IfOk result Q
-    → IfOk result (λ x. P × Q x)
-both_ok (Ok x) P Q p q = (p, q)
-both_ok (Err e) P Q p q = tt
 
 -- what the last row notes
 pub last_of : (rows : List Row) (row : Row) → last_note (rows ++ row ∷ []) ≡ Some row.note
@@ -207,14 +293,6 @@ stood_so {S} items wanted list run made resumed stood (within, source, of, f) re
           ∙ ap (with resumed) f.state_is;
       can_stand = subst (λ (e : FromEvent S). CanStand (length (items_left items e)) stood) (sym source_is) can;
     }
-
--- why the last run of a journal that was read doesn't go on
-pub of_run : (list : List Item) (wanted : Heading) (lines : FileBytes) (journal : Journal) (found : Heading) (run : Run)
-    (why : Refusal) → IsJournal lines journal → journal.heading ≡ found → IsLastRun journal.rows run
-    → IsOther found wanted why ⊎ IsRunRefused list wanted run why → IsRefused list wanted lines why
-of_run list wanted lines journal found run why reads same last (inl (differs, differ, is)) =
-    of_other journal reads differs (subst (λ (h : Heading). Differs h wanted differs) (sym same) differ) is
-of_run list wanted lines journal found run why reads same last (inr refused) = bad_run journal reads run last refused
 
 -- one that has a line that is too long isn't read to its end
 pub long_so : (list : List Item) (wanted : Heading) (lines : FileBytes) (long : Option ℕ) (why told : Refusal)

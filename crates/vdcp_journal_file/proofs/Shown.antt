@@ -1,79 +1,21 @@
 -- What the runs of a journal show, one after another.
-use Rattle.std.proofs.Common.{ℕ, ◌≡◌, ◌+◌, ◌-◌, ◌<◌, ◌≤◌, ◌^◌, Bool, true, false, List, [], ◌∷◌, ◌++◌, ap, append_assoc, append-nil, arith, length, refl, subst, sym, ◌∙◌}
-use Rattle.std.proofs.lemmas.List.{length-drop}
-use Rattle.std.specs.Prelude.{Option, None, Some, IfOk, IfSome, Ok, Err, Result, if◌then◌else◌}
-use Rattle.vdcp_auto.specs.Law.{IsLawful}
-use Rattle.vdcp_auto.specs.Plan.{Plan, View, plan_of}
+use Rattle.std.proofs.Common.{ℕ, ◌≡◌, ◌+◌, ◌-◌, ◌≤◌, ◌<◌, ◌^◌, Bool, true, false, List, [], ◌∷◌, ◌++◌, ap, ap₂, append_assoc, append-nil, arith, drop, get_or, length, map, refl, subst, sym, take, ◌∙◌}
+use Rattle.std.proofs.Math.Seq.{drop-cons}
+use Rattle.std.proofs.lemmas.List.{length-map, take_rest}
+use Rattle.std.specs.Prelude.{Option, None, Some, Ok, IfSome, if◌then◌else◌}
 use Rattle.vdcp_auto.specs.State.{State}
-use Rattle.vdcp_auto.specs.declared.phase.Mode.{Mode}
-use Rattle.vdcp_journal.specs.Airings.{AreAirings, may_have_played, settled_in, unsettled_event}
-use Rattle.vdcp_auto.specs.Turn.{awaited, outcome_of, start}
 use Rattle.vdcp_auto.specs.declared.outcome.Outcome.{Outcome}
-use Rattle.vdcp_journal.specs.RunsSoFar.{RunView}
-use Rattle.vdcp_journal.specs.Journals.{IsJournal, Journal}
-use Rattle.vdcp_journal.specs.Resume.{AllStand, AreTold, after_rows, log_of, timed_out}
-use Rattle.vdcp_journal.specs.declared.row.Row.{Row}
-use Rattle.vdcp_journal_file.proofs.RowSteps.{runs_on}
-use Rattle.vdcp_journal_file.specs.declared.reading.Refusal.{Refusal}
-use Rattle.vdcp_journal.specs.Runs.{Run, runs_of}
+use Rattle.vdcp_journal.specs.Airings.{end_in, ended_by, may_have_played, settled_in}
+use Rattle.vdcp_journal.specs.Runs.{Run}
 use Rattle.vdcp_journal.specs.declared.airings.Airing.{Airing}
 use Rattle.vdcp_journal.specs.declared.row.Heading.{Heading}
-use Rattle.vdcp_journal_file.specs.Resuming.{IsMadeOrRefused, IsResumed, IsRunOn, plan_begun, plan_of_run, state_after}
-use Rattle.vdcp_journal_file.specs.Showing.{AreShown, ShowsJournal, ShowRuns, ShowsRun, ShowsSoFar, heading_text, left_unsure, next_begin, open_text, reported_text, run_text, skipped_text, undecided, unsure_after, unsure_in, why_skipped}
+use Rattle.vdcp_journal.specs.declared.row.Row.{Row}
+use Rattle.vdcp_journal_file.specs.Resuming.{EndsSo, RunShows, RunsShow, next_begin, plan_of_run, rows_behind, state_after}
+use Rattle.vdcp_journal_file.specs.Showing.{AreShown, ShowRuns, ShowsOneMore, ShowsRun, ShowsSoFar, heading_text, left_unsure, open_text, reported_text, run_text, skipped_text, undecided, unsure_after, why_skipped}
 use Rattle.vdcp_journal_file.specs.declared.asrun.AsrunSettings.{AsrunSettings}
 use Rattle.vdcp_journal_file.specs.declared.asrun.Shown.{Shown}
-use Rattle.vdcp_list.specs.Rests.{FromEvent, items_left}
-use Rattle.vdcp_list.specs.Rows.{FileBytes}
+use Rattle.vdcp_journal_file.specs.declared.reading.RunAirings.{RunAirings}
 use Rattle.vdcp_value.specs.declared.part.Item.{Item}
-use Rattle.vdcp_words.specs.declared.command.Command.{Command}
-
--- a run more
-
-next_more : (next : Option ℕ) (runs : List Run) (run : Run)
-    → next_begin (Some run.from) runs ≡ next_begin next (runs ++ run ∷ [])
-next_more next [] run = refl
-next_more next (first ∷ runs) run = refl
-
-pub one_run_more : (settings : AsrunSettings) (items : List Item) (heading : Heading) (before next : Option ℕ) (runs : List Run)
-    (run : Run) (text told more more_told : List ℕ) → ShowRuns settings items heading before (Some run.from) runs text told
-    → ShowsRun settings items heading (unsure_in heading before runs) next run more more_told
-    → ShowRuns settings items heading before next (runs ++ run ∷ []) (text ++ more) (told ++ more_told)
-one_run_more settings items heading before next [] run text told more more_told (text_is, told_is) shows = (
-  more,
-  more_told,
-  [],
-  [],
-  shows,
-  (refl, refl),
-  ap (λ (l : List ℕ). l ++ more) text_is ∙ sym (append-nil more),
-  ap (λ (l : List ℕ). l ++ more_told) told_is ∙ sym (append-nil more_told),
-)
-one_run_more settings items heading before next (first ∷ runs) run text told more more_told
-    (t, d, rest, rest_told, one, others, text_is, told_is) shows = (
-      t,
-      d,
-      rest ++ more,
-      rest_told ++ more_told,
-      subst (λ (n : Option ℕ). ShowsRun settings items heading before n first t d) (next_more next runs run) one,
-      one_run_more settings items heading (unsure_after heading before first) next runs run rest rest_told more more_told others shows,
-      ap (λ (l : List ℕ). l ++ more) text_is ∙ append_assoc t rest more,
-      ap (λ (l : List ℕ). l ++ more_told) told_is ∙ append_assoc d rest_told more_told,
-    )
-
--- the event that is unsure after it
-
-pub unsure_more : (heading : Heading) (before : Option ℕ) (runs : List Run) (run : Run)
-    → unsure_after heading (unsure_in heading before runs) run ≡ unsure_in heading before (runs ++ run ∷ [])
-unsure_more heading before [] run = refl
-unsure_more heading before (first ∷ runs) run = unsure_more heading (unsure_after heading before first) runs run
-
-unsure_is : (heading : Heading) (before : Option ℕ) (run : Run) (from reported : ℕ) (event : Option ℕ) → from ≡ run.from
-    → reported ≡ settled_in heading.mode run.rows → event ≡ unsettled_event heading.mode run.rows
-    → left_unsure before from reported event ≡ unsure_after heading before run
-unsure_is heading before run from reported event from_is reported_is event_is =
-    ap (λ (n : ℕ). left_unsure before n reported event) from_is
-    ∙ ap (λ (n : ℕ). left_unsure before run.from n event) reported_is
-    ∙ ap (left_unsure before run.from (settled_in heading.mode run.rows)) event_is
 
 -- the number of an unsettled event in the whole list is one of the machine's
 unsettled_counts : (is_one : Bool) (from n : ℕ) → from + n < 2 ^ 64
@@ -81,97 +23,73 @@ unsettled_counts : (is_one : Bool) (from n : ℕ) → from + n < 2 ^ 64
 unsettled_counts true from n few = few
 unsettled_counts false from n few = tt
 
-pub unsettled_counts_in : (items : List Item) (heading : Heading) (run : Run) (plan : Plan) (state : State) (reported : ℕ)
-    (airings : List Airing) (event : Option ℕ) → IsResumed (plan_of_run heading items run) run.rows plan state
-    → AreAirings plan.mode run.rows airings event → reported ≡ state.settled → reported ≤ length plan.list
-    → run.from ≤ length items → length items < 2 ^ 64 → IfSome event (λ k. run.from + k < 2 ^ 64)
-unsettled_counts_in items heading run plan state reported airings event resumed are count within listed few =
-    let mode_is : plan.mode ≡ heading.mode = ap (λ (p : Plan). p.mode) resumed.plan_is in
-    let settled_is : state.settled ≡ settled_in plan.mode run.rows =
-    resumed.lawful.is_settled ∙ ap (λ (m : Mode). settled_in m run.rows) (sym mode_is) in
-    let left : length plan.list ≡ length items - run.from =
-    ap (λ (p : Plan). length p.list) resumed.plan_is ∙ length-drop run.from items in
-    subst (λ (o : Option ℕ). IfSome o (λ k. run.from + k < 2 ^ 64)) (sym are.besides)
-    (unsettled_counts (may_have_played plan.mode run.rows) run.from (settled_in plan.mode run.rows)
-    (omega (arith, settled_is, count, within, left, listed, few)))
+-- what is known of a run that stands, when it is to be printed
+pub record ToPrint (items : List Item) (heading : Heading) (run : Run) (shown : RunAirings) (first : ℕ) : Type 0 where
+  pub count : length shown.airings.items ≡ settled_in heading.mode run.rows
+  pub listed : shown.from + length shown.airings.items ≤ length items
+  pub left : first ≤ length items
+  pub counts : IfSome shown.unsettled (λ k. shown.from + k < 2 ^ 64)
+  pub is_after : (before : Option ℕ)
+      → left_unsure before shown.from (length shown.airings.items) shown.unsettled ≡ unsure_after heading before run
 
--- each event that is reported has its times
-pub one_each : (items : List Item) (heading : Heading) (run : Run) (plan : Plan) (state : State) (reported : ℕ)
-    (airings : List Airing) (event : Option ℕ) → IsResumed (plan_of_run heading items run) run.rows plan state
-    → AreAirings plan.mode run.rows airings event → reported ≡ state.settled → length airings ≡ reported
-one_each items heading run plan state reported airings event resumed are count =
-    are.one_each ∙ ap (λ (m : Mode). settled_in m run.rows) (ap (λ (p : Plan). p.mode) resumed.plan_is)
-    ∙ sym resumed.lawful.is_settled ∙ sym count
-
--- the rows that are written of a run
-abbrev written : AsrunSettings → List Item → Option ℕ → (from reported : ℕ) → List Airing → Option ℕ → Option Outcome → List ℕ
-written settings items next from reported airings unsure ended =
-    reported_text settings items from reported airings
-    ++ skipped_text settings items next (from + reported) (why_skipped unsure ended)
-
-pub run_shows_so : (settings : AsrunSettings) (items : List Item) (heading : Heading) (run : Run) (plan : Plan) (state : State)
-    (reported : ℕ) (airings : List Airing) (event : Option ℕ) (ended : Option Outcome)
-    → IsResumed (plan_of_run heading items run) run.rows plan state → AreAirings plan.mode run.rows airings event
-    → reported ≡ state.settled → ended ≡ outcome_of state.stage → run.from ≤ length items
-    → AllStand (plan_begun heading items run) run.rows → (before next unsure : Option ℕ) → unsure ≡ unsure_after heading before run
-    → ShowsRun settings items heading before next run (written settings items next run.from reported airings unsure ended)
-    (open_text (run.begin + 1) (undecided next unsure))
-run_shows_so settings items heading run plan state reported airings event ended resumed are count end_is listed stand before next
-    unsure is_after = record {
-      within = listed;
-      stand = stand;
-      are_told = resumed.told;
-      lawful = subst (λ (s : State). IsLawful (plan_of_run heading items run) s (log_of run.rows)) resumed.state_is
-          resumed.lawful;
-      airings = airings;
-      may_have_aired = event;
-      are_airings = subst (λ (m : Mode). AreAirings m run.rows airings event) (ap (λ (p : Plan). p.mode) resumed.plan_is) are;
-      text_is = ap (λ (n : ℕ). written settings items next run.from n airings unsure ended) count
-          ∙ ap (λ (o : Option Outcome). written settings items next run.from state.settled airings unsure o) end_is
-          ∙ ap (λ (s : State). run_text settings items next run.from s airings unsure) resumed.state_is
-          ∙ ap (run_text settings items next run.from (state_after (plan_of_run heading items run) run.rows) airings) is_after;
-      told_is = ap (λ (o : Option ℕ). open_text (run.begin + 1) (undecided next o)) is_after;
+pub to_print : (items : List Item) (heading : Heading) (run : Run) (end : Option Row) (shown : RunAirings) (first : ℕ)
+    (ended : Option Outcome) → RunShows items heading run end shown → EndsSo items heading run (Ok (first, ended))
+    → length items < 2 ^ 64 → ToPrint items heading run shown first
+to_print items heading run end shown first ended so (stands, first_is, ended_is) few =
+    let count : length shown.airings.items ≡ settled_in heading.mode run.rows =
+    ap (λ (l : List Airing). length l) so.airings_are ∙ length-map so.own (ended_by end) ∙ so.are.one_each in
+    let from_is = so.from_is in
+    let within = stands.within in
+    record {
+      count = count;
+      listed = omega (arith, count, from_is, within);
+      left = omega (arith, first_is, within);
+      counts = subst (λ (n : ℕ). IfSome shown.unsettled (λ k. n + k < 2 ^ 64)) (sym from_is)
+          (subst (λ (o : Option ℕ). IfSome o (λ k. run.from + k < 2 ^ 64)) (sym so.besides)
+          (unsettled_counts (may_have_played heading.mode run) run.from (settled_in heading.mode run.rows)
+          (omega (arith, within, few))));
+      is_after = λ before. ap (λ (n : ℕ). left_unsure before n (length shown.airings.items) shown.unsettled) from_is
+          ∙ ap (λ (n : ℕ). left_unsure before run.from n shown.unsettled) count
+          ∙ ap (left_unsure before run.from (settled_in heading.mode run.rows)) so.besides;
     }
 
--- what is shown of a run that goes on
-pub record ShownOf (settings : AsrunSettings) (list : List Item) (heading : Heading) (run : Run) (from reported : ℕ)
-    (airings : List Airing) (event : Option ℕ) (ended : Option Outcome) : Type 0 where
-  pub one_each : length airings ≡ reported
-  pub listed : from + reported ≤ length list
-  pub counts : IfSome event (λ k. from + k < 2 ^ 64)
-  pub is_after : (before : Option ℕ) → left_unsure before from reported event ≡ unsure_after heading before run
-  pub shows : (before next unsure : Option ℕ) → unsure ≡ left_unsure before from reported event
-      → ShowsRun settings list heading before next run (written settings list next from reported airings unsure ended)
-      (open_text (run.begin + 1) (undecided next unsure))
+-- the rows that are written of a run
+abbrev written : AsrunSettings → List Item → Option ℕ → (from reported first : ℕ) → List Airing → Option ℕ → Option Outcome → List ℕ
+written settings items next from reported first airings unsure ended =
+    reported_text settings items from reported airings ++ skipped_text settings items next first (why_skipped unsure ended)
 
-pub shown_of : {S : Type 0} (settings : AsrunSettings) (items : S → List Item) (heading : Heading) (list : List Item) (run : Run)
-    (controller : View (FromEvent S)) (asked : Option Command) (from reported : ℕ) (airings : List Airing) (event : Option ℕ)
-    (ended : Option Outcome)
-    → IsRunOn items heading list run controller asked event → AreAirings heading.mode run.rows airings event
-    → from ≡ controller.source.from → reported ≡ controller.state.settled → ended ≡ outcome_of controller.state.stage
-    → reported ≤ length (items_left items controller.source) → length list < 2 ^ 64
-    → ShownOf settings list heading run from reported airings event ended
-shown_of settings items heading list run controller asked from reported airings event ended on are from_is count end_is within few =
-    let begin : from ≡ run.from = from_is ∙ on.from_is in
-    let left : length (items_left items controller.source) ≡ length list - run.from =
-    ap (λ (p : Plan). length p.list) on.resumes.plan_is ∙ length-drop run.from list in
-    let mode_is : (plan_of (items_left items) controller).mode ≡ heading.mode =
-    ap (λ (p : Plan). p.mode) on.resumes.plan_is in
-    let are_so : AreAirings (plan_of (items_left items) controller).mode run.rows airings event =
-    subst (λ (m : Mode). AreAirings m run.rows airings event) (sym mode_is) are in
-    let settled_is : reported ≡ settled_in heading.mode run.rows = count ∙ on.resumes.lawful.is_settled in
-    let is_after : (before : Option ℕ) → left_unsure before from reported event ≡ unsure_after heading before run =
-    λ before. unsure_is heading before run from reported event begin settled_is are.besides in
+-- they are those that it shows
+pub shows_written : (settings : AsrunSettings) (items : List Item) (heading : Heading) (run : Run) (behind : List Run)
+    (shown : RunAirings) (first : ℕ) (ended : Option Outcome) (before next unsure : Option ℕ)
+    → RunShows items heading run (end_in (rows_behind run behind)) shown → EndsSo items heading run (Ok (first, ended))
+    → ToPrint items heading run shown first → next ≡ next_begin behind
+    → unsure ≡ left_unsure before shown.from (length shown.airings.items) shown.unsettled
+    → ShowsRun settings items heading before run behind
+    (written settings items next shown.from (length shown.airings.items) first shown.airings.items unsure ended)
+    (open_text shown.begin (undecided next unsure))
+shows_written settings items heading run behind shown first ended before next unsure so (stands, first_is, ended_is) p next_is
+    unsure_is =
+    let state : State = state_after (plan_of_run heading items run) run.rows in
+    let airings : List Airing = shown.airings.items in
+    let settled_is : settled_in heading.mode run.rows ≡ state.settled = sym stands.lawful.is_settled in
+    let is_after = unsure_is ∙ p.is_after before in
     record {
-      one_each = one_each list heading run _ _ reported airings event on.resumes are_so count;
-      listed = omega (arith, begin, left, within, on.within);
-      counts = subst (λ (n : ℕ). IfSome event (λ k. n + k < 2 ^ 64)) (sym begin)
-          (unsettled_counts_in list heading run _ _ reported airings event on.resumes are_so count within on.within few);
-      is_after = is_after;
-      shows = λ before next unsure is. subst (λ (n : ℕ). ShowsRun settings list heading before next run
-          (written settings list next n reported airings unsure ended) (open_text (run.begin + 1) (undecided next unsure))) (sym begin)
-          (run_shows_so settings list heading run _ _ reported airings event ended on.resumes are_so count end_is on.within
-          on.stand before next unsure (is ∙ is_after before));
+      stands = stands;
+      own = so.own;
+      are = so.are;
+      text_is = ap (λ (o : Option ℕ). written settings items o shown.from (length airings) first airings unsure ended) next_is
+          ∙ ap (λ (n : ℕ). written settings items (next_begin behind) n (length airings) first airings unsure ended) so.from_is
+          ∙ ap (λ (n : ℕ). written settings items (next_begin behind) run.from n first airings unsure ended) (p.count ∙ settled_is)
+          ∙ ap (λ (n : ℕ). written settings items (next_begin behind) run.from state.settled n airings unsure ended)
+          (first_is ∙ ap (λ (n : ℕ). run.from + n) settled_is)
+          ∙ ap (λ (o : Option Outcome). written settings items (next_begin behind) run.from state.settled
+          (run.from + state.settled) airings unsure o) ended_is
+          ∙ ap (λ (l : List Airing). run_text settings items (next_begin behind) run.from state l unsure) so.airings_are
+          ∙ ap (run_text settings items (next_begin behind) run.from state (map (ended_by (end_in (rows_behind run behind))) so.own))
+          is_after;
+      told_is = ap (λ (n : ℕ). open_text n (undecided next unsure)) so.begin_is
+          ∙ ap (λ (o : Option ℕ). open_text (run.begin + 1) (undecided o unsure)) next_is
+          ∙ ap (λ (o : Option ℕ). open_text (run.begin + 1) (undecided (next_begin behind) o)) is_after;
     }
 
 -- a text that gained two
@@ -180,76 +98,59 @@ pub text_twice : (text first second text' text'' : List ℕ) → text' ≡ text 
 text_twice text first second text' text'' one other =
     other ∙ ap (λ (l : List ℕ). l ++ second) one ∙ append_assoc text first second
 
--- a run more, of a list with a heading
-pub shown_more : (settings : AsrunSettings) (list : List Item) (heading : Heading) (next : Option ℕ) (runs : List Run) (run : Run)
-    (text told more more_told text' told' : List ℕ) → AreShown settings list heading (Some run.from) runs text told
-    → ShowsRun settings list heading (unsure_in heading None runs) next run more more_told → text' ≡ text ++ more
-    → told' ≡ told ++ more_told
-    → AreShown settings list heading next (runs ++ run ∷ []) text' told'
-shown_more settings list heading next runs run text told more more_told text' told' before shows text_is told_is =
-    let above : List ℕ = heading_text settings list in
-    record {
-      rows = before.rows ++ more;
-      show = subst (λ (t : List ℕ). ShowRuns settings list heading None next (runs ++ run ∷ []) (before.rows ++ more) t) (sym told_is)
-          (one_run_more settings list heading None next runs run before.rows told more more_told before.show shows);
-      text_is = text_is ∙ ap (λ (l : List ℕ). l ++ more) before.text_is ∙ append_assoc above before.rows more;
-    }
-
--- of one that its rows make
-pub shown_by_rows : {S : Type 0} (settings : AsrunSettings) (items : S → List Item) (heading : Heading) (list : List Item)
-    (run : Run) (result : Result (RunView (FromEvent S)) Refusal) (made : RunView (FromEvent S))
-    (controller : View (FromEvent S)) (asked : Option Command) (source : FromEvent S)
-    (from reported : ℕ) (airings : List Airing) (event : Option ℕ) (ended : Option Outcome)
-    → ((plan : Plan) (rows : List Row) → 1 ≤ plan.limit → plan.limit ≤ 1000 → AreTold plan start rows
-    → IsLawful plan (timed_out plan (after_rows plan start rows)) (log_of rows))
-    → result ≡ Ok made → IsMadeOrRefused items heading list run result
-    → controller ≡ record made.controller
-    { state = timed_out (plan_of (items_left items) made.controller) made.controller.state }
-    → asked ≡ awaited (plan_of (items_left items) made.controller) made.controller.state
-    → AreAirings heading.mode run.rows airings event
-    → source ≡ controller.source → from ≡ source.from → reported ≡ controller.state.settled
-    → ended ≡ outcome_of controller.state.stage
-    → reported ≤ length (items_left items controller.source) → length list < 2 ^ 64
-    → ShownOf settings list heading run from reported airings event ended
-shown_by_rows {S} settings items heading list run result made controller asked source from reported airings event ended law is
-    is_made controller_is asked_is are source_is from_is count end_is within few =
-    shown_of settings items heading list run controller asked from reported airings event ended
-    (runs_on items heading list run made controller asked event law
-    (subst (IsMadeOrRefused items heading list run) is is_made) controller_is asked_is are.besides)
-    are (from_is ∙ ap (λ (s : FromEvent S). s.from) source_is) count end_is within few
-
 -- before the first run nothing stands but what is above the rows
-pub first_shown : {E : Type 0} (settings : AsrunSettings) (list : List Item) (heading : Heading) (next : Option ℕ)
-    (shown : Result Shown E)
-    → IfOk shown (λ s. s.text.items ≡ heading_text settings list) → IfOk shown (λ s. s.told.items ≡ [])
-    → IfOk shown (λ s. s.unsure ≡ None) → IfOk shown (ShowsSoFar settings list heading next [])
-first_shown settings list heading next (Ok s) text told unsure = (
-  record {
-    rows = [];
-    show = (refl, told);
-    text_is = text ∙ sym (append-nil (heading_text settings list));
-  },
-  unsure,
-)
-first_shown settings list heading next (Err e) text told unsure = tt
-
--- the runs that ended before a row more
-pub shown_on : {E : Type 0} (settings : AsrunSettings) (list : List Item) (heading : Heading) (shown : Result Shown E)
-    (next next' : Option ℕ) (ended ended' : List Run) → next' ≡ next → ended' ≡ ended
-    → IfOk shown (ShowsSoFar settings list heading next ended) → IfOk shown (ShowsSoFar settings list heading next' ended')
-shown_on settings list heading shown next next' ended ended' same_next same h =
-    subst (λ (n : Option ℕ). IfOk shown (ShowsSoFar settings list heading n ended')) (sym same_next)
-    (subst (λ (runs : List Run). IfOk shown (ShowsSoFar settings list heading next runs)) (sym same) h)
-
--- all runs are shown
-pub shows_journal : (settings : AsrunSettings) (list : List Item) (digest : Option (List ℕ)) (lines : FileBytes)
-    (journal : Journal) (heading : Heading) (runs : List Run) (text told : List ℕ) → IsJournal lines journal
-    → journal.heading ≡ heading → IfSome digest (λ known. heading.digest ≡ known) → runs_of journal.rows ≡ runs
-    → AreShown settings list heading None runs text told → ShowsJournal settings list digest lines text told
-shows_journal settings list digest lines journal heading runs text told reads same of_list all shown = record {
-  journal = journal;
-  reads = reads;
-  of_list = subst (λ (h : Heading). IfSome digest (λ known. h.digest ≡ known)) (sym same) of_list;
-  show = subst (λ (h : Heading). AreShown settings list h None (runs_of journal.rows) text told) (sym same)
-      (subst (λ (rs : List Run). AreShown settings list heading None rs text told) (sym all) shown);
+pub shows_first : (settings : AsrunSettings) (items : List Item) (heading : Heading) (all : List Run) (shown : Shown)
+    → shown.text.items ≡ heading_text settings items → shown.told.items ≡ [] → shown.unsure ≡ None
+    → ShowsSoFar settings items heading all all shown
+shows_first settings items heading all shown text_is told_is unsure_is = λ text told show. record {
+  rows = text;
+  show = subst (λ (l : List ℕ). ShowRuns settings items heading None all text (l ++ told)) (sym told_is)
+      (subst (λ (o : Option ℕ). ShowRuns settings items heading o all text told) unsure_is show);
+  text_is = ap (λ (l : List ℕ). l ++ text) text_is;
 }
+
+-- a run more
+pub shows_next : (settings : AsrunSettings) (items : List Item) (heading : Heading) (all : List Run) (run : Run)
+    (behind : List Run) (before after : Shown) → ShowsSoFar settings items heading all (run ∷ behind) before
+    → ShowsOneMore settings items heading run behind before after → ShowsSoFar settings items heading all behind after
+shows_next settings items heading all run behind before after so more = λ text told show.
+    subst (λ (l : List ℕ). AreShown settings items heading all l (after.told.items ++ told))
+    (sym (ap (λ (l : List ℕ). l ++ text) more.text_is ∙ append_assoc before.text.items more.text text))
+    (subst (λ (l : List ℕ). AreShown settings items heading all (before.text.items ++ (more.text ++ text)) l)
+    (sym (ap (λ (l : List ℕ). l ++ told) more.told_is ∙ append_assoc before.told.items more.told told))
+    (so (more.text ++ text) (more.told ++ told) (
+      more.text,
+      more.told,
+      text,
+      told,
+      more.shows,
+      subst (λ (o : Option ℕ). ShowRuns settings items heading o behind text told) more.unsure_is show,
+      refl,
+      refl,
+    )))
+
+-- all runs
+pub shows_all : (settings : AsrunSettings) (items : List Item) (heading : Heading) (all rest : List Run) (left : List RunAirings)
+    (shown : Shown) → ShowsSoFar settings items heading all rest shown → length left < 1 → RunsShow items heading rest left
+    → AreShown settings items heading all shown.text.items shown.told.items
+shows_all settings items heading all [] left shown so none is =
+    subst (λ (l : List ℕ). AreShown settings items heading all l shown.told.items) (append-nil shown.text.items)
+    (subst (λ (l : List ℕ). AreShown settings items heading all (shown.text.items ++ []) l) (append-nil shown.told.items)
+    (so [] [] (refl, refl)))
+shows_all settings items heading all (run ∷ rest) [] shown so none is = absurd is
+shows_all settings items heading all (run ∷ rest) (first ∷ left) shown so none is = absurd (omega (arith, none))
+
+-- what is left to be shown begins with a run
+first_of : (items : List Item) (heading : Heading) (runs : List Run) (shown : RunAirings) (behind : List RunAirings)
+    → RunsShow items heading runs (shown ∷ behind)
+    → (run : Run) × (rest : List Run) × (runs ≡ run ∷ rest) × RunsShow items heading (run ∷ rest) (shown ∷ behind)
+first_of items heading [] shown behind all = absurd all
+first_of items heading (run ∷ rest) shown behind all = (run, rest, refl, all)
+
+pub parted : (items : List Item) (heading : Heading) (runs : List Run) (left : List RunAirings) (shown : RunAirings)
+    → RunsShow items heading runs left → 1 ≤ length left → shown ≡ get_or left 0 shown
+    → (run : Run) × (rest : List Run) × (runs ≡ run ∷ rest)
+    × RunsShow items heading (run ∷ rest) (shown ∷ take (length left - 1) (drop 1 left))
+parted items heading runs left shown all some is = first_of items heading runs shown (take (length left - 1) (drop 1 left))
+    (subst (λ (l : List RunAirings). RunsShow items heading runs l) (drop-cons left 0 shown (omega (arith, some))
+    ∙ ap₂ (λ (y : RunAirings) (ys : List RunAirings). y ∷ ys) (sym is) (sym (take_rest left 1))) all)

@@ -8,12 +8,14 @@ use Rattle.vdcp_words.specs.declared.command.Command.TheVariants as command
 -- one is there
 abbrev pub event_after : ℕ → Bool → Note → ℕ
 event_after event checked (note.From k) = k
+event_after event checked (note.Left k) = k
 event_after event true (note.Sent (command.IdRequest id)) = min (event + 1) (2 ^ 64 - 1)
 event_after event checked n = event
 
 -- it was asked which clip plays, and the next event follows
 abbrev pub checked_after : Bool → Note → Bool
 checked_after checked (note.From k) = false
+checked_after checked (note.Left k) = false
 checked_after checked (note.Sent command.ActiveId) = true
 checked_after checked (note.Sent (command.IdRequest id)) = false
 checked_after checked n = checked

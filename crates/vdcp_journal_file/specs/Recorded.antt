@@ -52,6 +52,7 @@ commands_of_note note.Silence = []
 commands_of_note note.Take = []
 commands_of_note note.Stop = []
 commands_of_note (note.From event) = []
+commands_of_note (note.Left event) = []
 commands_of_note (note.End outcome) = []
 
 -- the commands of rows

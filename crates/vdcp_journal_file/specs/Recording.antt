@@ -25,13 +25,13 @@ use Rattle.vdcp_words.specs.declared.command.Command.{Command}
 use Rattle.vdcp_words.specs.declared.command.Command.TheVariants as command
 use Rattle.vdcp_words.specs.declared.reply.Reply.TheVariants as reply
 
--- a recorder: the journal's name, the unit of its server, its file, the event with which the run began if one was named
--- (its row is in the file), and what is still to be written
+-- a recorder: the journal's name, the unit of its server, its file, the note with which the run began if one was kept (its
+-- row is in the file), and what is still to be written
 pub record Recording (F : Type 0) : Type 0 where
   pub name : Bor (List ℕ)
   pub unit : ℕ
   pub file : F
-  pub from : Option ℕ
+  pub from : Option Note
   pub pending : Pending
 
 -- the rows that are still to be written
@@ -143,10 +143,10 @@ IsTimedOut None left = left ≡ pending.Nothing
 IsTimedOut (Some command) left =
     (time : Moment) × (left ≡ pending.End (record { time = time; note = note.Silence }))
 
--- the row of the event that a run begins with, if one is named
-abbrev pub from_rows : Moment → Option ℕ → List Row
+-- the row that a run begins with, if it has one
+abbrev pub from_rows : Moment → Option Note → List Row
 from_rows time None = []
-from_rows time (Some event) = record { time = time; note = note.From event } ∷ []
+from_rows time (Some n) = record { time = time; note = n } ∷ []
 
 -- the row of how the controller ended, if it has ended
 abbrev pub outcome_rows : Moment → Option Outcome → List Row
@@ -188,11 +188,11 @@ abbrev pub IsUnbegun : Bor (List ℕ) → Failure → Type 0
 IsUnbegun name failure = (failure ≡ failures.Exists name)
     ⊎ (IsUnopened name failure ⊎ IsUnwritten name failure)
 
--- the run began with this event, if one was named, and nothing is left to be written
-abbrev pub BeganWith : {F : Type 0} → Option ℕ → Recording F → Type 0
-BeganWith event recorder = (recorder.from ≡ event) × (recorder.pending ≡ pending.Nothing)
+-- the run began with this note, if one was kept, and nothing is left to be written
+abbrev pub BeganWith : {F : Type 0} → Option Note → Recording F → Type 0
+BeganWith from recorder = (recorder.from ≡ from) × (recorder.pending ≡ pending.Nothing)
 
--- the file has just these bytes and then the row of the event that the run began with, and all that it has is safe
+-- the file has just these bytes and then the row that the run began with, and all that it has is safe
 pub record HasBegun {F : Type 0} (safe written : F → Option (List ℕ)) (bytes : Option (List ℕ)) (recorder : Recording F)
     : Type 0 where
   pub time : Moment

@@ -1,6 +1,6 @@
 -- What goes on from a journal, and why nothing does.
 use Rattle.std.specs.Borrow.{Bor}
-use Rattle.std.specs.Prelude.{ℕ, ◌≡◌, ◌≢◌, ◌⊎◌, ◌+◌, ◌≤◌, ◌<◌, Bool, IsFalse, IsTrue, List, [], ◌∷◌, ◌++◌, Option, None, Some, Result, Ok, Err, drop, length}
+use Rattle.std.specs.Prelude.{ℕ, ◌≡◌, ◌≢◌, ◌⊎◌, ◌+◌, ◌-◌, ◌≤◌, ◌<◌, ◌||◌, Bool, false, IsFalse, IsTrue, List, [], ◌∷◌, ◌++◌, Option, None, Some, Result, Ok, Err, drop, if◌then◌else◌, length, map, nat_lt}
 use Rattle.vdcp_auto.specs.Law.{IsLawful}
 use Rattle.vdcp_auto.specs.Plan.{Plan, View, plan_of}
 use Rattle.vdcp_auto.specs.Snapshots.{CanStand, view_of}
@@ -9,28 +9,35 @@ use Rattle.vdcp_auto.specs.Turn.{awaited, outcome_of, start}
 use Rattle.vdcp_auto.specs.declared.exchange.Heard.{Heard}
 use Rattle.vdcp_auto.specs.declared.snapshot.Snapshot.{Snapshot}
 use Rattle.vdcp_auto.specs.declared.outcome.Outcome.{Outcome}
+use Rattle.vdcp_auto.specs.declared.outcome.Outcome.TheVariants as outcome
 use Rattle.vdcp_auto.specs.declared.outcome.Outcome.TheVariants.{Done, Stopped}
-use Rattle.vdcp_auto.specs.declared.phase.Mode.{Mode}
-use Rattle.vdcp_journal.specs.Airings.{AreAirings, may_have_played, settled_in, unsettled_event}
+use Rattle.vdcp_journal.specs.Airings.{AreAirings, FoundSoFar as FoundOf, end_in, ended_by, may_have_played, settled_in, unsettled_event}
 use Rattle.vdcp_journal.specs.RunsSoFar.{IsMadeBy, RunView}
 use Rattle.vdcp_journal.specs.Mending.{last_note}
 use Rattle.vdcp_journal.specs.Journals.{IsJournal, IsJournalFault, Journal}
 use Rattle.vdcp_journal.specs.Resume.{AllStand, AreTold, IsResumeFault, after_rows, log_of, plan_after, timed_out}
-use Rattle.vdcp_journal.specs.Runs.{Run, runs_of}
+use Rattle.vdcp_journal.specs.Runs.{Run, last_run, runs_of}
 use Rattle.vdcp_journal.specs.Thinned.{heard_last, notes_in}
+use Rattle.vdcp_journal.specs.declared.airings.Airing.{Airing}
 use Rattle.vdcp_journal.specs.declared.faults.JournalReadFault.{JournalReadFault}
 use Rattle.vdcp_journal.specs.declared.faults.JournalReadFault.TheVariants as unread
 use Rattle.vdcp_journal.specs.declared.faults.JournalRowFault.{JournalRowFault}
 use Rattle.vdcp_journal.specs.declared.faults.JournalRowFault.TheVariants as wrong
 use Rattle.vdcp_journal.specs.declared.faults.ResumeFault.{ResumeFault}
 use Rattle.vdcp_journal.specs.declared.faults.ResumeFault.TheVariants as refused
+use Rattle.vdcp_journal.specs.declared.replay.Resumed.{Resumed}
 use Rattle.vdcp_journal.specs.declared.row.Heading.{Heading}
 use Rattle.vdcp_journal.specs.declared.row.Row.{Row}
 use Rattle.vdcp_journal.specs.declared.row.Note.{Note}
+use Rattle.vdcp_journal.specs.declared.row.Note.TheVariants as note
 use Rattle.vdcp_list.specs.Rests.{FromEvent, items_left}
 use Rattle.vdcp_list.specs.Rows.{FileBytes}
 use Rattle.vdcp_journal_file.specs.Recording.{IsUnopened, IsUnwritten}
+use Rattle.vdcp_journal_file.specs.declared.again.Beginning.{Beginning}
+use Rattle.vdcp_journal_file.specs.declared.again.Beginning.TheVariants.{From, Left, Next}
 use Rattle.vdcp_journal_file.specs.declared.reading.Refusal.{Refusal}
+use Rattle.vdcp_journal_file.specs.declared.reading.FoundRun.{FoundRun}
+use Rattle.vdcp_journal_file.specs.declared.reading.FoundRuns.{FoundRuns}
 use Rattle.vdcp_journal_file.specs.declared.reading.RunAirings.{RunAirings}
 use Rattle.vdcp_journal_file.specs.declared.reading.Refusal.TheVariants as refusal
 use Rattle.vdcp_text.specs.declared.failure.Failure.{Failure}
@@ -166,7 +173,7 @@ pub record IsRunOn {S : Type 0} (items : S → List Item) (wanted : Heading) (li
   pub list_is : items controller.source.source ≡ list
   pub from_is : controller.source.from ≡ run.from
   pub asked_is : asked ≡ open_after (plan_of_run wanted list run) run.rows
-  pub unsettled_is : unsettled ≡ unsettled_event wanted.mode run.rows
+  pub unsettled_is : unsettled ≡ unsettled_event wanted.mode run
 
 -- so the controller of these rows stood before the exchange that is open was timed out
 pub record HasStood {S : Type 0} (items : S → List Item) (plan : Plan) (rows : List Row) (controller : View S)
@@ -189,23 +196,77 @@ pub record Continues {S : Type 0} (items : S → List Item) (wanted : Heading) (
   pub noted_is : noted ≡ last_note journal.rows
   pub heard_is : heard ≡ heard_last (notes_in journal.rows)
 
--- so many events aired in a run from its first on, at these times, and this one may have aired besides
-pub record RunShows (mode : Mode) (run : Run) (shown : RunAirings) : Type 0 where
+-- a run that began with event `from` has this last note: it ended with an event missing or refused, and the next run
+-- begins behind that one
+abbrev pub is_passed_over : (from next : ℕ) → Option Note → Bool
+is_passed_over from next (Some (note.End (outcome.Missing k))) = nat_lt k (next - from)
+is_passed_over from next (Some (note.End (outcome.Refused k))) = nat_lt k (next - from)
+is_passed_over from next last = false
+
+-- what is on air when a run ends plays on in the next one: its operator left it, or it passes over the event with which it ended
+abbrev pub plays_on : Run → (next : ℕ) → Bool
+plays_on run next = run.left || is_passed_over run.from next (last_note run.rows)
+
+-- the rows behind a run, in these runs after it, over which that plays on
+abbrev pub rows_behind : Run → List Run → List Row
+rows_behind run [] = []
+rows_behind run (next ∷ runs) = if plays_on run next.from then next.rows ++ rows_behind next runs else []
+
+-- the rows of a run of a journal of these items are those of a controller, which reports no more than there is
+pub record RunStands (items : List Item) (heading : Heading) (run : Run) : Type 0 where
+  pub within : run.from + settled_in heading.mode run.rows ≤ length items
+  pub stand : AllStand (plan_begun heading items run) run.rows
+  pub told : AreTold (plan_of_run heading items run) start run.rows
+  pub lawful : IsLawful (plan_of_run heading items run) (state_after (plan_of_run heading items run) run.rows)
+      (log_of run.rows)
+
+-- this is the first event that it doesn't report, and it ended so; or it is refused
+abbrev pub EndsSo : List Item → Heading → Run → Result (ℕ × Option Outcome) Refusal → Type 0
+EndsSo items heading run (Ok (first, outcome)) = RunStands items heading run
+    × (first ≡ run.from + settled_in heading.mode run.rows)
+    × (outcome ≡ outcome_of (state_after (plan_of_run heading items run) run.rows).stage)
+EndsSo items heading run (Err why) = IsRunRefused items heading run why
+
+-- so many events aired in a run from its first on, at these times, and this one may have aired besides; and where its own
+-- rows show no end, this row behind them does, if there is one
+pub record RunShows (items : List Item) (heading : Heading) (run : Run) (end : Option Row) (shown : RunAirings) : Type 0 where
+  pub begin_is : shown.begin ≡ run.begin + 1
   pub from_is : shown.from ≡ run.from
-  pub are : AreAirings mode run.rows shown.airings.items shown.unsettled
+  pub own : List Airing
+  pub are : AreAirings heading.mode run.rows own
+  pub airings_are : shown.airings.items ≡ map (ended_by end) own
+  pub besides : shown.unsettled ≡ unsettled_event heading.mode run
+  pub left_is : shown.left ≡ run.left
+  pub last_is : shown.last ≡ last_note run.rows
+  pub first_end_is : shown.first_end ≡ end_in run.rows
+  pub ends_so : EndsSo items heading run shown.ended
 
--- that of each of these runs
-abbrev pub RunsShow : Mode → List Run → List RunAirings → Type 0
-RunsShow mode [] [] = Unit {0}
-RunsShow mode [] (first ∷ shown) = ⊥
-RunsShow mode (run ∷ runs) [] = ⊥
-RunsShow mode (run ∷ runs) (first ∷ shown) = RunShows mode run first × RunsShow mode runs shown
+-- that of each of these runs, by what is to be said of the rows behind it
+abbrev pub EachShows : (Run → List Run → Option Row) → List Item → Heading → List Run → List RunAirings → Type 0
+EachShows end items heading [] [] = Unit {0}
+EachShows end items heading [] (first ∷ shown) = ⊥
+EachShows end items heading (run ∷ runs) [] = ⊥
+EachShows end items heading (run ∷ runs) (first ∷ shown) =
+    RunShows items heading run (end run runs) first × EachShows end items heading runs shown
 
--- the whole lines are a journal, whose runs show this
-pub record JournalShows (mode : Mode) (lines : FileBytes) (shown : List RunAirings) : Type 0 where
+-- each by its own rows alone
+abbrev pub EachShowsAlone : List Item → Heading → List Run → List RunAirings → Type 0
+EachShowsAlone = EachShows (λ run runs. None)
+
+-- and each with the end of what it left on air
+abbrev pub RunsShow : List Item → Heading → List Run → List RunAirings → Type 0
+RunsShow = EachShows (λ run runs. end_in (rows_behind run runs))
+
+-- the event with which the first of these runs begins, if there is one
+abbrev pub next_begin : List Run → Option ℕ
+next_begin [] = None
+next_begin (run ∷ runs) = Some run.from
+
+-- the whole lines are a journal, whose runs show this of these items
+pub record JournalShows (items : List Item) (heading : Heading) (lines : FileBytes) (shown : List RunAirings) : Type 0 where
   pub journal : Journal
   pub reads : IsJournal lines journal
-  pub show : RunsShow mode (runs_of journal.rows) shown
+  pub show : RunsShow items heading (runs_of journal.rows) shown
 
 -- a journal's heading differs from the one that is wanted, and it is refused so
 abbrev pub IsOther : Heading → Heading → Refusal → Type 0
@@ -217,6 +278,34 @@ abbrev pub IsMadeOrRefused : {S : Type 0} → (S → List Item) → Heading → 
 IsMadeOrRefused {S} items heading list run (Ok made) = (run.from ≤ length list) × (source : S)
     × (items source ≡ list) × IsMadeBy (items_left items) (plan_begun heading list run) (record { source = source; from = run.from }) run.rows made
 IsMadeOrRefused items heading list run (Err why) = IsRunRefused list heading run why
+
+-- what is made of a run's rows so far
+pub record FoundSoFar {S : Type 0} (items : Bor S → List Item) (heading : Heading) (list : List Item) (run : Run)
+    (found : FoundRun S) : Type 0 where
+  pub begin_is : found.begin ≡ run.begin + 1
+  pub from_is : found.from ≡ run.from
+  pub is : IsMadeOrRefused items heading list run found.made
+  pub airings : FoundOf items heading.mode run.rows found.airings
+  pub last_is : found.last ≡ last_note run.rows
+
+-- its controller goes on so, or it is refused
+abbrev pub GoesOnOrNot : {S : Type 0} → (S → List Item) → Heading → List Item → Run → (unsettled : Option ℕ)
+    → Result (Resumed (FromEvent S)) Refusal → Type 0
+GoesOnOrNot {S} items heading list run unsettled (Ok r) = IsRunOn items heading list run r.controller r.«open» unsettled
+    × HasStood (items_left items) (plan_of_run heading list run) run.rows r.controller r.stood
+GoesOnOrNot {S} items heading list run unsettled (Err why) = IsRunRefused list heading run why
+
+-- the whole lines are a journal of this heading, and so much is found of it by controllers of one: what its runs show, and what
+-- its last run makes
+pub record AreFound {S : Type 0} (items : Bor S → List Item) (heading read : Heading) (list : List Item) (lines : FileBytes)
+    (found : FoundRuns S) : Type 0 where
+  pub journal : Journal
+  pub reads : IsJournal lines journal
+  pub read_is : journal.heading ≡ read
+  pub show : RunsShow list heading (runs_of journal.rows) found.runs.items
+  pub goes_on : GoesOnOrNot items heading list (last_run journal.rows) found.unsettled found.last
+  pub noted_is : found.last_note ≡ last_note journal.rows
+  pub heard_is : found.heard ≡ heard_last (notes_in journal.rows)
 
 -- why the file of this name isn't read
 abbrev pub IsUnread : Bor (List ℕ) → Failure → Type 0
@@ -238,7 +327,18 @@ next_event heading run = run.from + settled_in heading.mode run.rows
 
 -- that event may have aired
 abbrev pub next_may_have_aired : Heading → Run → Bool
-next_may_have_aired heading run = may_have_played heading.mode run.rows
+next_may_have_aired heading run = may_have_played heading.mode run
+
+-- the event that the operator says, if one is said
+abbrev pub said_event : Beginning → Option ℕ
+said_event Next = None
+said_event (From k) = Some k
+said_event (Left k) = Some k
+
+-- the note with which a run begins so, at this event
+abbrev pub beginning_note : Beginning → ℕ → Note
+beginning_note (Left k) from = note.Left from
+beginning_note beginning from = note.From from
 
 -- the event with which a controller begins after a run: the one that the operator says, or else the first that the run
 -- doesn't report, which can't have aired

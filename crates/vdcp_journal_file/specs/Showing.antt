@@ -2,17 +2,15 @@
 use Rattle.csv.specs.Writing.{default_writer, row_text}
 use Rattle.sha2.specs.Sha256.{sha256}
 use Rattle.std.specs.Io.KnownBytes.{Appends, Keeps}
-use Rattle.std.specs.Prelude.{ℕ, zero, suc, ◌≡◌, ◌≤◌, ◌+◌, ◌-◌, ◌&&◌, ◌∷◌, ◌++◌, List, [], Option, None, Some, IfSome, false, codes, decimal, drop, if◌then◌else◌, length, min, nat_eq, nat_le, option_map, replicate, take}
-use Rattle.vdcp_auto.specs.Law.{IsLawful}
+use Rattle.std.specs.Prelude.{ℕ, zero, suc, ◌≡◌, ◌+◌, ◌-◌, ◌&&◌, ◌∷◌, ◌++◌, List, [], Option, None, Some, IfSome, false, codes, decimal, drop, if◌then◌else◌, length, map, min, nat_eq, nat_le, option_map, replicate, take}
 use Rattle.vdcp_auto.specs.State.{State}
-use Rattle.vdcp_auto.specs.Turn.{outcome_of, start}
+use Rattle.vdcp_auto.specs.Turn.{outcome_of}
 use Rattle.vdcp_auto.specs.declared.outcome.Outcome.{Outcome}
 use Rattle.vdcp_auto.specs.declared.outcome.Outcome.TheVariants as outcome
 use Rattle.vdcp_files.specs.Files.{File, bytes_of}
-use Rattle.vdcp_journal.specs.Airings.{AreAirings, settled_in, unsettled_event}
+use Rattle.vdcp_journal.specs.Airings.{AreAirings, end_in, ended_by, settled_in, unsettled_event}
 use Rattle.vdcp_journal.specs.Journals.{IsJournal, Journal}
 use Rattle.vdcp_journal.specs.Reading.{whole_lines}
-use Rattle.vdcp_journal.specs.Resume.{AllStand, AreTold, log_of}
 use Rattle.vdcp_journal.specs.Runs.{Run, runs_of}
 use Rattle.vdcp_journal.specs.Times.{clocked_text, end_text, ended_text}
 use Rattle.vdcp_journal.specs.declared.airings.Airing.{Airing}
@@ -21,7 +19,7 @@ use Rattle.vdcp_list.specs.Asrun.{asrun_text, events_text, has_part}
 use Rattle.vdcp_list.specs.Playlists.{IsListOf}
 use Rattle.vdcp_list.specs.Rows.{FileBytes}
 use Rattle.vdcp_list.specs.Timed.{timed_heading, timed_rows, times_of}
-use Rattle.vdcp_journal_file.specs.Resuming.{plan_begun, plan_of_run, state_after}
+use Rattle.vdcp_journal_file.specs.Resuming.{RunStands, next_begin, plan_of_run, rows_behind, state_after}
 use Rattle.vdcp_journal_file.specs.Torn.{closed}
 use Rattle.vdcp_journal_file.specs.declared.asrun.AsrunSettings.{AsrunSettings}
 use Rattle.vdcp_journal_file.specs.declared.asrun.Shown.{Shown}
@@ -62,14 +60,10 @@ left_unsure (Some event) from reported None = if nat_eq reported 0 && nat_eq eve
 -- that of a run of a journal, if this event is unsure before it
 abbrev pub unsure_after : Heading → (before : Option ℕ) → Run → Option ℕ
 unsure_after heading before run =
-    left_unsure before run.from (settled_in heading.mode run.rows) (unsettled_event heading.mode run.rows)
+    left_unsure before run.from (settled_in heading.mode run.rows) (unsettled_event heading.mode run)
 
--- that of the last of these runs, if this event is unsure before the first
-abbrev pub unsure_in : Heading → (before : Option ℕ) → List Run → Option ℕ
-unsure_in heading before [] = before
-unsure_in heading before (run ∷ runs) = unsure_in heading (unsure_after heading before run) runs
-
--- why the first event that a run doesn't report was left out: it is unsure, or else the run ended so, or else by hand
+-- why the first event that a run doesn't report was left out: since it may have aired, or else since the run ended so, or
+-- else by hand
 abbrev pub why_skipped : (unsure : Option ℕ) → Option Outcome → Skipped
 why_skipped (Some event) ended = Unsure
 why_skipped None (Some (outcome.Missing event)) = Missing
@@ -107,57 +101,59 @@ open_text row None = []
 open_text row (Some event) =
     codes "vdcp: event " ++ (decimal event ++ (codes " may have aired (run of row " ++ (decimal row ++ line (codes ")"))))
 
--- the event that is unsure after a run and told of it: unless the next run begins with that event, of which it is told then,
--- or behind it, by which it is decided
+-- the event that may have aired in a run, if it is told of there. It isn't if the next run begins with it, since that run
+-- tells of it then, nor if that begins behind it, since the operator knew then whether it aired
 abbrev pub undecided : (next unsure : Option ℕ) → Option ℕ
 undecided next None = None
 undecided None (Some event) = Some event
 undecided (Some next) (Some event) = if nat_le event next then None else Some event
 
--- a run of a journal of these items shows this text, and this is told of it: its rows are those of a controller of the
--- items from its first event on, and the text is the rows of what that one reports, its count being what the log of the
--- rows shows, and of what was left out before the next run. If this event is unsure before it, the one that is unsure after it
--- is told, unless the next run, if there is one, begins with that one or behind it
-pub record ShowsRun (settings : AsrunSettings) (items : List Item) (heading : Heading) (before next : Option ℕ) (run : Run)
-    (text told : List ℕ) : Type 0 where
-  pub within : run.from ≤ length items
-  pub stand : AllStand (plan_begun heading items run) run.rows
-  pub are_told : AreTold (plan_of_run heading items run) start run.rows
-  pub lawful : IsLawful (plan_of_run heading items run) (state_after (plan_of_run heading items run) run.rows)
-      (log_of run.rows)
-  pub airings : List Airing
-  pub may_have_aired : Option ℕ
-  pub are_airings : AreAirings heading.mode run.rows airings may_have_aired
-  pub text_is : text ≡ run_text settings items next run.from
-      (state_after (plan_of_run heading items run) run.rows) airings (unsure_after heading before run)
-  pub told_is : told ≡ open_text (run.begin + 1) (undecided next (unsure_after heading before run))
-
--- the event with which the first of these runs begins, or else the one after them, if there is one
-abbrev pub next_begin : Option ℕ → List Run → Option ℕ
-next_begin next [] = next
-next_begin next (run ∷ runs) = Some run.from
+-- a run of a journal of these items, which these runs follow, shows this text, and this is told of it: its rows are those of
+-- a controller of the items from its first event on, and the text is the rows of what that one reports, its count being what
+-- the log of the rows shows, and of what was left out before the next run. An end that its own rows don't show is the one
+-- that the rows behind it show first. If this event is unsure before it, the one that is unsure after it is told, unless the
+-- next run, if there is one, begins with that one or behind it
+pub record ShowsRun (settings : AsrunSettings) (items : List Item) (heading : Heading) (before : Option ℕ) (run : Run)
+    (behind : List Run) (text told : List ℕ) : Type 0 where
+  pub stands : RunStands items heading run
+  pub own : List Airing
+  pub are : AreAirings heading.mode run.rows own
+  pub text_is : text ≡ run_text settings items (next_begin behind) run.from
+      (state_after (plan_of_run heading items run) run.rows) (map (ended_by (end_in (rows_behind run behind))) own)
+      (unsure_after heading before run)
+  pub told_is : told ≡ open_text (run.begin + 1) (undecided (next_begin behind) (unsure_after heading before run))
 
 -- the texts of these runs are one after another this text, and what is told of them is this, if this event is unsure before
--- them, and the run after them, if there is one, begins with this one
-abbrev pub ShowRuns : AsrunSettings → List Item → Heading → (before next : Option ℕ) → List Run → List ℕ → List ℕ → Type 0
-ShowRuns settings items heading before next [] text told = (text ≡ []) × (told ≡ [])
-ShowRuns settings items heading before next (run ∷ runs) text told = (first first_told rest rest_told : List ℕ)
-    × ShowsRun settings items heading before (next_begin next runs) run first first_told
-    × ShowRuns settings items heading (unsure_after heading before run) next runs rest rest_told
+-- them
+abbrev pub ShowRuns : AsrunSettings → List Item → Heading → (before : Option ℕ) → List Run → List ℕ → List ℕ → Type 0
+ShowRuns settings items heading before [] text told = (text ≡ []) × (told ≡ [])
+ShowRuns settings items heading before (run ∷ runs) text told = (first first_told rest rest_told : List ℕ)
+    × ShowsRun settings items heading before run runs first first_told
+    × ShowRuns settings items heading (unsure_after heading before run) runs rest rest_told
     × (text ≡ first ++ rest) × (told ≡ first_told ++ rest_told)
 
--- the runs show this, below what stands above the rows, if the run after them, if there is one, begins with this event
-pub record AreShown (settings : AsrunSettings) (items : List Item) (heading : Heading) (next : Option ℕ) (runs : List Run)
+-- the runs show this, below what stands above the rows
+pub record AreShown (settings : AsrunSettings) (items : List Item) (heading : Heading) (runs : List Run)
     (text told : List ℕ) : Type 0 where
   pub rows : List ℕ
-  pub show : ShowRuns settings items heading None next runs rows told
+  pub show : ShowRuns settings items heading None runs rows told
   pub text_is : text ≡ heading_text settings items ++ rows
 
--- so much is shown of the runs so far, with the event that is unsure after them
-abbrev pub ShowsSoFar : AsrunSettings → List Item → Heading → (next : Option ℕ) → List Run → Shown → Type 0
-ShowsSoFar settings items heading next runs shown =
-    AreShown settings items heading next runs shown.text.items shown.told.items
-    × (shown.unsure ≡ unsure_in heading None runs)
+-- these are still to be shown: with their texts behind what is shown so far, all runs are
+abbrev pub ShowsSoFar : AsrunSettings → List Item → Heading → (all rest : List Run) → Shown → Type 0
+ShowsSoFar settings items heading all rest shown = (text told : List ℕ)
+    → ShowRuns settings items heading shown.unsure rest text told
+    → AreShown settings items heading all (shown.text.items ++ text) (shown.told.items ++ told)
+
+-- what is shown gained what a run shows
+pub record ShowsOneMore (settings : AsrunSettings) (items : List Item) (heading : Heading) (run : Run) (behind : List Run)
+    (before after : Shown) : Type 0 where
+  pub text : List ℕ
+  pub told : List ℕ
+  pub shows : ShowsRun settings items heading before.unsure run behind text told
+  pub text_is : after.text.items ≡ before.text.items ++ text
+  pub told_is : after.told.items ≡ before.told.items ++ told
+  pub unsure_is : after.unsure ≡ unsure_after heading before.unsure run
 
 -- whole lines are those of a journal, of the list with this digest if one is given, whose rows are those of controllers of
 -- these items: this is its as-run list, and what is told of it
@@ -166,7 +162,7 @@ pub record ShowsJournal (settings : AsrunSettings) (items : List Item) (digest :
   pub journal : Journal
   pub reads : IsJournal lines journal
   pub of_list : IfSome digest (λ known. journal.heading.digest ≡ known)
-  pub show : AreShown settings items journal.heading None (runs_of journal.rows) text told
+  pub show : AreShown settings items journal.heading (runs_of journal.rows) text told
 
 -- the text is the as-run list, without times, of some journal of these items
 pub record IsAsrunOf (rate : Rate) (items : List Item) (text : List ℕ) : Type 0 where

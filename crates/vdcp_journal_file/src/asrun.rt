@@ -1,21 +1,21 @@
 //! The subcommand `asrun`: the as-run list that a journal shows.
 ghost use Rattle.std.specs.Io.KnownBytes.{Appends, Keeps};
-ghost use Rattle.std.specs.Prelude.{◌≡◌, ◌≢◌, ◌⊎◌, ◌≤◌, ◌<◌, ◌+◌, ◌^◌, ◌∷◌, ◌++◌, ℕ, List, [], None, Some, IfErr, IfOk, IfSome, OnOk, length, option_map};
+ghost use Rattle.std.specs.Prelude.{◌≡◌, ◌≢◌, ◌⊎◌, ◌≤◌, ◌<◌, ◌+◌, ◌^◌, ◌∷◌, ◌++◌, List, [], None, Some, IfErr, IfOk, IfSome, OnOk, length, option_map};
 ghost use Rattle.vdcp_files.specs.Files.{file};
-ghost use Rattle.vdcp_journal.specs.Airings.{FoundSoFar};
 ghost use Rattle.vdcp_journal.specs.Reading.{whole_lines};
 ghost use Rattle.vdcp_journal.specs.Runs.{Run};
 ghost use Rattle.vdcp_journal.specs.declared.row.Heading.{Heading};
-ghost use Rattle.vdcp_journal_file.specs.Resuming.{IsMadeOrRefused};
-ghost use Rattle.vdcp_journal_file.specs.Showing.{IsAsrunOf, IsShown, IsShownAndTold, IsToldOnly, ShowsJournal, ShowsSoFar, digest_of, heading_text, left_unsure, open_text, reported_text, skipped_text, undecided};
+ghost use Rattle.vdcp_journal_file.specs.Resuming.{RunsShow, next_begin};
+ghost use Rattle.vdcp_journal_file.specs.Showing.{IsAsrunOf, IsShown, IsShownAndTold, IsToldOnly, ShowsJournal, ShowsOneMore, digest_of, heading_text, left_unsure, open_text, reported_text, skipped_text, undecided};
 ghost use Rattle.vdcp_journal_file.specs.Torn.{closed};
 ghost use Rattle.vdcp_journal_file.specs.declared.reading.Refusal.TheVariants as refusals;
 ghost use Rattle.vdcp_text.specs.Failure.{status_of};
 ghost use Rattle.vdcp_text.specs.declared.failure.Failure.TheVariants as failures;
 ghost use Rattle.vdcp_text.specs.declared.failure.JournalFault.TheVariants as faults;
+ghost use Rattle.vdcp_value.specs.declared.part.Item.{Item};
 
 use crate::named::events_in;
-use crate::reading::{Refusal, begun, followed, read_refusal, refusal_of};
+use crate::reading::{Refusal, RunAirings, read_refusal, refusal_of, runs_in};
 use crate::skipped::{Skipped, reasons, why_skipped};
 use crate::torn::Closing;
 use std::alloc::Global;
@@ -24,11 +24,7 @@ use std::io::{self, ErrorKind, Write};
 use std::rt::Files;
 use vdcp_auto::Source;
 use vdcp_files::NamedFile;
-use vdcp_journal::laws::{runs_follow_one_another, what_is_told_is_lawful};
-use vdcp_journal::{
-    Airing, Airings, AiringsSoFar, Heading, JournalRows, Resumed, RunSoFar, WholeLines, begins_at,
-    digest_of,
-};
+use vdcp_journal::{Airing, Heading, JournalRows, WholeLines, digest_of};
 use vdcp_list::{write_events, write_timed_events, write_timed_heading};
 use vdcp_text::{Failure, JournalFault};
 use vdcp_value::Rate;
@@ -180,7 +176,7 @@ struct Shown {
     text: Vec<u8>,
     // What standard error gets of the events that may have aired.
     told: Vec<u8>,
-    // The event that may have aired though no run so far reports it.
+    // The event that may have aired, of which no run so far decides that.
     unsure: Option<usize>,
 }
 
@@ -214,40 +210,20 @@ fn shown_by<S: Source, I: io::Read + Drop>(
     ensures { IfOk result (λ shown. ShowsJournal settings (S.items events.now) digest (I.remaining lines)
         shown.text.items shown.told.items) }
 {
-    runs_follow_one_another();
     let mut rows = match JournalRows::begin(alloc, lines) {
         Ok(rows) => rows,
         Err(fault) => return Err(read_refusal(fault)),
     };
     let heading = rows.heading;
     expect(&heading, digest)?;
-    let mut shown = heading_shown(alloc, events, settings);
-    let mut begin = 1;
-    let mut made = begun(events, &heading, 0, 1);
-    let mut airings = AiringsSoFar::new(alloc, events, heading.mode);
-    for read in 0..usize::MAX - 1 {
-        let row = match rows.next_row() {
-            Ok(Some(row)) => row,
-            Ok(None) => {
-                return with_run(alloc, shown, made, airings, begin, None, events, settings);
-            }
-            Err(fault) => return Err(read_refusal(fault)),
-        };
-        match begins_at(&row.note) {
-            Some(event) => {
-                let next = Some(event);
-                shown = with_run(alloc, shown, made, airings, begin, next, events, settings);
-                begin = read + 2;
-                made = begun(events, &heading, event, read + 2);
-                airings = AiringsSoFar::new(alloc, events, heading.mode);
-            }
-            None => {
-                made = followed(made, &row, read + 2);
-                airings.add(&row)?;
-            }
-        }
+    let found = runs_in(alloc, &mut rows, &heading, events)?;
+    let mut shown = heading_shown(alloc, events, settings)?;
+    let mut rest = found.runs.as_slice();
+    while let [run, behind @ ..] = rest {
+        add_run(alloc, run, behind, events, settings, &mut shown)?;
+        rest = behind;
     }
-    Err(Refusal::Read)
+    Ok(shown)
 }
 
 // A controller has a limit of 1 to 1,000.
@@ -268,58 +244,42 @@ fn expect(heading: &Heading, digest: Option<[u8; 32]>) -> Result<(), Refusal>
     Ok(())
 }
 
-// The run's rows have come to an end: there are no more, or the next run begins, with event `next`.
-fn with_run<'s, S: Source>(
+// `behind` are the runs after it.
+fn add_run<S: Source>(
     alloc: Global,
-    shown: Result<Shown, Refusal>,
-    made: Result<RunSoFar<'s, S>, Refusal>,
-    airings: AiringsSoFar<&'s S>,
-    begin: usize,
-    next: Option<usize>,
-    events: &'s S,
+    run: &RunAirings,
+    behind: &[RunAirings],
+    events: &S,
     settings: AsrunSettings,
-) -> Result<Shown, Refusal>
-    requires { (heading : Heading) × (run : Run) × IsMadeOrRefused (λ s. S.items s.now) heading (S.items events.now) run made
-        × FoundSoFar (λ s. S.items s.now) heading.mode run.rows airings }
-    ensures { (heading : Heading) (runs : List Run) (run : Run)
-        → run.begin + 1 ≡ begin
-        → IfOk shown (ShowsSoFar settings (S.items events.now) heading (Some run.from) runs)
-        → IsMadeOrRefused (λ s. S.items s.now) heading (S.items events.now) run made.entry
-        → FoundSoFar (λ s. S.items s.now) heading.mode run.rows airings.entry
-        → IfOk result (ShowsSoFar settings (S.items events.now) heading next (runs ++ run ∷ [])) }
+    shown: &mut Shown,
+) -> Result<(), Refusal>
+    requires { (heading : Heading) × (of : Run) × (runs : List Run)
+        × RunsShow (S.items events.now) heading (of ∷ runs) (run.now ∷ behind.now) }
+    ensures { (heading : Heading) (of : Run) (runs : List Run)
+        → RunsShow (S.items events.now) heading (of ∷ runs) (run.now ∷ behind.now)
+        → OnOk result (ShowsOneMore settings (S.items events.now) heading of runs shown.old shown.new) }
 {
-    what_is_told_is_lawful();
-    let Shown {
-        mut text,
-        mut told,
-        unsure,
-    } = match shown {
-        Ok(shown) => shown,
-        Err(why) => return Err(why),
-    };
-    let run = match made {
-        Ok(run) => run,
-        Err(why) => return Err(why),
-    };
-    let Airings { airings, unsettled } = airings.finish();
-    let Resumed { controller, .. } = run.resume();
-    let from = controller.source().from();
-    let reported = controller.settled();
-    let unsure = left_unsure(unsure, from, reported, unsettled);
-    let why = why_skipped(unsure, controller.outcome());
-    add_reported(
-        alloc,
-        events,
-        from,
-        reported,
-        airings.as_slice(),
-        settings,
-        &mut text,
-    )?;
-    let first = from + reported;
-    add_skipped(alloc, events, next, first, why, settings, &mut text)?;
-    add_event(begin, undecided(next, unsure), &mut told)?;
-    Ok(Shown { text, told, unsure })
+    let (first, outcome) = run.ended?;
+    let next = next_begin(behind);
+    let airings = run.airings.as_slice();
+    let unsure = left_unsure(shown.unsure, run.from, airings.len(), run.unsettled);
+    let why = why_skipped(unsure, outcome);
+    add_reported(alloc, events, run.from, airings, settings, &mut shown.text)?;
+    add_skipped(alloc, events, next, first, why, settings, &mut shown.text)?;
+    add_event(run.begin, undecided(next, unsure), &mut shown.told)?;
+    shown.unsure = unsure;
+    Ok(())
+}
+
+// The event with which the next run begins.
+fn next_begin(behind: &[RunAirings]) -> Option<usize>
+    ensures { (items : List Item) (heading : Heading) (runs : List Run) → RunsShow items heading runs behind.now
+        → result ≡ next_begin runs }
+{
+    match behind {
+        [next, ..] => Some(next.from),
+        [] => None,
+    }
 }
 
 fn print_out<'a, W: io::Write>(shown: Shown, out: &mut W) -> Result<Vec<u8>, Failure<'a>>
@@ -358,22 +318,20 @@ fn add_reported<S: Source>(
     alloc: Global,
     events: &S,
     from: usize,
-    reported: usize,
     airings: &[Airing],
     settings: AsrunSettings,
     text: &mut Vec<u8>,
 ) -> Result<(), Refusal>
-    requires one_each { length airings.now ≡ reported }
-    requires listed { from + reported ≤ length (S.items events.now) }
+    requires { from + length airings.now ≤ length (S.items events.now) }
     ensures text { OnOk result (text.new.items ≡ text.old.items
-        ++ reported_text settings (S.items events.now) from reported airings.now) }
+        ++ reported_text settings (S.items events.now) from (length airings.now) airings.now) }
     ensures memory { IfErr result (λ f. f ≡ refusals.Memory) }
 {
     let AsrunSettings { rate, times, .. } = settings;
     let added = if times {
         write_timed_events(alloc, events, rate, from, airings, text)
     } else {
-        write_events(alloc, events, rate, from, reported, text)
+        write_events(alloc, events, rate, from, airings.len(), text)
     };
     // (the text is written to memory, and each part of a list was read at this rate)
     match added {
@@ -382,7 +340,7 @@ fn add_reported<S: Source>(
     }
 }
 
-// `first` is the first event that a run doesn't report. (`next` is as in `with_run`, and may be any number: if it is past the
+// `first` is the first event that a run doesn't report. (`next` is the event with which the next run begins: if it is past the
 // list's end, that run is refused.)
 fn add_skipped<S: Source>(
     alloc: Global,
@@ -431,7 +389,8 @@ fn left_unsure(
     }
 }
 
-// If the next run begins behind that event, it was decided whether it aired; and one that begins with it tells of it itself.
+// The event of which it is told that it may have aired: none if the next run begins with it, since that run tells of it then, or
+// behind it, since its operator knew then whether it aired.
 fn undecided(next: Option<usize>, unsure: Option<usize>) -> Option<usize>
     ensures { result ≡ undecided next unsure }
 {

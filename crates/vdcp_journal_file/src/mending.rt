@@ -125,7 +125,7 @@ pub(crate) fn mend_end<'a, 's, R: Clock + AllocGlobal, S: Source, F: ReadableDis
         × HasJust F.safe F.written lines file.new
         × Continues (λ s. S.items s.now) wanted.now (S.items source.now) lines r.controller r.«open» r.stood r.unsettled
         r.last_note r.heard
-        × JournalShows wanted.now.mode lines r.runs.items) }
+        × JournalShows (S.items source.now) wanted.now lines r.runs.items) }
     ensures unmended { IfErr result (IsUnresumed (S.items source.now) name.entry wanted.now) }
 {
     let alloc = rt.alloc();
@@ -157,9 +157,9 @@ fn with_rows<'a, 's, S: Source, F: ReadableDisk>(
         → IfOk result (λ r. Continues (λ s. S.items s.now) wanted.now (S.items source.now)
         (option_append (lines_of (F.written file.now)) (Some rows.now)) r.controller r.«open» r.stood r.unsettled r.last_note
         r.heard) }
-    ensures shows { JournalShows wanted.now.mode (lines_of (F.written file.now)) run.entry.runs.items
+    ensures shows { JournalShows (S.items source.now) wanted.now (lines_of (F.written file.now)) run.entry.runs.items
         → whole_lines rows.now ≡ rows.now
-        → IfOk result (λ r. JournalShows wanted.now.mode (option_append (lines_of (F.written file.now)) (Some rows.now))
+        → IfOk result (λ r. JournalShows (S.items source.now) wanted.now (option_append (lines_of (F.written file.now)) (Some rows.now))
         r.runs.items) }
     ensures unresumed { IfErr result (IsUnresumed (S.items source.now) name.entry wanted.now) }
 {

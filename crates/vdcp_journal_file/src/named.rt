@@ -148,7 +148,7 @@ impl Place {
         ensures checked { self.new.is_checked ≡ checked_after self.old.is_checked note.now }
     {
         match note {
-            Note::From(event) => {
+            Note::From(event) | Note::Left(event) => {
                 *self = Place {
                     event: *event,
                     is_checked: false,
@@ -179,7 +179,7 @@ fn add_named(
     note: &Note,
 ) -> Result<(), NamingFault> {
     let added = match note {
-        Note::From(_) => named.extend(event),
+        Note::From(_) | Note::Left(_) => named.extend(event),
         Note::Sent(Command::IdRequest(id)) if !named.is_of(event, *id) => {
             named.set(event, whole(*id))
         }

@@ -39,8 +39,8 @@ pub struct Recorder<'a, 'r, R, F: Disk> {
     name: &'a str,
     unit: u8,
     file: F,
-    // The event that the run began with, if one was named. Its row is in the file.
-    from: Option<usize>,
+    // The note that the run began with, if one was kept. Its row is in the file.
+    from: Option<Note>,
     pub(crate) pending: Pending,
     held: HeldBytes,
 }
@@ -159,18 +159,18 @@ impl<'a, 'r, R: Files + Clock + AllocGlobal, F: Disk + Drop> Recorder<'a, 'r, R,
     }
 
     // From then on the journal tells of this run.
-    pub(crate) fn keep_from(&mut self, event: Option<usize>) -> Result<(), Failure<'a>>
+    pub(crate) fn keep_from(&mut self, from: Option<Note>) -> Result<(), Failure<'a>>
         requires { self.old.pending ≡ Nothing }
-        ensures safe { OnOk result ((time : Moment) × MakesSafe F.safe self.old self.new (from_rows time event)) }
+        ensures safe { OnOk result ((time : Moment) × MakesSafe F.safe self.old self.new (from_rows time from)) }
         ensures synced { OnOk result (F.safe self.new.file ≡ F.written self.new.file) }
-        ensures rest { OnOk result (self.new ≡ record self.old { file = self.new.file; from = event }) }
+        ensures rest { OnOk result (self.new ≡ record self.old { file = self.new.file; from = from }) }
         ensures failure { IfErr result (IsUnwritten self.old.name) }
     {
         let time = now(self.rt);
-        if let Err(fault) = self.write(from_row(time, event), None) {
+        if let Err(fault) = self.write(from_row(time, from), None) {
             return Err(fault.failure(self.name));
         }
-        self.from = event;
+        self.from = from;
         Ok(())
     }
 
@@ -276,14 +276,11 @@ impl<S: Source, R: Files + Clock + AllocGlobal, F: Disk + Drop> Hooks<S>
     }
 }
 
-fn from_row(time: Moment, event: Option<usize>) -> Option<Row>
-    ensures { option_to_list result ≡ from_rows time event }
+fn from_row(time: Moment, from: Option<Note>) -> Option<Row>
+    ensures { option_to_list result ≡ from_rows time from }
 {
-    match event {
-        Some(event) => Some(Row {
-            time,
-            note: Note::From(event),
-        }),
+    match from {
+        Some(note) => Some(Row { time, note }),
         None => None,
     }
 }

@@ -63,7 +63,7 @@ pub fn resume_journal<'a, 'r, 's, R: Files<File = File> + Clock + AllocGlobal, S
     ensures goes_on { IfOk result (λ r. IsSome r.recorder ↔ (outcome_of r.controller.state.stage ≡ None)) }
     ensures unit { IfOk result (λ r. IfSome r.recorder (λ recorder. recorder.unit ≡ wanted.now.unit)) }
     ensures name { IfOk result (λ r. IfSome r.recorder (λ recorder. recorder.name ≡ name.entry)) }
-    ensures shows { IfOk result (λ r. (lines : FileBytes) × JournalShows wanted.now.mode lines r.runs.items) }
+    ensures shows { IfOk result (λ r. (lines : FileBytes) × JournalShows (S.items source.now) wanted.now lines r.runs.items) }
     ensures unresumed { IfErr result (IsUnresumed (S.items source.now) name.entry wanted.now) }
 {
     let file = open(rt, name)?;
@@ -90,7 +90,7 @@ fn resume_in<'a, 'r, 's, R: Files + Clock + AllocGlobal, S: Source, F: ReadableD
         × IfSome r.recorder (λ recorder.
         IsTimedOut (open_after (plan_of_run wanted.now (S.items source.now) run) run.rows) recorder.pending)
         × IfSome r.recorder (λ recorder. HasJust F.safe F.written lines recorder.file)
-        × JournalShows wanted.now.mode lines r.runs.items) }
+        × JournalShows (S.items source.now) wanted.now lines r.runs.items) }
     ensures list { IfOk result (λ r. S.items r.controller.source.source.now ≡ S.items source.now) }
     ensures goes_on { IfOk result (λ r. IsSome r.recorder ↔ (outcome_of r.controller.state.stage ≡ None)) }
     ensures unit { IfOk result (λ r. IfSome r.recorder (λ recorder. recorder.unit ≡ wanted.now.unit)) }
@@ -113,7 +113,7 @@ pub(crate) fn replay_file<'a, 's, S: Source, F: ReadableDisk>(
     requires few { wanted.now.limit ≤ 1000 }
     ensures replayed { IfOk result (λ r. Continues (λ s. S.items s.now) wanted.now (S.items source.now)
         (lines_of (F.written file.now)) r.controller r.«open» r.stood r.unsettled r.last_note r.heard) }
-    ensures shows { IfOk result (λ r. JournalShows wanted.now.mode (lines_of (F.written file.now)) r.runs.items) }
+    ensures shows { IfOk result (λ r. JournalShows (S.items source.now) wanted.now (lines_of (F.written file.now)) r.runs.items) }
     ensures unresumed { IfErr result (IsUnresumed (S.items source.now) name.entry wanted.now) }
 {
     let reader = Closing::new(reader_of(name, file)?);

@@ -6,15 +6,16 @@ use std::alloc::{AllocError, Global};
 use vdcp_auto::Outcome;
 use vdcp_list::Timed;
 
-/// Why an event was left out: the next run began behind it.
+/// Why an event stands between two runs, and neither plays it.
 #[derive(Clone, Copy, Debug)]
 pub(crate) enum Skipped {
-    /// The run ended since the server didn't have its clip.
+    /// The first run ended with it, since the server didn't have its clip.
     Missing,
-    /// The run ended since a command of it was refused.
+    /// The first run ended with it, since a command was refused.
     Refused,
-    /// It may have aired, in the run or before it.
+    /// It may have aired, in the first run or before that.
     Unsure,
+    /// The operator began the second run behind it.
     ByHand,
 }
 
@@ -66,7 +67,7 @@ pub(crate) fn why_skipped(unsure: Option<usize>, outcome: Option<Outcome>) -> Sk
     }
 }
 
-/// The reason for each of so many events that were left out: the first has this one, all others were left out by hand.
+/// The reasons of so many events in a row: the first one has `first`, and all others were left out by hand.
 pub(crate) fn reasons(
     alloc: Global,
     count: usize,

@@ -1,5 +1,5 @@
-use Rattle.std.proofs.Common.{arith}
-use Rattle.vdcp_journal.proofs.RunSteps.{all_runs, counted, ended_more, last_more}
+use Rattle.std.proofs.Common.{arith, refl}
+use Rattle.vdcp_journal.proofs.RunSteps.{all_runs, counted, ended_more, last_more, stays}
 use Rattle.vdcp_journal.proofs.laws.runs_follow_one_another.Goals as goal
 use Rattle.vdcp_journal.specs.Runs.{first_run}
 
@@ -11,6 +11,9 @@ returns-clause-goes_on c = λ rows row. last_more first_run rows row
 
 pub returns-clause-ends : goal.returns-clause-ends
 returns-clause-ends c = λ rows row. ended_more first_run rows row
+
+pub returns-clause-stays : goal.returns-clause-stays
+returns-clause-stays c = λ rows. stays first_run rows refl
 
 pub returns-clause-counts : goal.returns-clause-counts
 returns-clause-counts c = λ rows. omega (arith, counted first_run rows)

@@ -20,7 +20,7 @@ pub returns-in_err-event-clause-unopened : goal.returns-in_err-event-clause-unop
 returns-in_err-event-clause-unopened g c =
     let p = err_from_is_err_and c.from_residual-in_err-event.result c.from_residual-in_err-event.ensures.1 in
     let replayed = c.in_ok-run.ensures.replayed in
-    rw (p.1, p.2) (not_begun _ _ _ _ _ _ _ _ _ (replayed_of _ _ _ _ _ _ _ _ _ _ replayed) (c.in_err-event.ensures.none _ _ replayed.on))
+    rw (p.1, p.2, sym c.said-word.ensures) (not_begun _ _ _ _ _ _ _ _ _ (replayed_of _ _ _ _ _ _ _ _ _ _ replayed) (c.in_err-event.ensures.none _ _ replayed.on))
 
 pub returns-then-is_told_again-clause-opened : goal.returns-then-is_told_again-clause-opened
 returns-then-is_told_again-clause-opened g c =
@@ -31,9 +31,9 @@ returns-then-is_told_again-clause-opened g c =
     IfOk-weaker c.go_on.result _ _ (λ r p. (
       g.F.Disk.written c.mend_heading.new.file,
       c.in_ok-mend_heading.ensures.headed,
-      rw p.0 over,
+      rw (p.0, sym c.said-word.ensures) over,
       unrecorded r.recorder _ _ _ (ap (λ controller. outcome_of controller.state.stage) p.0) ended p.1.0,
-      subst (λ (l : List RunAirings). JournalShows c.args.wanted.now.mode
+      subst (λ (l : List RunAirings). JournalShows (g.S.Source.items c.args.source.now) c.args.wanted.now
           (lines_of (g.F.Disk.written c.mend_heading.new.file)) l) (sym p.1.1) c.in_ok-run.ensures.shows,
     )) (both c.go_on.result _ _ c.go_on.ensures.controller
     (both c.go_on.result _ _ c.go_on.ensures.goes_on c.go_on.ensures.runs))
@@ -45,9 +45,9 @@ returns-clause-opened g c =
     let event = c.in_ok-event.ensures.begins _ _ replayed.on in (
       begun,
       c.in_ok-mend_heading.ensures.headed,
-      rw c.new_controller.ensures
+      rw (c.new_controller.ensures, sym c.said-word.ensures)
           (begins replayed.run _ _ (replayed_of _ _ _ _ _ _ _ _ _ _ replayed) event.1 event.0 refl refl),
-      has_begun g.F.Disk.safe g.F.Disk.written _ c.after-recorder.result c.keep_from.new.self (Some c.in_ok-event.event)
+      has_begun g.F.Disk.safe g.F.Disk.written _ c.after-recorder.result c.keep_from.new.self _
           (rw c.after-recorder.ensures (rw (none_more (lines_of begun)) at c.in_ok-end_with-2.ensures.ends))
           c.in_ok-keep_from.ensures.safe c.in_ok-keep_from.ensures.synced c.in_ok-keep_from.ensures.rest,
       c.in_ok-run.ensures.shows,
@@ -55,7 +55,7 @@ returns-clause-opened g c =
 
 pub returns-clause-from : goal.returns-clause-from
 returns-clause-from g c =
-    rw c.new_controller.ensures (began_with c.after-recorder.result c.keep_from.new.self (Some c.in_ok-event.event)
+    rw (c.new_controller.ensures, sym c.note.ensures) (began_with c.after-recorder.result c.keep_from.new.self _
     (ap (λ (r : Recording _). r.pending) c.after-recorder.ensures) c.in_ok-keep_from.ensures.rest)
 
 pub returns-then-is_told_again-clause-list : goal.returns-then-is_told_again-clause-list

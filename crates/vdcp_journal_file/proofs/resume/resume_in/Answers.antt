@@ -23,7 +23,7 @@ returns-clause-resumed g c =
       subst (λ (o : Option Command). IfSome r.recorder (λ recorder. IsTimedOut o recorder.pending)) replayed.on.asked_is
           p.1.0,
       IfSome_then r.recorder p.1.1.0 (λ recorder is. rw is just),
-      subst (λ (l : List RunAirings). JournalShows c.args.wanted.now.mode lines l) (sym p.1.1.1) shown,
+      subst (λ (l : List RunAirings). JournalShows (g.S.Source.items c.args.source.now) c.args.wanted.now lines l) (sym p.1.1.1) shown,
     )) (both c.go_on.result _ _ c.go_on.ensures.controller
     (both c.go_on.result _ _ c.go_on.ensures.pending
     (both c.go_on.result _ _ c.go_on.ensures.file c.go_on.ensures.runs)))

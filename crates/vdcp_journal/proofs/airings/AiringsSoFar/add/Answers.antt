@@ -1,7 +1,7 @@
 use Rattle.std.proofs.Common.{◌+◌, ◌<◌, ◌^◌, [], ◌∷◌, ◌++◌, None, false, length, arith, ap, refl, subst, sym, ◌∙◌}
 use Rattle.vdcp_auto.specs.Judging.{Knows}
 use Rattle.vdcp_auto.specs.Settled.{settled}
-use Rattle.vdcp_journal.proofs.AiringSteps.{airings_more, announces_more, asked_on, ended_in, ended_more, fits, played_on}
+use Rattle.vdcp_journal.proofs.AiringSteps.{airings_more, announces_more, asked_on, end_more, ended_in, ended_more, fits, played_on}
 use Rattle.vdcp_journal.proofs.airings.AiringsSoFar.add.Goals as goal
 use Rattle.vdcp_journal.specs.Airings.{IsLastPlayIf, announces_after, is_play_row}
 use Rattle.vdcp_journal.specs.Resume.{ended_at, open_after}
@@ -27,8 +27,9 @@ returns g c = λ mode rows found few.
           ∙ sym (announces_more false rows row);
       played = subst (IsLastPlayIf all) (sym c.last_play-self.ensures)
           (played_on rows row (is_play_row row) old.played refl found.played);
+      first_end_is = let end = c.end_in-end.ensures in let first = found.first_end_is in cc (end_more rows row);
       are = airings_more law.settled law.open mode rows row old.played old.airings.items c.note_end.new.airings.items
-          c.add_airing.new.airings.items c.settled-settled.result _ found.are found.played
-          (record { last = c.note_end.ensures.last; none = c.note_end.ensures.none }) count
-          (record { same = c.in_ok-add_airing.ensures.same; more = c.in_ok-add_airing.ensures.more });
+          c.add_airing.new.airings.items c.settled-settled.result found.are found.played
+          (record { last = rw c.end_in-end.ensures at c.note_end.ensures.last; none = c.note_end.ensures.none }) count
+          (record { same = c.in_ok-add_airing.ensures.same; more = rw c.end_in-end.ensures at c.in_ok-add_airing.ensures.more });
     }

@@ -1,7 +1,7 @@
 use Rattle.std.proofs.Common.{refl}
 use Rattle.std.proofs.lemmas.Result.{IfErr-weaker, IfOk-weaker}
 use Rattle.vdcp_journal_file.proofs.OpenedAgain.{both, next_begins, none_next}
-use Rattle.vdcp_journal_file.proofs.again.beginning.Goals as goal
+use Rattle.vdcp_journal_file.proofs.again.first_event.Goals as goal
 use Rattle.vdcp_journal_file.specs.Resuming.{not_listed}
 
 pub returns-in-Some-clause-begins : goal.returns-in-Some-clause-begins
