@@ -456,10 +456,9 @@ fn skip<'a>(alloc: Global) -> Result<Arg<'a>, AllocError> {
     flag(
         alloc,
         "skip",
-        "With --stay, leaves out an event whose clip the server doesn't have, or whose cue it refuses",
+        "With --stay, leaves out an event whose clip the server doesn't have, or, without --confirm, whose cue it refuses",
     )
-    .requires_arg("stay")?
-    .conflicts_with("confirm")
+    .requires_arg("stay")
 }
 
 fn unsure<'a>(alloc: Global) -> Result<Arg<'a>, AllocError> {

@@ -11,6 +11,7 @@ use Rattle.vdcp_value.specs.declared.part.Item.{Item}
 use Rattle.serde_json.specs.View.{items_of}
 use Rattle.serde_json.specs.Written.{has_float, items_have_float}
 use Rattle.vdcp_operator.specs.Seen.{IsSeen, Keeps, ShowsRun, about, ending_data, length_by, number_data, page_bytes, record_data, row_data, seen_data, state_bytes}
+use Rattle.vdcp_operator.specs.declared.ahead.Ahead.{Ahead}
 use Rattle.vdcp_operator.specs.declared.left_out.LeftOut.{LeftOut}
 use Rattle.vdcp_operator.specs.declared.seen.Ending.{Ending}
 use Rattle.vdcp_operator.specs.declared.seen.EventSeen.{EventSeen}
@@ -34,15 +35,15 @@ record_whole : (r : Option Record) → has_float (record_data r) ≡ false
 record_whole None = refl
 record_whole (Some r) = refl
 
-rows_whole : (rate : Rate) (clips : Option (List (ClipId × Timecode))) (left : LeftOut) (events : List EventSeen)
-    → items_have_float (items_of (map (row_data rate clips left) events)) ≡ false
-rows_whole rate clips left [] = refl
-rows_whole rate clips left (e ∷ events) =
+rows_whole : (rate : Rate) (clips : Option (List (ClipId × Timecode))) (left : LeftOut) (ahead : Ahead) (events : List EventSeen)
+    → items_have_float (items_of (map (row_data rate clips left ahead) events)) ≡ false
+rows_whole rate clips left ahead [] = refl
+rows_whole rate clips left ahead (e ∷ events) =
     rw (number_whole e.at, ending_whole e.ending, record_whole e.kept, number_whole (length_by clips e.item), number_whole e.until)
-    (rows_whole rate clips left events)
+    (rows_whole rate clips left ahead events)
 
 pub seen_whole : (v : RunSeen) → has_float (seen_data v) ≡ false
-seen_whole v = rw (rows_whole v.rate v.clips.now v.hand.left_out.now v.rows.now, number_whole v.hand.start, number_whole v.down) refl
+seen_whole v = rw (rows_whole v.rate v.clips.now v.hand.left_out.now v.ahead v.rows.now, number_whole v.hand.start, number_whole v.down) refl
 
 -- the page's own panel and calls answered
 pub shows : {S : Type 0} (items : S → List Item) (c : View (FromEvent S)) (page followed page' : RunPage) (end : Option (Option Outcome))

@@ -1,11 +1,17 @@
 -- Which events of a list are left out.
-use Rattle.std.specs.List.{list_any}
-use Rattle.std.specs.Prelude.{ℕ, ◌≡◌, ◌<◌, ◌≤◌, ◌+◌, ◌&&◌, ◌||◌, ◌⊎◌, Bool, true, false, not, List, length, Option, None, Some, Result, Ok, Err, if◌then◌else◌, nat_le, nat_lt}
+use Rattle.std.specs.List.{list_all, list_any, range_with_len}
+use Rattle.std.specs.Option.{option_or}
+use Rattle.std.specs.Prelude.{ℕ, ◌≡◌, ◌<◌, ◌≤◌, ◌+◌, ◌-◌, ◌&&◌, ◌||◌, ◌⊎◌, Bool, true, false, not, List, length, Option, None, Some, Result, Ok, Err, if◌then◌else◌, nat_eq, nat_le, nat_lt}
 use Rattle.vdcp_auto.specs.Plan.{View}
 use Rattle.vdcp_auto.specs.State.{Stage, Ready, Awaiting, Ended}
+use Rattle.vdcp_auto.specs.declared.phase.Mode.{Mode}
+use Rattle.vdcp_auto.specs.declared.phase.Mode.TheVariants.{Plain, Confirming}
 use Rattle.vdcp_auto.specs.declared.phase.Phase.{Phase}
 use Rattle.vdcp_auto.specs.declared.phase.Phase.TheVariants as phase
 use Rattle.vdcp_list.specs.Rests.{FromEvent}
+use Rattle.vdcp_operator.specs.declared.ahead.Ahead.{Ahead}
+use Rattle.vdcp_operator.specs.declared.ahead.Cued.{Cued}
+use Rattle.vdcp_operator.specs.declared.ahead.Cued.TheVariants as cues
 use Rattle.vdcp_operator.specs.declared.left_out.LeaveFault.{LeaveFault}
 use Rattle.vdcp_operator.specs.declared.left_out.LeaveFault.TheVariants as faults
 use Rattle.vdcp_operator.specs.declared.left_out.LeftOut.{LeftOut}
@@ -49,35 +55,89 @@ first_unasked from events (Ready p) = unasked_behind from events p
 first_unasked from events (Awaiting p) = unasked_behind from events p
 first_unasked from events (Ended outcome) = events
 
--- the events that the server isn't asked about
-abbrev pub ahead_of : {S : Type 0} → (S → List Item) → View (FromEvent S) → Stretch
-ahead_of items c = record {
-  first = first_unasked c.source.from (length (items c.source.source)) c.state.stage;
-  end = length (items c.source.source);
+-- the event that the server was asked about, unless its PLAY may have put it to air
+abbrev pub cued_in : (from : ℕ) → Stage → Option ℕ
+cued_in from (Awaiting (phase.Exists k)) = Some (from + k)
+cued_in from (Ready (phase.Cue k)) = Some (from + k)
+cued_in from (Awaiting (phase.Cue k)) = Some (from + k)
+cued_in from (Ready (phase.Wait k)) = Some (from + k)
+cued_in from (Awaiting (phase.Wait k)) = Some (from + k)
+cued_in from (Ready (phase.Play k)) = Some (from + k)
+cued_in from _ = None
+
+-- the first event that can be left out: in plain mode also the one that is cued
+abbrev pub first_ahead : Mode → (cued : Option ℕ) → (unasked : ℕ) → ℕ
+first_ahead Plain (Some event) unasked = event
+first_ahead mode cued unasked = unasked
+
+-- In plain mode the cue of another one replaces what is cued. The event before a run's first one may be, as long as the server
+-- isn't asked about that.
+abbrev pub cued_as : Mode → (cued : Option ℕ) → (from unasked : ℕ) → Cued
+cued_as Plain (Some event) from unasked = cues.Replaceable
+cued_as Plain None from unasked = if nat_lt 0 from && nat_eq unasked from then cues.Replaceable else cues.Nothing
+cued_as Confirming (Some event) from unasked = cues.Fixed event
+cued_as Confirming None from unasked = cues.Nothing
+
+abbrev pub ahead_by : Mode → (cued : Option ℕ) → (from unasked events : ℕ) → Ahead
+ahead_by mode cued from unasked events = record {
+  events = record { first = first_ahead mode cued unasked; end = events };
+  cued = cued_as mode cued from unasked;
 }
+
+-- the events that can be left out, and what is cued
+abbrev pub ahead_of : {S : Type 0} → (S → List Item) → View (FromEvent S) → Ahead
+ahead_of items c =
+    let from = c.source.from in
+    let events = length (items c.source.source) in
+    ahead_by c.mode (cued_in from c.state.stage) from (first_unasked from events c.state.stage) events
 
 abbrev pub only : ℕ → Stretch
 only event = record { first = event; end = event + 1 }
 
--- the events ahead before this one
+-- the events of a stretch before this one
 abbrev pub up_to : Stretch → ℕ → Stretch
-up_to ahead event = record { first = ahead.first; end = event }
+up_to stretch event = record { first = stretch.first; end = event }
 
--- why this event can't be left out, if it can't
-abbrev pub fault_at : LeftOut → (ahead : Stretch) → ℕ → Option LeaveFault
+-- why an event before those ahead can't be left out
+abbrev pub past_fault : Cued → ℕ → LeaveFault
+past_fault (cues.Fixed fixed) event = if nat_eq fixed event then faults.Cued event else faults.Past event
+past_fault _ event = faults.Past event
+
+-- why this event can be neither left out nor gone on with, if it can't
+abbrev pub fault_at : LeftOut → Ahead → ℕ → Option LeaveFault
 fault_at left ahead event =
     if not left.stays then Some faults.NoStay
-    else if nat_le ahead.end event then Some (faults.NoEvent event)
-    else if nat_lt event ahead.first then Some (faults.Past event)
+    else if nat_le ahead.events.end event then Some (faults.NoEvent event)
+    else if nat_lt event ahead.events.first then Some (past_fault ahead.cued event)
+    else if is_left_out left event then Some (faults.LeftOut event)
     else None
 
-abbrev pub or_left_out : Option LeaveFault → (is_out : Bool) → ℕ → Option LeaveFault
-or_left_out (Some fault) is_out event = Some fault
-or_left_out None is_out event = if is_out then Some (faults.LeftOut event) else None
+-- each other event of a stretch is left out
+abbrev pub has_no_other : LeftOut → Stretch → ℕ → Bool
+has_no_other left stretch event =
+    list_all (λ k. nat_eq k event || is_left_out left k) (range_with_len stretch.first (stretch.end - stretch.first))
+
+abbrev pub is_replaceable : Cued → Bool
+is_replaceable cues.Replaceable = true
+is_replaceable _ = false
+
+-- whether it is the last one that could replace what is cued
+abbrev pub last_fault : LeftOut → Ahead → ℕ → Option LeaveFault
+last_fault left ahead event =
+    if is_replaceable ahead.cued && has_no_other left ahead.events event then Some (faults.Last event) else None
+
+-- in confirm mode what is cued would air before the event with which the list is to go on
+abbrev pub fixed_fault : Cued → Option LeaveFault
+fixed_fault (cues.Fixed fixed) = Some (faults.Cued fixed)
+fixed_fault _ = None
+
+-- why this event can't be left out, if it can't
+abbrev pub skip_fault_at : LeftOut → Ahead → ℕ → Option LeaveFault
+skip_fault_at left ahead event = option_or (fault_at left ahead event) (last_fault left ahead event)
 
 -- why the list can't go on with this event, if it can't
-abbrev pub jump_fault_at : LeftOut → (ahead : Stretch) → ℕ → Option LeaveFault
-jump_fault_at left ahead event = or_left_out (fault_at left ahead event) (is_left_out left event) event
+abbrev pub jump_fault_at : LeftOut → Ahead → ℕ → Option LeaveFault
+jump_fault_at left ahead event = option_or (fault_at left ahead event) (fixed_fault ahead.cued)
 
 -- these events are left out, too, and no other
 abbrev pub Adds : Stretch → (old new : LeftOut) → Type 0
@@ -87,19 +147,25 @@ Adds more old new = (new.stays ≡ old.stays) × ((k : ℕ) → is_left_out new 
 abbrev pub LeavesOut : Option LeaveFault → Stretch → (old new : LeftOut) → Result (Unit {0}) LeaveFault → Type 0
 LeavesOut fault more old new (Ok done) = (fault ≡ None) × Adds more old new
 LeavesOut (Some e) more old new (Err why) = (new ≡ old) × (why ≡ e)
-LeavesOut None more old new (Err why) = (new ≡ old) × (why ≡ faults.Full) × (length old.stretches.items ≡ 64)
+LeavesOut None more old new (Err why) = (new ≡ old) × (why ≡ faults.Full) × (length old.stretches.items ≡ 512)
 
 -- what a line makes of what is left out
-abbrev pub Obeys : (ahead : Stretch) → Said → (old new : LeftOut) → Type 0
+abbrev pub Obeys : Ahead → Said → (old new : LeftOut) → Type 0
 Obeys ahead (said.Skip event) old new = (done : Result (Unit {0}) LeaveFault)
-    × LeavesOut (fault_at old ahead event) (only event) old new done
+    × LeavesOut (skip_fault_at old ahead event) (only event) old new done
 Obeys ahead (said.Jump event) old new = (done : Result (Unit {0}) LeaveFault)
-    × LeavesOut (jump_fault_at old ahead event) (up_to ahead event) old new done
+    × LeavesOut (jump_fault_at old ahead event) (up_to ahead.events event) old new done
 Obeys ahead _ old new = new ≡ old
 
--- events may be left out that weren't: each is one of those ahead, and the run stays
-pub record LeavesOutAhead (ahead : Stretch) (old new : LeftOut) : Type 0 where
+-- an event of a stretch isn't left out
+abbrev pub KeepsOne : LeftOut → Stretch → Type 0
+KeepsOne left stretch = (k : ℕ) × (has stretch k ≡ true) × (is_left_out left k ≡ false)
+
+-- Events may be left out that weren't: each is one of those ahead, and the run stays. If another one's cue has to replace what is
+-- cued, not all of them are, unless they were.
+pub record LeavesOutAhead (ahead : Ahead) (old new : LeftOut) : Type 0 where
   pub more : (k : ℕ) → is_left_out old k ≡ true → is_left_out new k ≡ true
-  pub ahead_only : (k : ℕ) → is_left_out new k ≡ true → (is_left_out old k ≡ true) ⊎ (has ahead k ≡ true)
+  pub ahead_only : (k : ℕ) → is_left_out new k ≡ true → (is_left_out old k ≡ true) ⊎ (has ahead.events k ≡ true)
+  pub replaced : ahead.cued ≡ cues.Replaceable → KeepsOne old ahead.events → KeepsOne new ahead.events
   pub stays : new.stays ≡ old.stays
   pub no_stay : old.stays ≡ false → new ≡ old

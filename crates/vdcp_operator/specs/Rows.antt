@@ -10,6 +10,8 @@ use Rattle.vdcp_operator.specs.declared.seen.Ending.{Ending}
 use Rattle.vdcp_operator.specs.declared.seen.Ending.TheVariants as endings
 use Rattle.vdcp_operator.specs.declared.seen.EventBefore.{EventBefore}
 use Rattle.vdcp_operator.specs.declared.seen.EventSeen.{EventSeen}
+use Rattle.vdcp_operator.specs.declared.seen.Record.{Record}
+use Rattle.vdcp_operator.specs.declared.seen.Record.TheVariants as records
 use Rattle.vdcp_operator.specs.declared.shown.Known.{Known}
 use Rattle.vdcp_operator.specs.declared.shown.News.{News}
 use Rattle.vdcp_value.specs.declared.part.Item.{Item}
@@ -60,9 +62,17 @@ news_of since before event snapshot now = record {
   now = now;
 }
 
--- the events from the one that was next up to the one that is went to air
-abbrev pub at_in : News → ℕ → Option ℕ
-at_in news k = if nat_le news.since k && nat_lt k news.event then Some news.now else None
+-- a journal says that it didn't go to air, or may not have
+abbrev pub is_unaired : Option Record → Bool
+is_unaired (Some records.LeftOut) = true
+is_unaired (Some records.MayHaveAired) = true
+is_unaired _ = false
+
+-- the events from the one that was next up to the one that is went to air, but for those that were left out
+abbrev pub at_in : News → Option EventBefore → ℕ → Option ℕ
+at_in news said k =
+    if is_unaired (option_map (λ b. b.kept) said) then None
+    else if nat_le news.since k && nat_lt k news.event then Some news.now else None
 
 -- the one before that which is next ended
 abbrev pub ending_in : News → ℕ → Option Ending
@@ -82,18 +92,30 @@ abbrev pub before_of : List EventBefore → ℕ → Option EventBefore
 before_of [] k = None
 before_of (first ∷ before) k = if nat_eq first.number k then Some first else before_of before k
 
--- when it began, when it ended, and how
+-- when it was played, and when its end was first seen, by what is said
+abbrev pub said_at : Option EventBefore → Option ℕ
+said_at None = None
+said_at (Some said) = said.at
+
+abbrev pub said_until : Option EventBefore → Option ℕ
+said_until None = None
+said_until (Some said) = said.until
+
+-- when it began, when it ended, and how: what an older look saw goes first
 abbrev pub known_of : Option EventSeen → Option EventBefore → Known
-known_of (Some older) said = record { at = older.at; until = older.until; ending = older.ending }
-known_of None (Some said) = record { at = said.at; until = said.until; ending = None }
-known_of None None = record { at = None; until = None; ending = None }
+known_of (Some older) said = record {
+  at = option_or older.at (said_at said);
+  until = option_or older.until (said_until said);
+  ending = older.ending;
+}
+known_of None said = record { at = said_at said; until = said_until said; ending = None }
 
 abbrev pub row_by : News → Option EventBefore → Known → ℕ → Item → EventSeen
 row_by news said known k item = record {
   number = k;
   item = item;
   kept = option_map (λ b. b.kept) said;
-  at = option_or known.at (at_in news k);
+  at = option_or known.at (at_in news said k);
   until = until_in news known.until (ending_after known.ending (ending_in news k));
   ending = ending_after known.ending (ending_in news k);
 }

@@ -1,5 +1,5 @@
 -- What the page of a run shows.
-use Rattle.std.specs.Prelude.{ℕ, ◌≡◌, ◌≤◌, ◌+◌, ◌-◌, ◌^◌, Bool, All, min, List, [], ◌∷◌, codes, drop, is_some, length, map, string_bytes, take, Option, None, Some, if◌then◌else◌}
+use Rattle.std.specs.Prelude.{ℕ, ◌≡◌, ◌≤◌, ◌+◌, ◌-◌, ◌^◌, Bool, All, min, List, [], ◌∷◌, codes, drop, is_some, length, map, not, string_bytes, take, Option, None, Some, if◌then◌else◌}
 use Rattle.std.specs.Option.{option_flatten}
 use Rattle.serde_json.specs.Data.{Data, array, boolean, member, no_members, null, number, object, string, unsigned}
 use Rattle.serde_json.specs.View.{items_of}
@@ -12,8 +12,9 @@ use Rattle.vdcp_auto.specs.declared.snapshot.Standing.{Standing}
 use Rattle.vdcp_auto.specs.declared.snapshot.Standing.TheVariants as standing
 use Rattle.vdcp_auto.specs.declared.outcome.Outcome.{Outcome}
 use Rattle.vdcp_list.specs.Rests.{FromEvent}
-use Rattle.vdcp_operator.specs.LeftOut.{is_left_out}
+use Rattle.vdcp_operator.specs.LeftOut.{ahead_of, is_left_out, skip_fault_at}
 use Rattle.vdcp_operator.specs.Rows.{IsRow, news_of}
+use Rattle.vdcp_operator.specs.declared.ahead.Ahead.{Ahead}
 use Rattle.vdcp_operator.specs.declared.left_out.LeftOut.{LeftOut}
 use Rattle.vdcp_operator.specs.declared.seen.Ending.{Ending}
 use Rattle.vdcp_operator.specs.declared.seen.Ending.TheVariants as endings
@@ -92,8 +93,8 @@ abbrev pub record_data : Option Record → Data
 record_data None = null
 record_data (Some r) = string (record_text r)
 
-abbrev pub row_with : (item : List ℕ) → (length : Option ℕ) → (is_out : Bool) → EventSeen → Data
-row_with item length is_out e =
+abbrev pub row_with : (item : List ℕ) → (length : Option ℕ) → (is_out can_skip : Bool) → EventSeen → Data
+row_with item length is_out can_skip e =
     object (member (codes "at") (number_data e.at)
     (member (codes "ending") (ending_data e.ending)
     (member (codes "item") (string item)
@@ -101,10 +102,16 @@ row_with item length is_out e =
     (member (codes "length") (number_data length)
     (member (codes "number") (number (unsigned e.number))
     (member (codes "out") (boolean is_out)
-    (member (codes "until") (number_data e.until) no_members))))))))
+    (member (codes "skip") (boolean can_skip)
+    (member (codes "until") (number_data e.until) no_members)))))))))
 
-abbrev pub row_data : Rate → Option (List (ClipId × Timecode)) → LeftOut → EventSeen → Data
-row_data rate clips left e = row_with (item_text rate e.item) (length_by clips e.item) (is_left_out left e.number) e
+unfoldable pub can_skip : LeftOut → Ahead → ℕ → Bool
+can_skip left ahead event = not (is_some (skip_fault_at left ahead event))
+
+-- whether it is left out, and whether it can be
+abbrev pub row_data : Rate → Option (List (ClipId × Timecode)) → LeftOut → Ahead → EventSeen → Data
+row_data rate clips left ahead e =
+    row_with (item_text rate e.item) (length_by clips e.item) (is_left_out left e.number) (can_skip left ahead e.number) e
 
 -- what stays of a run, and how its line is
 abbrev pub run_data : RunSeen → Data
@@ -128,7 +135,7 @@ seen_data v =
     (member (codes "events") (number (unsigned v.events))
     (member (codes "now") (number (unsigned v.clock))
     (member (codes "outcome") (string (outcome_text v.outcome))
-    (member (codes "rows") (array (items_of (map (row_data v.rate v.clips.now v.hand.left_out.now) v.rows.now)))
+    (member (codes "rows") (array (items_of (map (row_data v.rate v.clips.now v.hand.left_out.now v.ahead) v.rows.now)))
     (member (codes "run") (run_data v)
     (member (codes "stage") (string (stage_text v.snapshot.standing))
     (member (codes "start") (number_data v.hand.start)
@@ -164,8 +171,8 @@ pub record AreRound (items : List Item) (event : ℕ) (rows : List EventSeen) : 
   pub are : map with_number rows ≡ take count (numbered (event - 20) (drop (event - 20) items))
 
 -- what is seen of a run, by its page as it was: the controller as it is, with the events round the one that is next, and what
--- is known of each; how it ended, if it is over; and the hand: how many commands went out, when it starts, whether nothing new
--- goes to air, and which events are left out
+-- is known of each; how it ended, if it is over; the hand: how many commands went out, when it starts, whether nothing new goes
+-- to air, and which events are left out; and which can be
 pub record IsSeen {S : Type 0} (items : S → List Item) (c : View (FromEvent S)) (page : RunPage) (end : Option (Option Outcome))
     (hand : HandSeen) (view : RunSeen) : Type 0 where
   pub names : view.names.now ≡ page.names
@@ -180,6 +187,7 @@ pub record IsSeen {S : Type 0} (items : S → List Item) (c : View (FromEvent S)
   pub round : AreRound (items c.source.source) (event_of c) view.rows.now
   pub rows : All (IsRow (news_of page.event page.standing (event_of c) view.snapshot view.clock) page.rows.items page.before.items) view.rows.now
   pub hand_is : view.hand ≡ hand
+  pub ahead : view.ahead ≡ ahead_of items c
   pub down : view.down ≡ page.down
 
 -- the page keeps what was seen, for the next look

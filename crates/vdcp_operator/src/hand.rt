@@ -13,8 +13,8 @@ ghost use Rattle.vdcp_operator.specs.declared.hand.Until.{Until};
 ghost use Rattle.vdcp_operator.specs.declared.shown.RunPage.{RunPage};
 ghost use Rattle.vdcp_words.specs.declared.command.Command.{Command};
 
-use crate::ahead::ahead_of;
-use crate::left_out::{LeftOut, Stretch};
+use crate::ahead::{Ahead, ahead_of};
+use crate::left_out::LeftOut;
 use crate::polling::Polling;
 use crate::seen::{EventBefore, HandSeen};
 use crate::shown::RunPage;
@@ -368,7 +368,7 @@ impl<'a, R: Clock, I: Read + Drop, E: Write> Hand<'a, R, I, E> {
     }
 
     // Gives a call, or holds or goes on, or leaves out events, and tells so or why not.
-    fn obey(&mut self, said: Said, ahead: Stretch) -> Option<Call>
+    fn obey(&mut self, said: Said, ahead: Ahead) -> Option<Call>
         ensures call { result ≡ called_by (Some said) }
         ensures holds { self.new.holds ≡ holds_after (Some said) self.old.holds }
         ensures obeys { Obeys ahead said self.old.left_out self.new.left_out }

@@ -71,7 +71,6 @@ function clock(ms) {
 const named = item => item.replace(/ (\d\d:\d\d:\d\d[:;]\d\d) (\d\d:\d\d:\d\d[:;]\d\d)$/, ' from $1 for $2');
 const file = path => path.split('/').pop();
 
-const isCued = run => run.stage === 'waiting' || run.stage === 'starting';
 const isOver = run => run.over || run.stage === 'ended' || run.outcome !== 'open';
 const isWell = run => run.outcome === 'done' || run.outcome === 'stopped';
 const outcome = run => 'the run has ended: ' + (run.outcome === 'open' ? 'the line failed' : run.outcome);
@@ -79,9 +78,9 @@ const heading = run => file(run.list) + ' \u2192 ' + run.server;
 const waits = () => seen !== null && seen.start !== null;
 const holds = () => seen !== null && seen.holding;
 const find = (run, number) => run.rows.find(r => r.number === number);
-// the event that comes next, and from which one on the server isn't asked about them
+// the event that comes next, and whether it is cued: what is left out may be cued still
 const upNext = run => isOver(run) ? undefined : run.rows.find(r => r.number >= run.event && !r.out);
-const unasked = run => run.event + (run.stage === 'opening' || run.stage === 'checking' ? 0 : 1);
+const isCued = run => (run.stage === 'waiting' || run.stage === 'starting') && upNext(run)?.number === run.event;
 // the last event that went to air in this run; it is on air until its end is seen, or that it was cut is answered
 const last = run => run.event > run.from ? find(run, run.event - 1) : undefined;
 const onAir = run => {
@@ -156,7 +155,7 @@ function rows(run, times) {
     if (row.className !== kind) row.className = kind;
     row.children[3].className = planned ? 'plan' : '';
     row.lastChild.firstChild.name = 'skip ' + r.number;
-    row.lastChild.firstChild.hidden = !run.stays || isOver(run) || run.stage === 'stopping' || r.out || r.number < unasked(run);
+    row.lastChild.firstChild.hidden = isOver(run) || !r.skip;
     [String(r.number), named(r.item), word, planned ? '~' + clock(times.get(r.number)) : between(r)].forEach((t, k) => {
       if (row.children[k].textContent !== t) row.children[k].textContent = t;
     });
@@ -190,11 +189,11 @@ function step(run) {
   return 'Nothing is heard of the server, which may play on. ' + again;
 }
 
-function health(kind, text, stale) {
+function health(kind, text, stale, isOut = false) {
   $('health').className = kind;
   put('health', text);
   document.body.classList.toggle('stale', stale);
-  off = kind === 'gone' || token === '' || seen === null || isOver(seen);
+  off = isOut || token === '' || seen === null || isOver(seen);
   for (const button of document.querySelectorAll('button')) button.disabled = off;
   if (token === '') put('told', 'To make calls, open the address that the run has printed, with all that follows #.');
 }
@@ -221,7 +220,7 @@ function show(run) {
   $('after').hidden = step(run) === '';
   if (isOver(run)) health(isWell(run) ? 'idle' : 'gone', outcome(run), false);
   else if (run.start !== null) health('idle', 'waits for its start' + (held && '; ' + held), false);
-  else if (run.down !== null) health('gone', 'no line since ' + clock(run.down) + ': connecting', true);
+  else if (run.down !== null) health('gone', 'line down since ' + clock(run.down) + ': tried again each second', true);
   else if (run.unanswered > 0) health('gone', 'no answer', true);
   else if (held !== '') health('held', held, false);
   else health('good', 'runs', false);
@@ -234,7 +233,9 @@ function tick() {
   for (const button of document.querySelectorAll('button')) label(button);
   if (seen === null) return;
   const air = onAir(seen), next = upNext(seen), planned = plan(seen);
-  put('air-time', !air || air.at === null ? '' : 'for ' + time(now() - air.at) + (air.length === null ? '' : ', ' + frames(air.at + air.length - now(), seen.rate) + ' left'));
+  const end = !air || air.at === null || air.length === null ? null : air.at + air.length;
+  const left = end === null ? '' : seen.down === null ? ', ' + frames(end - now(), seen.rate) + ' left' : ', until ' + clock(end) + ' by its length';
+  put('air-time', !air || air.at === null ? '' : 'for ' + time(now() - air.at) + left);
   const at = next && planned.times.has(next.number) ? ', about ' + clock(planned.times.get(next.number)) : '';
   put('next-time', !next ? '' : waits() ? 'at ' + clock(seen.start) + ', in ' + frames(seen.start - now(), seen.rate) : (isCued(seen) ? 'cued' : seen.stage) + (seen.holding ? ', held back' : at));
   put('left', isOver(seen) ? 'it has ended' : planned.end === null ? 'not known' : (planned.whole ? '' : 'more than ') + time(planned.end - now()));
@@ -247,7 +248,7 @@ async function look() {
     const state = await answer.json();
     show({ ...state, ...state.run });
   } catch (e) {
-    if (seen === null || !isOver(seen)) health('gone', 'the run has ended, or is out of reach: this is how it was', true);
+    if (seen === null || !isOver(seen)) health('gone', 'the run has ended, or is out of reach: this is how it was', true, true);
   }
   setTimeout(look, document.hidden ? 1000 : 250);
 }

@@ -22,8 +22,8 @@ const PATIENCE: u64 = 1_000;
 const ERASE: &'static str = "\r\x1b[K";
 
 /// A terminal's line: the item on air, by the answers, and for how long; the next event and the command sent; a long time
-/// without an answer; how many events of the whole list are reported; the time so far. If nothing changes it is drawn ten
-/// times a second at most.
+/// without an answer, or without a line; how many events of the whole list are reported; the time so far. If nothing changes
+/// it is drawn ten times a second at most.
 #[derive(Drop)]
 pub struct Progress<'a, R: Clock, V: io::Write> {
     clock: &'a R,
@@ -33,6 +33,8 @@ pub struct Progress<'a, R: Clock, V: io::Write> {
     work: Work,
     // When the first command went out that wasn't answered.
     asked: Option<Instant>,
+    // Since when there is no line.
+    down: Option<Instant>,
     // How many events are reported, and since when; None if they were when the run began.
     reported: Option<(usize, Option<Instant>)>,
     begun: Option<Instant>,
@@ -63,6 +65,8 @@ struct Glance {
     reported: Option<u64>,
     /// For how many seconds, if that is long.
     unanswered: Option<u64>,
+    /// For how many seconds there has been no line.
+    down: Option<u64>,
 }
 
 impl<'a, R: Clock, V: io::Write + Drop> Progress<'a, R, V> {
@@ -74,6 +78,7 @@ impl<'a, R: Clock, V: io::Write + Drop> Progress<'a, R, V> {
             terminal: Some(terminal),
             work: Work::Questions,
             asked: None,
+            down: None,
             reported: None,
             begun: None,
             drawn: None,
@@ -104,6 +109,19 @@ impl<'a, R: Clock, V: io::Write + Drop> Progress<'a, R, V> {
         }
     }
 
+    /// There is no line, from now on if there was one: the progress line says so, with what was last seen on air.
+    pub fn see_down(&mut self) {
+        self.asked = None;
+        self.down = self.down.or(Instant::now(self.clock).ok());
+        if self.show().is_err() {
+            self.terminal = None;
+        }
+    }
+
+    pub fn note_up(&mut self) {
+        self.down = None;
+    }
+
     /// Erases the line; nothing more is drawn.
     pub fn clear(&mut self) {
         let Some(mut terminal) = self.terminal.take() else {
@@ -129,6 +147,7 @@ impl<'a, R: Clock, V: io::Write + Drop> Progress<'a, R, V> {
             work: self.work,
             reported: seconds_since(since, now, Duration::ZERO),
             unanswered: seconds_since(self.asked, now, self.patience),
+            down: seconds_since(self.down, now, Duration::ZERO),
         };
         if let Some((last, drawn)) = stands
             && last == glance
@@ -207,7 +226,11 @@ fn shows_clip(standing: Standing) -> bool {
 
 impl fmt::Display for Glance {
     fn fmt<W: fmt::Write>(&self, f: &mut fmt::Formatter<W>) -> fmt::Result {
+        if let Some(seconds) = self.down {
+            write!(f, "no line for {seconds} s; ")?;
+        }
         match self.work {
+            Work::Questions if self.down.is_some() => write!(f, "trying each second"),
             Work::Questions => {
                 write!(f, "is the port empty?")?;
                 write_unanswered(self.unanswered, f)
@@ -220,26 +243,44 @@ impl fmt::Display for Glance {
                 events,
             } => {
                 if let Some(id) = on_air {
-                    write_event("on air", reported.saturating_sub(1), id, f)?;
-                    if let Some(seconds) = self.reported {
-                        write!(f, " ")?;
-                        write_time(seconds, f)?;
-                    }
-                    write!(f, "; ")?;
+                    self.write_on_air(reported.saturating_sub(1), id, f)?;
                 }
                 if let Some(id) = event {
                     let word = if on_air.is_some() { "next" } else { "event" };
                     write_event(word, reported, id, f)?;
                     write!(f, ": ")?;
                 }
-                let mut text = ArrayString::<64>::new();
-                command.show(&mut text);
-                let command = text.as_str();
-                write!(f, "{command}")?;
-                write_unanswered(self.unanswered, f)?;
+                self.write_work(command, f)?;
                 write!(f, ", {reported} of {events} reported")
             }
         }
+    }
+}
+
+impl Glance {
+    fn write_on_air<W: fmt::Write>(&self, number: usize, id: ClipId, f: &mut W) -> fmt::Result {
+        let word = if self.down.is_some() {
+            "last on air"
+        } else {
+            "on air"
+        };
+        write_event(word, number, id, f)?;
+        if let Some(seconds) = self.reported {
+            write!(f, " ")?;
+            write_time(seconds, f)?;
+        }
+        write!(f, "; ")
+    }
+
+    fn write_work<W: fmt::Write>(&self, command: Command, f: &mut W) -> fmt::Result {
+        if self.down.is_some() {
+            return write!(f, "trying each second");
+        }
+        let mut text = ArrayString::<64>::new();
+        command.show(&mut text);
+        let command = text.as_str();
+        write!(f, "{command}")?;
+        write_unanswered(self.unanswered, f)
     }
 }
 

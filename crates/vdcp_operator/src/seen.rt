@@ -3,8 +3,9 @@ ghost use Rattle.std.specs.Prelude.{◌≡◌, IfOk, map};
 ghost use Rattle.serde_json.specs.Data.{array, string};
 ghost use Rattle.serde_json.specs.View.{items_of, view};
 ghost use Rattle.vdcp_text.specs.Outcome.{outcome_text};
-ghost use Rattle.vdcp_operator.specs.Seen.{ending_data, ending_text, length_by, number_data, record_data, record_text, row_data, row_with, run_data, seen_data, stage_text};
+ghost use Rattle.vdcp_operator.specs.Seen.{can_skip, ending_data, ending_text, length_by, number_data, record_data, record_text, row_data, row_with, run_data, seen_data, stage_text};
 
+use crate::ahead::Ahead;
 use crate::left_out::LeftOut;
 use serde_json::{Value, json};
 use std::alloc::{AllocError, Global};
@@ -99,6 +100,8 @@ pub struct RunSeen<'a> {
     /// Those round `event`.
     pub rows: &'a [EventSeen],
     pub hand: HandSeen<'a>,
+    /// What can still be left out.
+    pub ahead: Ahead,
     /// Since when there is no connection, if there is none.
     pub down: Option<u64>,
     pub clock: u64,
@@ -136,7 +139,7 @@ impl RunSeen<'_> {
             "events": self.events,
             "now": self.clock,
             "outcome": outcome_of(alloc, self.outcome)?,
-            "rows": rows_of(alloc, self.rate, self.clips, self.hand.left_out, self.rows)?,
+            "rows": rows_of(alloc, self.rate, self.clips, self.hand.left_out, self.ahead, self.rows)?,
             "run": self.run(alloc)?,
             "stage": stage_text(self.snapshot.standing),
             "start": number_or_null(self.hand.start),
@@ -206,13 +209,14 @@ fn rows_of(
     rate: Rate,
     clips: &Option<Table>,
     left_out: &LeftOut,
+    ahead: Ahead,
     events: &[EventSeen],
 ) -> Result<Value, AllocError>
-    ensures { IfOk result (λ v. view v ≡ array (items_of (map (row_data rate clips.now left_out.now) events.now))) }
+    ensures { IfOk result (λ v. view v ≡ array (items_of (map (row_data rate clips.now left_out.now ahead) events.now))) }
 {
     let mut rows = Vec::new(alloc);
     for k in 0..events.len() {
-        let row = row_of(alloc, rate, clips, left_out, &events[k])?;
+        let row = row_of(alloc, rate, clips, left_out, ahead, &events[k])?;
         rows.push(row)?;
     }
     Ok(Value::Array(rows))
@@ -223,9 +227,10 @@ fn row_of(
     rate: Rate,
     clips: &Option<Table>,
     left_out: &LeftOut,
+    ahead: Ahead,
     event: &EventSeen,
 ) -> Result<Value, AllocError>
-    ensures { IfOk result (λ v. view v ≡ row_data rate clips.now left_out.now event.now) }
+    ensures { IfOk result (λ v. view v ≡ row_data rate clips.now left_out.now ahead event.now) }
 {
     let text = ItemText {
         rate,
@@ -234,7 +239,8 @@ fn row_of(
     let item = format!(in alloc; "{text}")?;
     let length = length_by(clips, event.item);
     let is_out = left_out.is_left_out(event.number as usize);
-    row_with(alloc, item.as_str(), length, is_out, event)
+    let can_skip = can_skip(left_out, ahead, event.number as usize);
+    row_with(alloc, item.as_str(), length, is_out, can_skip, event)
 }
 
 fn row_with(
@@ -242,9 +248,10 @@ fn row_with(
     item: &str,
     length: Option<u64>,
     is_out: bool,
+    can_skip: bool,
     event: &EventSeen,
 ) -> Result<Value, AllocError>
-    ensures { IfOk result (λ v. view v ≡ row_with item.now length is_out event.now) }
+    ensures { IfOk result (λ v. view v ≡ row_with item.now length is_out can_skip event.now) }
 {
     json!(in alloc; {
         "at": number_or_null(event.at),
@@ -254,8 +261,16 @@ fn row_with(
         "length": number_or_null(length),
         "number": event.number,
         "out": is_out,
+        "skip": can_skip,
         "until": number_or_null(event.until)
     })
+}
+
+#[tactic(auto, unfolding(crate::specs::Seen::can_skip))]
+fn can_skip(left_out: &LeftOut, ahead: Ahead, event: usize) -> bool
+    ensures { result ≡ can_skip left_out.now ahead event }
+{
+    left_out.skip_fault_at(ahead, event).is_none()
 }
 
 fn ending_or_null(alloc: Global, ending: Option<Ending>) -> Result<Value, AllocError>

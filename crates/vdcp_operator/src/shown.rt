@@ -4,8 +4,9 @@ ghost use Rattle.std.specs.Prelude.{◌≡◌, ◌++◌, [], All, None, Some, �
 ghost use Rattle.vdcp_operator.specs.Rows.{IsRow, at_in, before_of, ending_after, ending_by, ending_in, ending_seen, is_on_air_known, is_waiting, known_of, news_of, older_of, row_of, until_in};
 ghost use Rattle.vdcp_operator.specs.Seen.{AreRound, ShowsRun, event_of, with_number};
 
+use crate::ahead::ahead_of;
 use crate::page::PAGE;
-use crate::seen::{Ending, EventBefore, EventSeen, HandSeen, RunNames, RunSeen};
+use crate::seen::{Ending, EventBefore, EventSeen, HandSeen, Record, RunNames, RunSeen};
 use std::alloc::Global;
 use std::rt::Clock;
 use vdcp_auto::{Controller, Outcome, Phase, Snapshot, Source, Standing};
@@ -110,6 +111,7 @@ impl RunPage {
             events: number(controller.source().whole().len()),
             rows: self.rows.as_slice(),
             hand,
+            ahead: ahead_of(controller),
             down: self.down,
             clock: now,
         };
@@ -198,19 +200,26 @@ impl News {
                 Some(said) => Some(said.kept),
                 None => None,
             },
-            at: known.at.or(self.at(number)),
+            at: known.at.or(self.at(said, number)),
             until: self.until(known.until, ending),
             ending,
         }
     }
 
-    fn at(self, number: u64) -> Option<u64>
-        ensures { result ≡ at_in self number }
+    // (an event that was left out didn't go to air, as far as is known)
+    fn at(self, said: Option<EventBefore>, number: u64) -> Option<u64>
+        ensures { result ≡ at_in self said number }
     {
-        if self.since <= number && number < self.event {
-            Some(self.now)
-        } else {
-            None
+        let is_passed = self.since <= number && number < self.event;
+        match said {
+            Some(
+                EventBefore {
+                    kept: Record::LeftOut | Record::MayHaveAired,
+                    ..
+                },
+            ) => None,
+            _ if is_passed => Some(self.now),
+            _ => None,
         }
     }
 
@@ -245,20 +254,19 @@ struct Known {
 fn known_of(older: Option<EventSeen>, said: Option<EventBefore>) -> Known
     ensures { result ≡ known_of older said }
 {
-    match (older, said) {
-        (Some(older), _) => Known {
-            at: older.at,
-            until: older.until,
+    let (at, until) = match said {
+        Some(said) => (said.at, said.until),
+        None => (None, None),
+    };
+    match older {
+        Some(older) => Known {
+            at: older.at.or(at),
+            until: older.until.or(until),
             ending: older.ending,
         },
-        (None, Some(said)) => Known {
-            at: said.at,
-            until: said.until,
-            ending: None,
-        },
-        (None, None) => Known {
-            at: None,
-            until: None,
+        None => Known {
+            at,
+            until,
             ending: None,
         },
     }

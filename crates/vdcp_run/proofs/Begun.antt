@@ -1,5 +1,5 @@
 -- What a run begins with, and whose end it is.
-use Rattle.std.proofs.Common.{ℕ, ◌≡◌, ◌≤◌, ◌+◌, Bor, List, [], ◌∷◌, arith, subst, sym}
+use Rattle.std.proofs.Common.{ℕ, ◌≡◌, ◌≤◌, ◌+◌, Bor, List, [], ◌∷◌, arith, inl, inr, subst, sym}
 use Rattle.std.proofs.Math.Nat.{one-le-mul}
 use Rattle.std.specs.Prelude.{◌*◌, Err, IfOk, IfSome, None, Ok, Option, Result, Some, drop, length}
 use Rattle.vdcp_auto.specs.Course.{Call, Reached, Receive, begun, called, ended_by_call, logged}
@@ -15,12 +15,14 @@ use Rattle.vdcp_list.specs.Rests.{FromEvent}
 use Rattle.vdcp_list.specs.Rows.{FileBytes}
 use Rattle.vdcp_journal_file.specs.Recording.{BeganWith, IsTimedOut, Recording}
 use Rattle.vdcp_journal_file.specs.Resuming as resuming
-use Rattle.vdcp_journal_file.specs.Resuming.{IsOpenedAgain, IsReplayed, open_after, plan_of_run, state_after}
-use Rattle.vdcp_run.specs.Run.{BeginsAgain, BeginsBy, IsBegun, first_event, heading_for, new_controller, plan_for}
+use Rattle.vdcp_journal_file.specs.Resuming.{IsOpenedAgain, IsReplayed, IsUnopenedAgain, beginning_note, open_after, plan_of_run, said_event, state_after}
+use Rattle.vdcp_journal_file.specs.declared.again.Beginning.{Beginning}
+use Rattle.vdcp_run.specs.Run.{beginning_of, BeginsAgain, BeginsBy, IsAgain, IsBegun, IsUnkept, first_event, heading_for, name_of, new_controller, plan_for}
 use Rattle.vdcp_run.specs.Asking.{Start, start_of}
 use Rattle.vdcp_run.specs.declared.settings.RunJournal.{RunJournal}
 use Rattle.vdcp_run.specs.declared.settings.RunJournal.TheVariants as journals
 use Rattle.vdcp_run.specs.declared.settings.RunSettings.{RunSettings}
+use Rattle.vdcp_text.specs.declared.failure.Failure.{Failure}
 use Rattle.vdcp_value.specs.declared.part.Item.{Item}
 
 -- a call that a row tells of, if it tells of one
@@ -108,12 +110,12 @@ begun_older list settings name heading first recorder some of (lines, run, repla
     })
 
 -- one that begins after that, or tells its end again
-again_so : {F : Type 0} (list : List Item) (settings : RunSettings) (name : Bor (List ℕ)) (from : ℕ) (plan : Plan)
+again_so : {F : Type 0} (list : List Item) (settings : RunSettings) (journal : RunJournal) (from : ℕ) (plan : Plan)
     (state : State) (recorder : Option (Recording F)) → 1 ≤ settings.limit → settings.limit ≤ 1000
-    → BeginsAgain settings list (record { plan = plan; from = from; state = state }) recorder
+    → BeginsBy settings list (Some journal) (record { plan = plan; from = from; state = state }) recorder
     → IsOpenedAgain list (heading_for settings list) settings.from from plan state
-    → IsBegun settings list (Some (journals.Again name)) (record { plan = plan; from = from; state = state }) recorder
-again_so list settings name from plan state recorder some few begins
+    → IsBegun settings list (Some journal) (record { plan = plan; from = from; state = state }) recorder
+again_so list settings journal from plan state recorder some few begins
     (lines, resuming.begins run ended end replayed within after plan_is state_is) =
     let first : Plan = plan_for settings (drop from list) in
     let new : Reached first start [] = begun some few in
@@ -124,21 +126,49 @@ again_so list settings name from plan state recorder some few begins
       reached = subst (λ (p : Plan). Reached p state []) (sym plan_is)
           (subst (λ (s : State). Reached first s []) (sym state_is) new);
     }
-again_so list settings name from plan state recorder some few begins
+again_so list settings journal from plan state recorder some few begins
     (lines, resuming.is_over unsaid run replayed is over) =
-    replayed_so list settings (Some (journals.Again name)) (record { plan = plan; from = from; state = state }) recorder lines
-    run some replayed is begins
+    replayed_so list settings (Some journal) (record { plan = plan; from = from; state = state }) recorder lines run some replayed
+    is begins
 
-pub begun_again : {F : Type 0} (list : List Item) (settings : RunSettings) (name : Bor (List ℕ)) (heading : Heading)
-    (first : Start) (recorder : Option (Recording F)) → 1 ≤ settings.limit → settings.limit ≤ 1000
-    → heading ≡ heading_for settings list
-    → IsOpenedAgain list heading settings.from first.from first.plan first.state
-    → IfSome recorder (BeganWith (Some first.from))
-    → IsBegun settings list (Some (journals.Again name)) first recorder
-begun_again list settings name heading first recorder some few of opened began =
-    let opened = subst (λ (h : Heading). IsOpenedAgain list h settings.from first.from first.plan first.state) of opened in
-    again_so list settings name first.from first.plan first.state recorder some few (record { opened = opened; began = began })
-    opened
+-- so it is whether the operator left the run before or not
+begins_by : {F : Type 0} (list : List Item) (settings : RunSettings) (journal : RunJournal) (first : Start)
+    (recorder : Option (Recording F)) → IsAgain journal → BeginsAgain settings list journal first recorder
+    → BeginsBy settings list (Some journal) first recorder
+begins_by list settings (journals.New name) first recorder again begins = absurd again
+begins_by list settings (journals.Older name) first recorder again begins = absurd again
+begins_by list settings (journals.Again name) first recorder again begins = begins
+begins_by list settings (journals.Left name) first recorder again begins = begins
+
+pub begun_again : {F : Type 0} (list : List Item) (settings : RunSettings) (journal : RunJournal) (heading : Heading)
+    (beginning : Beginning) (first : Start) (recorder : Option (Recording F)) → 1 ≤ settings.limit → settings.limit ≤ 1000
+    → heading ≡ heading_for settings list → IsAgain journal → beginning ≡ beginning_of journal settings.from
+    → said_event beginning ≡ settings.from → IsOpenedAgain list heading (said_event beginning) first.from first.plan first.state
+    → IfSome recorder (BeganWith (Some (beginning_note beginning first.from)))
+    → IsBegun settings list (Some journal) first recorder
+begun_again {F} list settings journal heading beginning first recorder some few of again is said opened began =
+    let opened = subst (λ (h : Heading). IsOpenedAgain list h settings.from first.from first.plan first.state) of
+    (subst (λ (word : Option ℕ). IsOpenedAgain list heading word first.from first.plan first.state) said opened) in
+    again_so list settings journal first.from first.plan first.state recorder some few
+    (begins_by list settings journal first recorder again (record {
+      opened = opened;
+      began = subst (λ (b : Beginning). IfSome recorder (BeganWith (Some (beginning_note b first.from)))) is began;
+    })) opened
+
+pub unkept_again : (list : List Item) (settings : RunSettings) (journal : RunJournal) (name : Bor (List ℕ)) (heading : Heading)
+    (beginning : Beginning) (failure : Failure) → IsAgain journal → name ≡ name_of journal → heading ≡ heading_for settings list
+    → said_event beginning ≡ settings.from → IsUnopenedAgain list name heading (said_event beginning) failure
+    → IsUnkept settings list (Some journal) failure
+unkept_again list settings journal name heading beginning failure again is of said h =
+    by journal again (subst (λ (n : Bor (List ℕ)). IsUnopenedAgain list n (heading_for settings list) settings.from failure) is
+    (subst (λ (x : Heading). IsUnopenedAgain list name x settings.from failure) of
+    (subst (λ (word : Option ℕ). IsUnopenedAgain list name heading word failure) said h))) where
+      by : (j : RunJournal) → IsAgain j
+          → IsUnopenedAgain list (name_of j) (heading_for settings list) settings.from failure → IsUnkept settings list (Some j) failure
+      by (journals.New name) again h = absurd again
+      by (journals.Older name) again h = absurd again
+      by (journals.Again name) again h = inr (inl h)
+      by (journals.Left name) again h = inr (inl h)
 
 -- ---- the end
 

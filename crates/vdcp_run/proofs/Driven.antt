@@ -1,6 +1,6 @@
 -- What a driver's run left, with what keeps it, and the end that it comes to.
-use Rattle.std.proofs.Common.{◌≡◌, ◌∙◌, ◌+◌, ℕ, List, [], ◌∷◌, ◌++◌, ap, ap₂, subst, sym}
-use Rattle.std.specs.Prelude.{Bool, IsSomeAnd, IsTrue, None, Some, Option, Result, Err, refl}
+use Rattle.std.proofs.Common.{arith, ◌≡◌, ◌∙◌, ◌+◌, ◌-◌, ◌≤◌, ℕ, List, [], ◌∷◌, ◌++◌, ap, ap₂, subst, sym}
+use Rattle.std.specs.Prelude.{Bool, min, IsSomeAnd, IsTrue, None, Some, Option, Result, Err, refl}
 use Rattle.vdcp_auto.specs.Plan.{Plan, View, plan_of}
 use Rattle.vdcp_auto.specs.State.{Stage, State}
 use Rattle.vdcp_auto.specs.Turn.{outcome_of}
@@ -13,17 +13,16 @@ use Rattle.vdcp_drive.specs.Leaves.{Ending, HasRun, RunLeaves, by_hooks, by_itse
 use Rattle.vdcp_drive.specs.Steps.{Does, Happens, Rules, Step, World, acts, asks, keeps, misses, steps_of}
 use Rattle.vdcp_drive.specs.Traces.{kept_in}
 use Rattle.vdcp_drive.specs.declared.hooks.BrokenOff.{BrokenOff}
-use Rattle.vdcp_drive.specs.declared.hooks.Kept.{Kept}
 use Rattle.vdcp_drive.specs.declared.hooks.BrokenOff.TheVariants as fault
 use Rattle.vdcp_drive.specs.declared.hooks.Next.TheVariants as next
 use Rattle.vdcp_drive.specs.declared.line.Ran.{Ran}
 use Rattle.vdcp_list.specs.Rests.{FromEvent, items_left}
 use Rattle.vdcp_journal_file.specs.Recorded.{recorder_rules}
 use Rattle.vdcp_journal_file.specs.Recording.{Recording}
-use Rattle.vdcp_run.specs.Ends.{Reports, line_end_of}
+use Rattle.vdcp_run.specs.Ends.{Reports, is_unplayed, line_end_of}
 use Rattle.vdcp_operator.specs.Hands.{is_to_play}
 use Rattle.vdcp_run.specs.Asking.{Comes, Start, over, start_of}
-use Rattle.vdcp_run.specs.Session.{AsksFirst, HasHeld, IsClosed, IsWritten, Keeping, LeavesBefore, Onset, Plays, held, onset_after, playing_rules, signs_by}
+use Rattle.vdcp_run.specs.Session.{AsksFirst, HasHeld, IsClosed, IsWritten, Keeping, LeavesBefore, Onset, Plays, held, onset_after, playing_rules, signs_by, turns_in}
 use Rattle.vdcp_run.specs.declared.lack.Lack.{Lack}
 use Rattle.vdcp_run.specs.declared.run_end.LineEnd.{LineEnd}
 use Rattle.vdcp_run.specs.declared.run_end.RunEnd.{RunEnd}
@@ -86,6 +85,16 @@ module _ {W F : Type 0} (mode : Mode) (does : Act → W → W → Type 0) (safe 
   signs_so (misses r ∷ later) old new (next, (lost, is), rest) =
       signs_so later next new rest ∙ ap (signs_by (kept_in later)) lost.1
 
+  turns_so : (steps : List Step) (old new : World W (Keeping F)) → Happens (playing_rules mode does safe) steps old new
+      → new.keep.left ≡ old.keep.left - turns_in steps
+  turns_so [] old new h = omega (arith, ap (λ (w : World W (Keeping F)). w.keep.left) h)
+  turns_so (acts a ∷ later) old new (next, (done, is), rest) =
+      omega (arith, turns_so later next new rest, ap (λ (w : World W (Keeping F)). w.keep.left) is)
+  turns_so (asks s n ∷ later) old new (next, (asked, is), rest) =
+      omega (arith, turns_so later next new rest, ap (λ (k : Keeping F). k.left) asked.0)
+  turns_so (keeps r ∷ later) old new (next, (kept, is), rest) = omega (arith, turns_so later next new rest, kept.2)
+  turns_so (misses r ∷ later) old new (next, (lost, is), rest) = omega (arith, turns_so later next new rest, lost.2)
+
   -- a run that was left was left where it may be
 
   last_leaves : (steps : List Step) (s : State) (old new : World W (Keeping F))
@@ -139,14 +148,19 @@ module _ {S E W F : Type 0} (items : S → List Item) (does : Act → W → W �
   unfolding run_recorded
   signs_then = signs_so old.controller.mode does safe (steps_in has_run.run) (over old.wire keep) (over new.wire keep') has_run.happened
 
+  turns_then : keep'.left ≡ keep.left - turns_in (steps_in has_recorded.run)
+  unfolding run_recorded
+  turns_then = turns_so old.controller.mode does safe (steps_in has_run.run) (over old.wire keep) (over new.wire keep') has_run.happened
+
   -- its journal was ended
-  pub plays_so : (end : RunEnd) → end.signs ≡ keep'.signs → (kept : ℕ)
-      → end.line ≡ line_end_of answer (new.controller.source.from + new.controller.state.settled) kept
+  pub plays_so : keep.left ≡ turns → (end : RunEnd) → end.signs ≡ keep'.signs → end.left ≡ keep'.left → (kept : ℕ)
+      → end.line ≡ line_end_of answer (is_unplayed new.controller.mode keep'.signs new.controller.state)
+      (new.controller.source.from + new.controller.state.settled) kept
       → Reports new.controller.source.from new.controller.state end
       → IsClosed safe new.controller.state.stage end.line end.unkept keep'.recorder
       → Plays does safe fold old.ear old.unit turns keep.signs (start_of items old.controller) (over old.wire keep.recorder)
       new.wire end
-  plays_so end signs kept line reports closed = record {
+  plays_so first end signs left kept line reports closed = record {
     ran = answer;
     auto = auto_of new;
     left = over new.wire keep'.recorder;
@@ -155,22 +169,25 @@ module _ {S E W F : Type 0} (items : S → List Item) (does : Act → W → W �
     left_before = left_so old.controller.mode does safe fold (plan_of (items_left items) old.controller) old.unit turns (auto_of old) (auto_of new)
         (over old.wire keep) (over new.wire keep') answer has_run;
     kept = kept;
-    line_is = subst (λ (from : ℕ). end.line ≡ line_end_of answer (from + new.controller.state.settled) kept)
-        (ap (λ (c : View (FromEvent S)). c.source.from) h.leaves.controller) line;
+    line_is = subst (λ (c : View (FromEvent S)). end.line ≡ line_end_of answer (is_unplayed c.mode end.signs new.controller.state)
+        (c.source.from + new.controller.state.settled) kept) h.leaves.controller
+        (subst (λ (s : Signs). end.line ≡ line_end_of answer (is_unplayed new.controller.mode s new.controller.state)
+        (new.controller.source.from + new.controller.state.settled) kept) (sym signs) line);
     reports = subst (λ (from : ℕ). Reports from new.controller.state end)
         (ap (λ (c : View (FromEvent S)). c.source.from) h.leaves.controller) reports;
     signs_are = signs ∙ signs_then;
+    left_is = left ∙ turns_then ∙ ap (λ (n : ℕ). n - turns_in (steps_in has_recorded.run)) first;
     closed = closed;
   }
 
   -- it was left before a PLAY, all that waited was written, and the next stretch goes on
-  abbrev onset_before : E → W → (turns : ℕ) → Onset E W F
-  onset_before ear wire turns = record {
+  abbrev onset_before : E → W → (turns : ℕ) → Signs → Onset E W F
+  onset_before ear wire turns signs = record {
     start = start_of items old.controller;
     ear = ear;
     world = over wire keep.recorder;
     turns = turns;
-    signs = keep.signs;
+    signs = signs;
   }
 
   abbrev onset_behind : Option (Recording F) → (turns : ℕ) → Onset E W F
@@ -182,10 +199,10 @@ module _ {S E W F : Type 0} (items : S → List Item) (does : Act → W → W �
     signs = keep'.signs;
   }
 
-  onset_so : (written : Option (Recording F)) (left : ℕ) (ear : E) (wire : W) (count : ℕ) (noted : List Kept)
-      → keep'.signs ≡ signs_by noted keep.signs → onset_behind written left
-      ≡ onset_after (onset_before ear wire count) (auto_of new) (over new.wire keep'.recorder) written left noted
-  onset_so written left ear wire count noted signs = ap₂ (λ (start : Start) (s : Signs). record {
+  onset_so : (written : Option (Recording F)) (left : ℕ) (ear : E) (wire : W) (count : ℕ) (first then : Signs)
+      → keep'.signs ≡ then → onset_behind written left
+      ≡ onset_after (onset_before ear wire count first) (auto_of new) (over new.wire keep'.recorder) written left then
+  onset_so written left ear wire count first then signs = ap₂ (λ (start : Start) (s : Signs). record {
     start = start;
     ear = new.ear;
     world = over new.wire written;
@@ -193,20 +210,24 @@ module _ {S E W F : Type 0} (items : S → List Item) (does : Act → W → W �
     signs = s;
   }) (ap (start_of items) h.leaves.controller) signs
 
-  pub holds_on : (settings : RunSettings) (is_held : Bool) (ear : E) (wire : W) (count : ℕ)
+  pub holds_on : keep.left ≡ turns → (settings : RunSettings) (is_held : Bool) (ear : E) (wire : W) (count : ℕ) (before : Signs)
       → answer ≡ Err fault.Left → IsTrue (is_to_play new.controller.state.stage) → (written : Option (Recording F))
-      → IsWritten safe keep'.recorder written → (left : ℕ) (z : Onset E W F)
-      → AsksFirst does fold (record settings { unit = old.unit }) is_held (onset_before ear wire count) old.ear old.wire turns None
-      → HasHeld does safe fold (record settings { unit = old.unit }) z (onset_behind written left)
-      → HasHeld does safe fold (record settings { unit = old.unit }) z (onset_before ear wire count)
-  holds_on settings is_held ear wire count is to_play written wrote left z first later =
+      → IsWritten safe keep'.recorder written → (left : ℕ) → left ≤ keep'.left → (z : Onset E W F)
+      → AsksFirst does fold (record settings { unit = old.unit }) is_held (onset_before ear wire count before) old.ear old.wire turns
+      keep.signs None → HasHeld does safe fold (record settings { unit = old.unit }) z (onset_behind written left)
+      → HasHeld does safe fold (record settings { unit = old.unit }) z (onset_before ear wire count before)
+  holds_on all settings is_held ear wire count before is to_play written wrote left few z first later =
       let ran = subst (λ (r : Result Ran BrokenOff). (runs : HasRun (recorder_rules does safe) fold
       (plan_of (items_left items) old.controller) old.unit turns (auto_of old) (auto_of new) (over old.wire keep.recorder)
-      (over new.wire keep'.recorder) r) × (keep'.signs ≡ signs_by (kept_in (steps_in runs.run)) keep.signs)) is
-      (has_recorded, signs_then) in
-      held is_held old.ear old.wire turns first (auto_of new) (over new.wire keep'.recorder) ran.0 to_play written wrote left
-      (subst (HasHeld does safe fold (record settings { unit = old.unit }) z)
-      (onset_so written left ear wire count (kept_in (steps_in ran.0.run)) ran.1) later)
+      (over new.wire keep'.recorder) r) × (keep'.signs ≡ signs_by (kept_in (steps_in runs.run)) keep.signs)
+      × (left ≤ turns - turns_in (steps_in runs.run))) is
+      (has_recorded, signs_then, omega (arith, few, turns_then, all)) in
+      held is_held old.ear old.wire turns keep.signs first (auto_of new) (over new.wire keep'.recorder) ran.0 to_play written wrote
+      (left, ran.2) (subst (HasHeld does safe fold (record settings { unit = old.unit }) z)
+      (onset_so written left ear wire count before (signs_by (kept_in (steps_in ran.0.run)) keep.signs) ran.1) later)
+
+pub least_left : (left most n : ℕ) → n ≡ min left most → n ≤ left
+least_left left most n is = grind arith
 
 -- a journal that can't be written out isn't whole
 pub unkept_so : {F : Type 0} (safe : F → Option (List ℕ)) (stage : Stage) (line : LineEnd) (lack : Lack)

@@ -7,8 +7,8 @@ use Rattle.vdcp_drive.specs.Ears.{Fold}
 use Rattle.vdcp_drive.specs.Steps.{World}
 use Rattle.vdcp_journal_file.specs.Recording.{Recording}
 use Rattle.vdcp_run.specs.Asking.{Start}
-use Rattle.vdcp_run.specs.Run.{IsAsrunMade, IsEarlier, IsEnd, IsEndWith, IsTried, IsTry, IsUntried, later_after, later_of, latest_end, name_of}
-use Rattle.vdcp_run.specs.Session.{HasEnded, HasSession, Onset, TriesBy, had_ended, no_wire, played, tried, unbegun, unconnected}
+use Rattle.vdcp_run.specs.Run.{CameTo, IsAsrunMade, IsEarlier, IsEnd, IsEndWith, IsTry, later_after, latest_end, name_of}
+use Rattle.vdcp_run.specs.Session.{HasEnded, HasSession, Onset, TriesBy, had_ended, played, tried, unbegun, unwired}
 use Rattle.vdcp_run.specs.declared.run_end.RunEnd.{RunEnd}
 use Rattle.vdcp_run.specs.declared.saved.SavedText.{SavedText}
 use Rattle.vdcp_run.specs.declared.settings.RunJournal.{RunJournal}
@@ -17,13 +17,14 @@ use Rattle.vdcp_run.specs.declared.settings.RunSettings.{RunSettings}
 use Rattle.vdcp_text.specs.declared.failure.Failure.{Failure}
 use Rattle.vdcp_value.specs.declared.part.Item.{Item}
 use Rattle.vdcp_wire.specs.Acts.{Act}
+use Rattle.vdcp_wire.specs.Streams.{Streamed}
 
 -- a session's end is of no later try
 tried_unfailed : {E W F : Type 0} (does : Act → W → W → Type 0) (safe : F → Option (List ℕ)) (fold : Fold E)
     (settings : RunSettings) (x : Onset E W F) (last : W) (end : RunEnd) → HasEnded does safe fold settings x last end
     → end.failed ≡ None
-tried_unfailed does safe fold settings x last end (played is_held ear wire left first plays) = plays.reports.unfailed
-tried_unfailed does safe fold settings x last end (unbegun is_held ear left line first is reports) = reports.unfailed
+tried_unfailed does safe fold settings x last end (played is_held ear wire left signs first plays) = plays.reports.unfailed
+tried_unfailed does safe fold settings x last end (unbegun is_held ear left signs line first is reports) = reports.unfailed
 
 tries_unfailed : {W F : Type 0} (hearing : Hearing) (does : Act → W → W → Type 0) (safe : F → Option (List ℕ))
     (settings : RunSettings) (start : Start) (world : World W (Option (Recording F))) (last : W) (end : RunEnd)
@@ -34,48 +35,51 @@ tries_unfailed hears.AtOnce does safe settings start world last end h =
     tried_unfailed does safe _ settings h.onset last end h.ended
 
 unfailed : {F : Type 0} (safe : F → Option (List ℕ)) (settings : RunSettings) (start : Start)
-    (recorder : Option (Recording F)) (end : RunEnd) → HasSession safe settings start recorder end → end.failed ≡ None
-unfailed safe settings start recorder end (had_ended ended line reports) = reports.unfailed
-unfailed safe settings start recorder end (no_wire line reports) = reports.unfailed
-unfailed safe settings start recorder end (unconnected why is stays line reports) = reports.unfailed
-unfailed safe settings start recorder end (tried wire last opened limits tries) =
+    (recorder : Option (Recording F)) (before : Option Streamed) (end : RunEnd) (last : Option Streamed)
+    → HasSession safe settings start recorder before end last → end.failed ≡ None
+unfailed safe settings start recorder before end _ (had_ended ended line reports) = reports.unfailed
+unfailed safe settings start recorder before end _ (unwired line is so reports) = reports.unfailed
+unfailed safe settings start recorder before end _ (tried wire last is tries) =
     tries_unfailed settings.hearing _ safe settings start _ last end tries
 
-last_end : (settings last : RunSettings) (items : List Item) (end : RunEnd) → IsTry settings items last
-    → IsTried last items end → later_of last (length items) end ≡ None → IsEnd settings items end
-last_end settings last items end tries try over =
-    subst (λ (failed : Option Failure). IsEndWith settings items failed end) (sym (unfailed _ last try.start try.recorder end try.session))
-    (record { last = last; tries = tries; tried = try; over = over })
+module _ (settings last : RunSettings) (items : List Item) (wire left : Option Streamed)
+    (tries : IsTry settings items last wire) where
+  pub last_ends : (end : Result RunEnd Failure) → CameTo last items wire end left
+      → later_after last (length items) end ≡ None → IfOk end (IsEnd settings items)
+  last_ends (Ok end) came over =
+      subst (λ (failed : Option Failure). IsEndWith settings items failed end)
+      (sym (unfailed _ last came.start came.recorder wire end came.last came.session)) (record {
+        last = last;
+        ends = record { wire = wire; tries = tries; left = left; tried = came };
+        over = over;
+      })
+  last_ends (Err failure) came over = tt
 
-pub last_ends : (settings last : RunSettings) (items : List Item) (end : Result RunEnd Failure) → IsTry settings items last
-    → IfOk end (IsTried last items) → later_after last (length items) end ≡ None → IfOk end (IsEnd settings items)
-last_ends settings last items (Ok end) tries try over = last_end settings last items end tries try over
-last_ends settings last items (Err failure) tries try over = tt
+  pub latest_is : (end : Result RunEnd Failure) (earlier : Option RunEnd) → CameTo last items wire end left
+      → IfSome earlier (IsEarlier settings items)
+      → IfSome (latest_end end earlier) (IsEarlier settings items)
+  latest_is (Ok end) earlier came before = (last, record { wire = wire; tries = tries; left = left; tried = came })
+  latest_is (Err failure) earlier came before = before
 
-pub latest_is : (settings last : RunSettings) (items : List Item) (end : Result RunEnd Failure) (earlier : Option RunEnd)
-    → IsTry settings items last → IfOk end (IsTried last items) → IfSome earlier (IsEarlier settings items)
-    → IfSome (latest_end end earlier) (IsEarlier settings items)
-latest_is settings last items (Ok end) earlier tries try before = record { with_settings = last; tries = tries; tried = try }
-latest_is settings last items (Err failure) earlier tries try before = before
-
-pub came_to_nothing : (settings last : RunSettings) (items : List Item) (failure : Failure) (before : RunEnd)
-    (asrun : Option (Result SavedText Failure)) → IsTry settings items last → IsUntried last items failure
-    → later_after last (length items) (Err failure) ≡ None → IsEarlier settings items before
-    → IfSome last.journal (λ journal. (from reported : ℕ)
-    → IsAsrunMade last.rate (Some (journals.Again (name_of journal))) items from reported last.asrun asrun)
-    → IsEnd settings items (record before { asrun = asrun; failed = Some failure })
-came_to_nothing settings last items failure before asrun tries untried over earlier made = record {
-  last = last;
-  tries = tries;
-  untried = untried;
-  over = over;
-  before = before;
-  earlier = earlier;
-  end_is = refl;
-  asrun = made_so last.journal made;
-} where
-  made_so : (journal : Option RunJournal) → IfSome journal (λ j. (from reported : ℕ)
-      → IsAsrunMade last.rate (Some (journals.Again (name_of j))) items from reported last.asrun asrun)
-      → IfSome journal (λ j. IsAsrunMade last.rate (Some (journals.Again (name_of j))) items before.from before.reported last.asrun asrun)
-  made_so None h = h
-  made_so (Some j) h = h before.from before.reported
+  pub came_to_nothing : (failure : Failure) (before : RunEnd) (asrun : Option (Result SavedText Failure))
+      → CameTo last items wire (Err failure) left → later_after last (length items) (Err failure) ≡ None
+      → IsEarlier settings items before
+      → IfSome last.journal (λ journal. (from reported : ℕ)
+      → IsAsrunMade last.rate (Some (journals.Again (name_of journal))) items from reported last.asrun asrun)
+      → IsEnd settings items (record before { asrun = asrun; failed = Some failure })
+  came_to_nothing failure before asrun came over earlier made = record {
+    last = last;
+    wire = wire;
+    tries = tries;
+    untried = came.0;
+    over = over;
+    before = before;
+    earlier = earlier;
+    end_is = refl;
+    asrun = made_so last.journal made;
+  } where
+    made_so : (journal : Option RunJournal) → IfSome journal (λ j. (from reported : ℕ)
+        → IsAsrunMade last.rate (Some (journals.Again (name_of j))) items from reported last.asrun asrun)
+        → IfSome journal (λ j. IsAsrunMade last.rate (Some (journals.Again (name_of j))) items before.from before.reported last.asrun asrun)
+    made_so None h = h
+    made_so (Some j) h = h before.from before.reported

@@ -5,6 +5,7 @@ use Rattle.std.specs.Prelude.{◌+◌, ◌-◌, ◌<◌, ◌&&◌, Bool, true, f
 use Rattle.vdcp_auto.specs.Plan.{Plan}
 use Rattle.vdcp_auto.specs.State.{State}
 use Rattle.vdcp_auto.specs.declared.outcome.Outcome.{Outcome}
+use Rattle.vdcp_drive.specs.declared.line.Ran.TheVariants as ran
 use Rattle.vdcp_journal.specs.Runs.{Run}
 use Rattle.vdcp_journal.specs.declared.row.Heading.{Heading}
 use Rattle.vdcp_journal_file.specs.Recording.{IsUnbegun, IsUnopened, IsUnwritten as IsRowsUnwritten}
@@ -13,7 +14,7 @@ use Rattle.vdcp_journal_file.specs.Resuming.{IsReplayed, IsUnopenedAgain, IsUnre
 use Rattle.vdcp_journal_file.specs.declared.reading.Refusal.{Refusal}
 use Rattle.vdcp_journal_file.specs.declared.reading.Refusal.TheVariants as refusal
 use Rattle.vdcp_list.specs.Rows.{FileBytes}
-use Rattle.vdcp_run.specs.Run.{BeginsBehind, CameTo, IsJournalRefused, IsPlaceRefused, IsUnkept, IsUntried, SendsAgain, beginning_anew, behind_left_out, behind_with, first_once, going_on, has_lost_port, heading_for, is_by_line, is_unplayable, later_after, later_by, leaving_out, may_try, not_kept, occupied, once_occupied_by, once_unsure_by, told_outcome, turns_left, unconnected, unsure_event}
+use Rattle.vdcp_run.specs.Run.{BeginsBehind, CameTo, IsJournalRefused, IsPlaceRefused, IsUnkept, IsUntried, SendsAgain, beginning_anew, behind_left_out, behind_with, first_once, going_on, has_lost_port, heading_for, is_by_line, later_after, later_by, leaving_out, may_try, not_kept, occupied, once_occupied_by, once_unsure_by, told_outcome, turns_left, unconnected, unsure_event}
 use Rattle.vdcp_run.specs.declared.run_end.LineEnd.{LineEnd}
 use Rattle.vdcp_run.specs.declared.run_end.LineEnd.TheVariants as line_end
 use Rattle.vdcp_run.specs.declared.run_end.RunEnd.{RunEnd}
@@ -27,8 +28,17 @@ use Rattle.vdcp_run.specs.declared.settings.Unsure.TheVariants as unsure
 use Rattle.vdcp_text.specs.declared.failure.Failure.{Failure}
 use Rattle.vdcp_text.specs.declared.failure.Failure.TheVariants as failures
 use Rattle.vdcp_value.specs.declared.part.Item.{Item}
+use Rattle.vdcp_wire.specs.Streams.{Streamed}
 
 -- ---- after an end: with the first that isn't reported, or behind it
+
+-- a new run begins in the journal of this name
+abbrev pub IsAnew : Bor (List ℕ) → Option RunJournal → Type 0
+IsAnew name journal = (journal ≡ Some (journals.Again name)) ⊎ (journal ≡ Some (journals.Left name))
+
+not_older : (of name : Bor (List ℕ)) → IsAnew name (Some (journals.Older of)) → ⊥
+not_older of name (inl e) = cc e
+not_older of name (inr e) = cc e
 
 guarded : (b : Bool) (first reported : ℕ) → (b ≡ true → reported < first)
     → IfSome (if b then Some first else None) (λ n. reported < n)
@@ -42,43 +52,42 @@ left false b e = cc e
 above : (n m : ℕ) → nat_lt n m ≡ true → n < m
 above n m is = grind arith
 
-behind_more : (line : LineEnd) (signs : Signs) (outcome : Option Outcome) (reported : ℕ) (skips : Bool) (count : ℕ)
-    → IfSome (behind_with line signs outcome reported skips count) (λ first. reported < first)
-behind_more (line_end.LeftOut kept) signs outcome reported skips count =
+behind_more : (line : LineEnd) (skips : Bool) (reported count : ℕ) → IfSome (behind_with line skips reported count) (λ first. reported < first)
+behind_more (line_end.LeftOut kept) skips reported count =
     guarded (nat_lt reported kept && nat_le kept count) kept reported
     (λ is. above reported kept (left (nat_lt reported kept) (nat_le kept count) is))
-behind_more line signs outcome reported skips count =
-    guarded (skips && (is_unplayable line signs outcome && nat_lt reported count)) (reported + 1) reported (λ is. omega arith)
+behind_more (line_end.Ran ran.Ended) skips reported count =
+    guarded (skips && nat_lt reported count) (reported + 1) reported (λ is. omega arith)
+behind_more line skips reported count = tt
 
-chosen : (may by lost : Bool) (on anew next : RunSettings) (leaving : ℕ → RunSettings) (behind : Option ℕ)
+chosen : (may lost by : Bool) (anew on next : RunSettings) (leaving : ℕ → RunSettings) (behind : Option ℕ)
     (of name : Bor (List ℕ)) (reported : ℕ) → on.journal ≡ Some (journals.Older of) → anew.from ≡ None
     → ((first : ℕ) → (leaving first).from ≡ Some first) → IfSome behind (λ first. reported < first)
-    → (if may then (if by then Some on else (if lost then Some anew else option_map leaving behind)) else None) ≡ Some next
-    → next.journal ≡ Some (journals.Again name)
+    → (if may then (if lost then Some anew else (if by then Some on else option_map leaving behind)) else None) ≡ Some next
+    → IsAnew name next.journal
     → (next.from ≡ None) ⊎ ((first : ℕ) × (next.from ≡ Some first) × (reported < first))
-chosen false by lost on anew next leaving behind of name reported older none some more e again = cc
-chosen true true lost on anew next leaving behind of name reported older none some more e again =
-    let same : on ≡ next = cc e in
-    let both : Some (journals.Older of) ≡ Some (journals.Again name) =
-    sym older ∙ ap (λ (s : RunSettings). s.journal) same ∙ again in cc
-chosen true false true on anew next leaving behind of name reported older none some more e again =
+chosen false lost by anew on next leaving behind of name reported older none some more e again = cc
+chosen true true by anew on next leaving behind of name reported older none some more e again =
     let same : anew ≡ next = cc e in inl (sym (ap (λ (s : RunSettings). s.from) same) ∙ none)
-chosen true false false on anew next leaving None of name reported older none some more e again = cc
-chosen true false false on anew next leaving (Some first) of name reported older none some more e again =
+chosen true false true anew on next leaving behind of name reported older none some more e again =
+    let same : on ≡ next = cc e in
+    absurd (not_older of name (subst (IsAnew name) (sym (ap (λ (s : RunSettings). s.journal) same) ∙ older) again))
+chosen true false false anew on next leaving None of name reported older none some more e again = cc
+chosen true false false anew on next leaving (Some first) of name reported older none some more e again =
     let same : leaving first ≡ next = cc e in
     inr (first, sym (ap (λ (s : RunSettings). s.from) same) ∙ some first, more)
 
 after_end : (before next : RunSettings) (count : ℕ) (stay : Option Staying) (journal : Option RunJournal) (end : RunEnd)
-    (name : Bor (List ℕ)) → later_by before count stay journal end ≡ Some next → next.journal ≡ Some (journals.Again name)
+    (name : Bor (List ℕ)) → later_by before count stay journal end ≡ Some next → IsAnew name next.journal
     → (next.from ≡ None) ⊎ ((first : ℕ) × (next.from ≡ Some first) × (end.reported < first))
 after_end before next count None journal end name e again = cc
 after_end before next count (Some stay) None end name e again = cc
 after_end before next count (Some stay) (Some journal) end name e again =
     let turns : ℕ = turns_left before end in
-    chosen (may_try before end) (is_by_line end.line (told_outcome end.line end.outcome)) (has_lost_port journal end)
-    (going_on before journal turns) (beginning_anew before journal None turns) next
-    (λ first. leaving_out before journal first turns) (behind_left_out stay.skip count end) _ name end.reported refl refl
-    (λ first. refl) (behind_more end.line end.signs end.outcome end.reported stay.skip count) e again
+    chosen (may_try before end) (has_lost_port journal end) (is_by_line end.line (told_outcome end.line end.outcome))
+    (beginning_anew before journal turns) (going_on before journal turns) next
+    (λ first. leaving_out before journal end.line first turns) (behind_left_out stay.skip before.mode count end) _ name end.reported refl refl
+    (λ first. refl) (behind_more end.line _ end.reported count) e again
 
 -- ---- after a refusal: behind the event that may have aired
 
@@ -146,6 +155,8 @@ unsure_journal settings items (journals.Older name) failure event is h =
     sure_not failure event is (unresumed_sure items name (heading_for settings items) failure h)
 unsure_journal settings items (journals.Again name) failure event is h =
     unsure_again items name (heading_for settings items) settings.from failure event is h
+unsure_journal settings items (journals.Left name) failure event is h =
+    unsure_again items name (heading_for settings items) settings.from failure event is h
 
 unsure_kept : (settings : RunSettings) (items : List Item) (journal : Option RunJournal) (failure : Failure) (event : ℕ)
     → unsure_event failure ≡ Some event → IsUnkept settings items journal failure
@@ -196,15 +207,14 @@ after_refusal before next items failure (Some stay) (Some event) stays is untrie
 
 -- a port that wasn't empty is asked again by the same run
 asks_again : (may : Bool) (on next : RunSettings) (of name : Bor (List ℕ)) → on.journal ≡ Some (journals.Older of)
-    → (if may then Some on else None) ≡ Some next → next.journal ≡ Some (journals.Again name) → ⊥
+    → (if may then Some on else None) ≡ Some next → IsAnew name next.journal → ⊥
 asks_again false on next of name older e again = cc
 asks_again true on next of name older e again =
     let same : on ≡ next = cc e in
-    let wrong : Some (journals.Older of) ≡ Some (journals.Again name) =
-    sym older ∙ ap (λ (s : RunSettings). s.journal) same ∙ again in cc wrong
+    not_older of name (subst (IsAnew name) (sym (ap (λ (s : RunSettings). s.journal) same) ∙ older) again)
 
 occupied_again : (before next : RunSettings) (stay : Option Staying) (journal : Option RunJournal) (name : Bor (List ℕ))
-    → once_occupied_by before stay journal ≡ Some next → next.journal ≡ Some (journals.Again name) → ⊥
+    → once_occupied_by before stay journal ≡ Some next → IsAnew name next.journal → ⊥
 occupied_again before next None journal name e again = cc
 occupied_again before next (Some stay) None name e again = cc
 occupied_again before next (Some stay) (Some (journals.New of)) name e again = cc
@@ -212,13 +222,15 @@ occupied_again before next (Some stay) (Some (journals.Older of)) name e again =
     asks_again (nat_lt 1 before.listens) (going_on before (journals.Older of) (before.listens - 1)) next of name refl e again
 occupied_again before next (Some stay) (Some (journals.Again of)) name e again =
     asks_again (nat_lt 1 before.listens) (going_on before (journals.Again of) (before.listens - 1)) next of name refl e again
+occupied_again before next (Some stay) (Some (journals.Left of)) name e again =
+    asks_again (nat_lt 1 before.listens) (going_on before (journals.Left of) (before.listens - 1)) next of name refl e again
 
-pub begins_behind : (before next : RunSettings) (items : List Item) (end : Result RunEnd Failure) (name : Bor (List ℕ))
-    → CameTo before items end → later_after before (length items) end ≡ Some next → next.journal ≡ Some (journals.Again name)
-    → BeginsBehind items end next
-begins_behind before next items (Ok end) name came e again =
+pub begins_behind : (before next : RunSettings) (items : List Item) (wire left : Option Streamed) (end : Result RunEnd Failure)
+    (name : Bor (List ℕ)) → CameTo before items wire end left → later_after before (length items) end ≡ Some next
+    → IsAnew name next.journal → BeginsBehind items end next
+begins_behind before next items wire left (Ok end) name came e again =
     after_end before next (length items) before.stay before.journal end name e again
-begins_behind before next items (Err failures.NotEmpty) name came e again =
+begins_behind before next items wire left (Err failures.NotEmpty) name came e again =
     absurd (occupied_again before next before.stay before.journal name e again)
-begins_behind before next items (Err failure) name came e again =
-    after_refusal before next items failure before.stay (unsure_event failure) refl refl came e
+begins_behind before next items wire left (Err failure) name came e again =
+    after_refusal before next items failure before.stay (unsure_event failure) refl refl came.0 e

@@ -4,6 +4,7 @@ mod Begun
 mod Driven
 mod Ending
 mod LeftOut
+mod KeptLine
 mod Tries
 pub mod Seen
 mod Questions

@@ -73,16 +73,18 @@ module _ {W W' : Type 0} (does : Act → W → W → Type 0) (does' : Act → W'
 
   -- what was asked
   asked_seen : {E : Type 0} (fold : Fold E) (asker : Option Asker) (settings : RunSettings) (ear ear' : E) (wire wire' : W)
-      (left : ℕ) (line : Option LineEnd) → HasAsked asker does fold settings ear ear' wire wire' left line
-      → HasAsked asker does' fold settings ear ear' (w wire) (w wire') left line
-  asked_seen fold None settings ear ear' wire wire' left line h = (h.0, ap w h.1, h.2, h.3)
-  asked_seen fold (Some asker) settings ear ear' wire wire' left line h = record {
+      (left : ℕ) (signs signs' : Signs) (line : Option LineEnd)
+      → HasAsked asker does fold settings ear ear' wire wire' left signs signs' line
+      → HasAsked asker does' fold settings ear ear' (w wire) (w wire') left signs signs' line
+  asked_seen fold None settings ear ear' wire wire' left signs signs' line h = (h.0, ap w h.1, h.2, h.3, h.4)
+  asked_seen fold (Some asker) settings ear ear' wire wire' left signs signs' line h = record {
     held = h.held;
     last = h.last;
     answer = h.answer;
     outcome = h.outcome;
     comes = comes_seen _ _ _ fold asker.plan settings.unit settings.listens asker.state ear ear' _ _ h.answer h.outcome h.comes;
     left_is = h.left_is;
+    signs_are = h.signs_are;
     line_is = h.line_is;
   }
 
@@ -104,6 +106,7 @@ module _ {W W' : Type 0} (does : Act → W → W → Type 0) (does' : Act → W'
       line_is = plays.line_is;
       reports = plays.reports;
       signs_are = plays.signs_are;
+      left_is = plays.left_is;
       closed = plays.closed;
     }
 
@@ -111,27 +114,27 @@ module _ {W W' : Type 0} (does : Act → W → W → Type 0) (does' : Act → W'
     onset_below x = record { start = x.start; ear = x.ear; world = below x.world; turns = x.turns; signs = x.signs }
 
     asks_seen : {E : Type 0} (fold : Fold E) (settings : RunSettings) (is_held : Bool) (x : Onset E W F) (ear : E) (wire : W)
-        (left : ℕ) (line : Option LineEnd) → AsksFirst does fold settings is_held x ear wire left line
-        → AsksFirst does' fold settings is_held (onset_below x) ear (w wire) left line
-    asks_seen fold settings is_held x ear wire left line first = asked_seen fold (asker_of settings.ask is_held x.start)
-        (record settings { listens = x.turns }) x.ear ear x.world.wire wire left line first
+        (left : ℕ) (signs : Signs) (line : Option LineEnd) → AsksFirst does fold settings is_held x ear wire left signs line
+        → AsksFirst does' fold settings is_held (onset_below x) ear (w wire) left signs line
+    asks_seen fold settings is_held x ear wire left signs line first = asked_seen fold (asker_of settings.ask is_held x.start)
+        (record settings { listens = x.turns }) x.ear ear x.world.wire wire left x.signs signs line first
 
     held_seen : {E : Type 0} (fold : Fold E) (settings : RunSettings) (z x : Onset E W F) → HasHeld does safe fold settings z x
         → HasHeld does' safe fold settings (onset_below z) (onset_below x)
     unfolding run_seen
     held_seen fold settings z _ none = none
-    held_seen fold settings z _ (held {x} is_held ear wire count first auto left runs plays keep written turns later) =
-        held is_held ear (w wire) count (asks_seen fold settings is_held x ear wire count None first) auto (below left)
+    held_seen fold settings z _ (held {x} is_held ear wire count signs first auto left runs plays keep written turns later) =
+        held is_held ear (w wire) count signs (asks_seen fold settings is_held x ear wire count signs None first) auto (below left)
         (run_seen _ _ _ fold x.start.plan settings.unit count _ auto _ left _ runs) plays keep written turns
         (held_seen fold settings z _ later)
 
     ended_seen : {E : Type 0} (fold : Fold E) (settings : RunSettings) (x : Onset E W F) (last : W) (end : RunEnd)
         → HasEnded does safe fold settings x last end → HasEnded does' safe fold settings (onset_below x) (w last) end
-    ended_seen fold settings x last end (played is_held ear wire left first plays) =
-        played is_held ear (w wire) left (asks_seen fold settings is_held x ear wire left None first)
-        (plays_seen fold ear settings.unit left x.signs x.start (record x.world { wire = wire }) last end plays)
-    ended_seen fold settings x last end (unbegun is_held ear left line first is reports) =
-        unbegun is_held ear left line (asks_seen fold settings is_held x ear last left (Some line) first) is reports
+    ended_seen fold settings x last end (played is_held ear wire left signs first plays) =
+        played is_held ear (w wire) left signs (asks_seen fold settings is_held x ear wire left signs None first)
+        (plays_seen fold ear settings.unit left signs x.start (record x.world { wire = wire }) last end plays)
+    ended_seen fold settings x last end (unbegun is_held ear left signs line first is reports) =
+        unbegun is_held ear left signs line (asks_seen fold settings is_held x ear last left signs (Some line) first) is reports
 
     tries_seen : {E : Type 0} (fold : Fold E) (settings : RunSettings) (x : Onset E W F) (last : W) (end : RunEnd)
         → HasTried does safe fold settings x last end → HasTried does' safe fold settings (onset_below x) (w last) end

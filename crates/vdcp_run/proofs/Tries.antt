@@ -1,20 +1,51 @@
 -- One try after another.
-use Rattle.std.proofs.Common.{◌≡◌, ◌∙◌, List, ℕ, ap, refl, sym}
+use Rattle.std.proofs.Common.{◌≡◌, ◌⊎◌, ◌∙◌, List, ℕ, ap, inl, inr, refl, subst, sym}
+use Rattle.std.specs.declared.fs.File.{File as StdFile}
+use Rattle.vdcp_journal_file.specs.Recording.{Recording}
+use Rattle.vdcp_run.specs.Asking.{Start}
 use Rattle.std.specs.Prelude.{IfErr, IfOk, None, Option, Result, Ok, Err, Some, length}
-use Rattle.vdcp_run.specs.Run.{IsTried, IsTry, IsUntried, first, later, later_after, later_by, once_occupied_by, once_unsure_by, unsure_event}
+use Rattle.vdcp_run.specs.Session.{HasSession}
+use Rattle.vdcp_run.specs.Run.{CameTo, HasAsrun, HasRecorder, IsBegun, keeps_line, line_left, IsTried, IsTry, IsUntried, first, later, later_after, later_by, occupied, unconnected, once_occupied_by, once_unsure_by, unsure_event}
 use Rattle.vdcp_run.specs.declared.run_end.RunEnd.{RunEnd}
 use Rattle.vdcp_run.specs.declared.settings.RunSettings.{RunSettings}
 use Rattle.vdcp_run.specs.declared.settings.Staying.{Staying}
 use Rattle.vdcp_text.specs.declared.failure.Failure.{Failure}
 use Rattle.vdcp_text.specs.declared.failure.Failure.TheVariants as failures
 use Rattle.vdcp_value.specs.declared.part.Item.{Item}
+use Rattle.vdcp_wire.specs.Streams.{Streamed}
 
--- a try after which the run tries again is followed by another
-pub tries_later : (settings last : RunSettings) (items : List Item) (end : Result RunEnd Failure) (next : RunSettings)
-    → IsTry settings items last → IfOk end (IsTried last items) → IfErr end (IsUntried last items)
-    → later_after last (length items) end ≡ Some next → IsTry settings items next
-tries_later settings last items (Ok end) next tries tried untried e = later tries (Ok end) tried e
-tries_later settings last items (Err failure) next tries tried untried e = later tries (Err failure) untried e
+-- how a session ended over these items, which are those of its source
+pub tried_so : (settings : RunSettings) (items of : List Item) (before : Option Streamed) (end : RunEnd) (left : Option Streamed)
+    (start : Start) (recorder : Option (Recording StdFile)) → IsBegun settings items settings.journal start recorder
+    → HasRecorder settings.unit settings.journal start.state recorder → (last : Option Streamed)
+    → HasSession (λ file. None) settings start recorder before end last
+    → left ≡ line_left (keeps_line settings (length of) end) last → of ≡ items → HasAsrun settings of end
+    → IsTried settings items before end left
+tried_so settings items of before end left start recorder begun kept last session left_is same asrun = record {
+  start = start;
+  recorder = recorder;
+  begun = begun;
+  kept = kept;
+  last = last;
+  session = session;
+  left_is = subst (λ (list : List Item). left ≡ line_left (keeps_line settings (length list) end) last) same left_is;
+  asrun = subst (λ (list : List Item). HasAsrun settings list end) same asrun;
+}
+
+-- a session that nobody takes, or whose port isn't empty
+pub untried_so : (settings : RunSettings) (items : List Item) (end : Result RunEnd Failure) (left : Option Streamed)
+    → IfErr end (λ failure. (failure ≡ failures.Connect) ⊎ (failure ≡ failures.NotEmpty)) → IfErr end (λ failure. left ≡ None)
+    → IfErr end (λ failure. IsUntried settings items failure × (left ≡ None))
+untried_so settings items (Ok end) left refused none = tt
+untried_so settings items (Err failure) left (inl e) none = (unconnected e, none)
+untried_so settings items (Err failure) left (inr e) none = (occupied e, none)
+
+-- what a try came to, whether it has an end or not
+pub came_so : (settings : RunSettings) (items : List Item) (before : Option Streamed) (end : Result RunEnd Failure)
+    (left : Option Streamed) → IfOk end (λ e. IsTried settings items before e left)
+    → IfErr end (λ failure. IsUntried settings items failure × (left ≡ None)) → CameTo settings items before end left
+came_so settings items before (Ok end) left tried untried = tried
+came_so settings items before (Err failure) left tried untried = untried
 
 -- a run that doesn't stay
 
@@ -26,10 +57,10 @@ no_later settings count (Err failures.NotEmpty) alone =
 no_later settings count (Err failure) alone =
     ap (λ (stay : Option Staying). once_unsure_by settings count stay (unsure_event failure)) alone
 
-pub one_try : (settings : RunSettings) (items : List Item) (last : RunSettings) → settings.stay ≡ None
-    → IsTry settings items last → last ≡ settings
-one_try settings items _ alone first = refl
-one_try settings items _ alone (later {before} {next} tries end came e) =
-    let same : before ≡ settings = one_try settings items before alone tries in
+pub one_try : (settings : RunSettings) (items : List Item) (last : RunSettings) (wire : Option Streamed) → settings.stay ≡ None
+    → IsTry settings items last wire → last ≡ settings
+one_try settings items _ _ alone first = refl
+one_try settings items _ _ alone (later {before} {next} {wire} tries end came e) =
+    let same : before ≡ settings = one_try settings items before wire alone tries in
     let none = no_later before (length items) end (ap (λ (s : RunSettings). s.stay) same ∙ alone) in
     let wrong : Some next ≡ None = sym e ∙ none in cc

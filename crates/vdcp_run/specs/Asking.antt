@@ -1,6 +1,6 @@
 -- What is asked before a list's own commands: whether the port is empty, or when the clip before ends. An automation of its own
 -- asks, of which only questions go out.
-use Rattle.std.specs.Prelude.{ℕ, ◌≡◌, ◌⊎◌, ◌-◌, Bool, true, false, not, ◌&&◌, if◌then◌else◌, is_some, nat_eq, All, List, [], Option, None, Some, Result, Ok, Err}
+use Rattle.std.specs.Prelude.{ℕ, ◌≡◌, ◌⊎◌, ◌-◌, Bool, true, false, not, ◌&&◌, ◌||◌, ◌==◌, if◌then◌else◌, is_some, nat_eq, All, List, [], Option, None, Some, Result, Ok, Err}
 use Rattle.vdcp_auto.specs.Plan.{Plan, View, plan_of}
 use Rattle.vdcp_auto.specs.State.{State, Stage, Ready}
 use Rattle.vdcp_auto.specs.Turn as turns
@@ -29,6 +29,7 @@ use Rattle.vdcp_run.specs.declared.asking.Purpose.{Purpose}
 use Rattle.vdcp_run.specs.declared.asking.Purpose.TheVariants as purpose
 use Rattle.vdcp_run.specs.declared.run_end.LineEnd.{LineEnd}
 use Rattle.vdcp_run.specs.declared.run_end.LineEnd.TheVariants as line_end
+use Rattle.vdcp_run.specs.declared.run_end.Signs.{Signs}
 use Rattle.vdcp_run.specs.declared.run_end.Why.TheVariants as why
 use Rattle.vdcp_run.specs.declared.settings.RunSettings.{RunSettings}
 use Rattle.vdcp_value.specs.declared.part.Item.{Item}
@@ -106,12 +107,13 @@ is_question (command.Select port) = true
 is_question (command.Status groups) = true
 is_question other = false
 
--- what is asked, what the operator called, the state byte that was heard last, and how many turns are left
+-- what is asked, what the operator called, the state byte that was heard last, how many turns are left, and the signs so far
 pub record Inquiring : Type 0 where
   pub purpose : Purpose
   pub held : Option Call
   pub state : Option ℕ
   pub left : ℕ
+  pub signs : Signs
 
 -- the operator has called it off: by stop, or, while a clip is awaited or a PLAY is held, by any call
 abbrev pub is_called_off : Purpose → Option Call → Bool
@@ -144,8 +146,19 @@ abbrev pub state_in : Option Heard → Option ℕ → Option ℕ
 state_in (Some (heard.Reply (reply.State groups (Some state)))) before = Some state
 state_in _ before = before
 
+-- it answers the command before: a NAK other than 01 doesn't, nor a message that is no reply
+abbrev pub is_answer : Heard → Bool
+is_answer (heard.Reply (reply.Nak e)) = e == 1
+is_answer (heard.Reply r) = true
+is_answer heard.Other = false
+
+-- and that there was no answer
 abbrev pub Adds : Kept → Inquiring → Inquiring → Type 0
-Adds (kept.Heard h) old new = new ≡ record old { state = state_in (Some h) old.state }
+Adds (kept.Heard h) old new = new ≡ record old {
+  state = state_in (Some h) old.state;
+  signs = record old.signs { unanswered = not (is_answer h) || old.signs.unanswered };
+}
+Adds kept.Silence old new = new ≡ record old { signs = record old.signs { unanswered = true } }
 Adds _ old new = new ≡ old
 
 abbrev pub asking : {W : Type 0} → (Act → W → W → Type 0) → Plan → Rules W Inquiring
@@ -192,6 +205,12 @@ line_of i (Err fault.Unkept) outcome = Some line_end.Failed
 line_of i (Err fault.Left) outcome = left_line_for i i.purpose
 line_of i (Ok r) outcome = ran_line_for i.purpose r outcome
 
+-- the signs then: an automation that neither was left nor has ended may await an answer
+abbrev pub signs_asked : Result Ran BrokenOff → Signs → Signs
+signs_asked (Err fault.Left) signs = signs
+signs_asked (Ok ran.Ended) signs = signs
+signs_asked answer signs = record signs { unanswered = true }
+
 -- ---- it has asked
 
 abbrev pub over : {W J : Type 0} → W → J → World W J
@@ -206,22 +225,23 @@ pub record Comes {E W J : Type 0} (rules : Rules W J) (fold : Fold E) (plan : Pl
   pub outcome_is : outcome ≡ outcome_of auto.state.stage
 
 pub record Asked {E W : Type 0} (asker : Asker) (does : Act → W → W → Type 0) (fold : Fold E) (settings : RunSettings)
-    (ear ear' : E) (wire wire' : W) (left : ℕ) (line : Option LineEnd) : Type 0 where
+    (ear ear' : E) (wire wire' : W) (left : ℕ) (signs signs' : Signs) (line : Option LineEnd) : Type 0 where
   pub held : Option Call
   pub last : Inquiring
   pub answer : Result Ran BrokenOff
   pub outcome : Option Outcome
   pub comes : Comes (asking does asker.plan) fold asker.plan settings.unit settings.listens asker.state ear ear'
-      (over wire (record { purpose = asker.purpose; held = held; state = None; left = settings.listens })) (over wire' last)
-      answer outcome
+      (over wire (record { purpose = asker.purpose; held = held; state = None; left = settings.listens; signs = signs }))
+      (over wire' last) answer outcome
   pub left_is : left ≡ last.left
+  pub signs_are : signs' ≡ signs_asked answer last.signs
   pub line_is : line ≡ line_of last answer outcome
 
--- with this ear and over this wire what was to be asked was, which left this many turns, and the list is begun unless the
--- line ends
+-- with this ear and over this wire what was to be asked was, which left this many turns and these signs, and the list is begun
+-- unless the line ends
 abbrev pub HasAsked : {E W : Type 0} → Option Asker → (Act → W → W → Type 0) → Fold E → RunSettings → E → E → W → W → ℕ
-    → Option LineEnd → Type 0
-HasAsked None does fold settings ear ear' wire wire' left line =
-    (ear' ≡ ear) × (wire' ≡ wire) × (left ≡ settings.listens) × (line ≡ None)
-HasAsked (Some asker) does fold settings ear ear' wire wire' left line =
-    Asked asker does fold settings ear ear' wire wire' left line
+    → Signs → Signs → Option LineEnd → Type 0
+HasAsked None does fold settings ear ear' wire wire' left signs signs' line =
+    (ear' ≡ ear) × (wire' ≡ wire) × (left ≡ settings.listens) × (signs' ≡ signs) × (line ≡ None)
+HasAsked (Some asker) does fold settings ear ear' wire wire' left signs signs' line =
+    Asked asker does fold settings ear ear' wire wire' left signs signs' line

@@ -2,7 +2,7 @@
 use Rattle.std.specs.Borrow.{Bor}
 use Rattle.std.specs.declared.fs.File.{File as StdFile}
 use Rattle.std.specs.Option.{option_map}
-use Rattle.std.specs.Prelude.{ℕ, ◌≡◌, ◌⊎◌, ◌+◌, ◌-◌, ◌*◌, ◌<◌, ◌≤◌, Bool, true, false, not, ◌&&◌, is_some, min, nat_le, nat_lt, List, drop, length, take, Option, None, Some, unwrap_or, Result, Ok, Err, IfSome, IsSome, if◌then◌else◌}
+use Rattle.std.specs.Prelude.{ℕ, ◌≡◌, ◌⊎◌, ◌+◌, ◌-◌, ◌*◌, ◌<◌, ◌≤◌, Bool, true, false, not, ◌&&◌, ◌||◌, is_some, min, nat_le, nat_lt, List, drop, length, take, Option, None, Some, unwrap_or, Result, Ok, Err, IfSome, IsSome, if◌then◌else◌}
 use Rattle.vdcp_value.specs.declared.part.Item.{Item}
 use Rattle.vdcp_value.specs.declared.rate.Rate.{Rate}
 use Rattle.vdcp_auto.specs.Course.{Reached}
@@ -12,23 +12,31 @@ use Rattle.vdcp_auto.specs.Turn.{outcome_of}
 use Rattle.vdcp_auto.specs.declared.exchange.Exchange.{Exchange}
 use Rattle.vdcp_auto.specs.declared.outcome.Outcome.{Outcome}
 use Rattle.vdcp_auto.specs.declared.outcome.Outcome.TheVariants.{Done, Stopped, Lost, Denied, Missing, Refused, Foreign, Strange}
+use Rattle.vdcp_auto.specs.declared.phase.Mode.{Mode}
+use Rattle.vdcp_auto.specs.declared.phase.Mode.TheVariants.{Plain, Confirming}
 use Rattle.vdcp_auto.specs.State.{State}
+use Rattle.vdcp_drive.specs.declared.hearing.Hearing.{Hearing}
+use Rattle.vdcp_drive.specs.declared.hearing.Hearing.TheVariants as hears
 use Rattle.vdcp_drive.specs.declared.line.Ran.TheVariants as ran
 use Rattle.vdcp_text.specs.declared.failure.Failure.{Failure}
 use Rattle.vdcp_text.specs.declared.failure.Failure.TheVariants as failures
-use Rattle.vdcp_files.specs.Files.{File, bytes_of, file}
+use Rattle.vdcp_files.specs.Files.{File, bytes_of}
 use Rattle.vdcp_journal.specs.declared.row.Heading.{Heading}
+use Rattle.vdcp_journal.specs.declared.row.Note.TheVariants as note
 use Rattle.vdcp_journal.specs.Runs.{Run}
 use Rattle.vdcp_list.specs.Asrun.{events_text, has_part}
 use Rattle.vdcp_list.specs.Playlists.{IsListOf}
 use Rattle.vdcp_list.specs.Rests.{FromEvent}
 use Rattle.vdcp_list.specs.Rows.{FileBytes}
 use Rattle.vdcp_journal_file.specs.Recording.{BeganWith, IsTimedOut, IsUnbegun, Recording}
-use Rattle.vdcp_journal_file.specs.Resuming.{IsOpenedAgain, IsReplayed, IsUnopenedAgain, IsUnresumed, next_event, open_after, plan_of_run}
+use Rattle.vdcp_journal_file.specs.Resuming.{beginning_note, IsOpenedAgain, IsReplayed, IsUnopenedAgain, IsUnresumed, next_event, open_after, plan_of_run}
 use Rattle.vdcp_journal_file.specs.Showing.{IsAsrunOf, digest_of}
+use Rattle.vdcp_journal_file.specs.declared.again.Beginning.{Beginning}
+use Rattle.vdcp_journal_file.specs.declared.again.Beginning.TheVariants as beginnings
 use Rattle.vdcp_journal_file.specs.declared.pending.RecordFault.{RecordFault}
 use Rattle.vdcp_journal_file.specs.declared.pending.RecordFault.TheVariants as records
 use Rattle.vdcp_run.specs.Asking.{Start}
+use Rattle.vdcp_run.specs.Ends.{is_unplayable}
 use Rattle.vdcp_run.specs.Session.{HasSession}
 use Rattle.vdcp_run.specs.declared.lack.Lack.{Lack}
 use Rattle.vdcp_run.specs.declared.place.Apart.{Apart}
@@ -44,6 +52,7 @@ use Rattle.vdcp_run.specs.declared.settings.RunSettings.{RunSettings}
 use Rattle.vdcp_run.specs.declared.settings.Staying.{Staying}
 use Rattle.vdcp_run.specs.declared.settings.Unsure.{Unsure}
 use Rattle.vdcp_run.specs.declared.settings.Unsure.TheVariants as unsure
+use Rattle.vdcp_wire.specs.Streams.{Streamed}
 
 -- what the controller is made with for these items
 abbrev pub plan_for : RunSettings → List Item → Plan
@@ -93,6 +102,7 @@ abbrev pub name_of : RunJournal → Bor (List ℕ)
 name_of (journals.New name) = name
 name_of (journals.Older name) = name
 name_of (journals.Again name) = name
+name_of (journals.Left name) = name
 
 -- it ended by its line: the controller was lost, or else the line closed or failed before that had ended
 abbrev pub is_by_line : LineEnd → Option Outcome → Bool
@@ -112,18 +122,19 @@ is_refused (line_end.Ran ran.Ended) (Some Denied) = true
 is_refused (line_end.Ran ran.Ended) (Some (Refused k)) = true
 is_refused line outcome = false
 
--- the server doesn't have the clip of the next event, or refused its cue
-abbrev pub is_unplayable : LineEnd → Signs → Option Outcome → Bool
-is_unplayable (line_end.Ran ran.Ended) signs (Some (Missing k)) = true
-is_unplayable (line_end.Ran ran.Ended) signs (Some (Refused k)) = signs.cueing
-is_unplayable line signs outcome = false
+-- the controller was lost, and nothing was unanswered: it had ended so before
+abbrev pub is_lost : LineEnd → Signs → Option Outcome → Bool
+is_lost (line_end.Ran ran.Ended) signs (Some Lost) = not signs.unanswered
+is_lost line signs outcome = false
 
--- The server lost the port since the journal's last rows: the run that goes on from them was refused, and over its
--- connection came only what a port answers that isn't open.
+-- The run goes on no more from the journal's last rows. The server lost the port since: the run that goes on from them was refused,
+-- and over its connection came only what a port answers that isn't open. Or their controller was lost for good.
 abbrev pub has_lost_port : RunJournal → RunEnd → Bool
 has_lost_port (journals.New name) end = false
-has_lost_port (journals.Older name) end = end.signs.unopened && is_refused end.line end.outcome
+has_lost_port (journals.Older name) end =
+    end.signs.unopened && (is_refused end.line end.outcome || is_lost end.line end.signs end.outcome)
 has_lost_port (journals.Again name) end = false
+has_lost_port (journals.Left name) end = false
 
 -- a run that stays, with these settings, may try again after this end: nobody stopped it, its journal is whole, and a turn is
 -- left
@@ -135,34 +146,50 @@ may_try settings end =
 abbrev pub going_on : RunSettings → RunJournal → ℕ → RunSettings
 going_on settings journal left = record settings { journal = Some (journals.Older (name_of journal)); listens = left }
 
--- and of one that begins anew after the journal's last run, with a named event, or else the first that this doesn't report
-abbrev pub beginning_anew : RunSettings → RunJournal → Option ℕ → ℕ → RunSettings
-beginning_anew settings journal from left =
-    record settings { journal = Some (journals.Again (name_of journal)); from = from; listens = left }
+abbrev pub is_confirming : Mode → Bool
+is_confirming Plain = false
+is_confirming Confirming = true
+
+-- and of one that begins anew after the journal's last run, with the first event that this doesn't report; in confirm mode only
+-- if the port is empty, since what is cued there may air in place of that
+abbrev pub beginning_anew : RunSettings → RunJournal → ℕ → RunSettings
+beginning_anew settings journal left = record settings {
+  ask = settings.ask || is_confirming settings.mode;
+  journal = Some (journals.Again (name_of journal));
+  from = None;
+  listens = left;
+}
 
 -- the event of so many with which the list goes on behind one that is left out, if that is: by the operator, or since it
 -- can't be played, if such events are skipped
-abbrev pub behind_with : LineEnd → Signs → Option Outcome → (reported : ℕ) → (skips : Bool) → (count : ℕ) → Option ℕ
-behind_with (line_end.LeftOut kept) signs outcome reported skips count =
-    if nat_lt reported kept && nat_le kept count then Some kept else None
-behind_with line signs outcome reported skips count =
-    if skips && (is_unplayable line signs outcome && nat_lt reported count) then Some (reported + 1) else None
+abbrev pub behind_with : LineEnd → (skips : Bool) → (reported count : ℕ) → Option ℕ
+behind_with (line_end.LeftOut kept) skips reported count = if nat_lt reported kept && nat_le kept count then Some kept else None
+behind_with (line_end.Ran ran.Ended) skips reported count = if skips && nat_lt reported count then Some (reported + 1) else None
+behind_with line skips reported count = None
 
-abbrev pub behind_left_out : (skips : Bool) → (count : ℕ) → RunEnd → Option ℕ
-behind_left_out skips count end = behind_with end.line end.signs end.outcome end.reported skips count
+abbrev pub behind_left_out : (skips : Bool) → Mode → (count : ℕ) → RunEnd → Option ℕ
+behind_left_out skips mode count end =
+    behind_with end.line (skips && is_unplayable mode end.signs end.outcome) end.reported count
+
+-- the journal then: it says that the operator left the run, if it was so
+abbrev pub journal_behind : LineEnd → RunJournal → RunJournal
+journal_behind (line_end.LeftOut kept) journal = journals.Left (name_of journal)
+journal_behind line journal = journals.Again (name_of journal)
 
 -- and behind it, without asking the port, where the clip before may play
-abbrev pub leaving_out : RunSettings → RunJournal → (first left : ℕ) → RunSettings
-leaving_out settings journal first left = record (beginning_anew settings journal (Some first) left) { ask = false }
+abbrev pub leaving_out : RunSettings → RunJournal → LineEnd → (first left : ℕ) → RunSettings
+leaving_out settings journal line first left =
+    record settings { ask = false; journal = Some (journal_behind line journal); from = Some first; listens = left }
 
--- the first goes on after an end by the line; the second begins with the next event after the loss of the port; the third
--- behind it, if it is left out
+-- the first begins with the next event after the loss of the port; the second goes on after an end by the line; the third begins
+-- behind the next event, if it is left out
 abbrev pub next_by : RunSettings → Staying → ℕ → RunJournal → RunEnd → Option RunSettings
 next_by settings stay count journal end =
-    if is_by_line end.line (told_outcome end.line end.outcome) then Some (going_on settings journal (turns_left settings end))
-    else (if has_lost_port journal end then Some (beginning_anew settings journal None (turns_left settings end))
-    else option_map (λ first. leaving_out settings journal first (turns_left settings end))
-    (behind_left_out stay.skip count end))
+    if has_lost_port journal end then Some (beginning_anew settings journal (turns_left settings end))
+    else (if is_by_line end.line (told_outcome end.line end.outcome)
+    then Some (going_on settings journal (turns_left settings end))
+    else option_map (λ first. leaving_out settings journal end.line first (turns_left settings end))
+    (behind_left_out stay.skip settings.mode count end))
 
 abbrev pub later_by : RunSettings → ℕ → Option Staying → Option RunJournal → RunEnd → Option RunSettings
 later_by settings count None journal end = None
@@ -173,6 +200,32 @@ later_by settings count (Some stay) (Some journal) end =
 -- the settings with which it tries again, if it does, to play a list of so many events
 abbrev pub later_of : RunSettings → ℕ → RunEnd → Option RunSettings
 later_of settings count end = later_by settings count settings.stay settings.journal end
+
+-- a run with this journal, which begins with this event, leaves out the one before
+abbrev pub leaves_out : Option RunJournal → (from : Option ℕ) → Bool
+leaves_out (Some (journals.Again name)) (Some first) = true
+leaves_out (Some (journals.Left name)) (Some first) = true
+leaves_out journal from = false
+
+-- the next try goes on over the same line, if messages are heard at once: each command over it was answered, and an event is
+-- left out
+abbrev pub keeps_line_by : Hearing → (unanswered : Bool) → (later : Option RunSettings) → Bool
+keeps_line_by hears.AtOnce false (Some later) = leaves_out later.journal later.from
+keeps_line_by hearing unanswered later = false
+
+abbrev pub keeps_line : RunSettings → ℕ → RunEnd → Bool
+keeps_line settings count end = keeps_line_by settings.hearing end.signs.unanswered (later_of settings count end)
+
+-- the run was left before an event that is left out, or has ended: no answer is awaited
+abbrev pub IsAtRest : LineEnd → Type 0
+IsAtRest (line_end.LeftOut kept) = Unit {0}
+IsAtRest (line_end.Ran ran.Ended) = Unit {0}
+IsAtRest line = ⊥
+
+-- the wire that a try leaves to the next one
+abbrev pub line_left : {W : Type 0} → (keeps : Bool) → Option W → Option W
+line_left true last = last
+line_left false last = None
 
 -- the event with which no run begins, since it may have aired
 abbrev pub unsure_event : Failure → Option ℕ
@@ -231,6 +284,7 @@ IsUnlisted None failure = failure ≡ failures.Memory
 IsUnlisted (Some (journals.New name)) failure = failure ≡ failures.Memory
 IsUnlisted (Some (journals.Older name)) failure = Unit {0}
 IsUnlisted (Some (journals.Again name)) failure = Unit {0}
+IsUnlisted (Some (journals.Left name)) failure = Unit {0}
 
 -- this value shows that the file of this name, if there is one, isn't this other file
 abbrev pub IsApart : Option (Bor (List ℕ)) → Bor (List ℕ) → Apart → Type 0
@@ -252,6 +306,7 @@ IsListed rate None items from reported text = text ≡ reported_text rate items 
 IsListed rate (Some (journals.New name)) items from reported text = text ≡ reported_text rate items from reported
 IsListed rate (Some (journals.Older name)) items from reported text = IsAsrunOf rate items text
 IsListed rate (Some (journals.Again name)) items from reported text = IsAsrunOf rate items text
+IsListed rate (Some (journals.Left name)) items from reported text = IsAsrunOf rate items text
 
 -- the file of this name has this text
 abbrev pub IsSaved : Bor (List ℕ) → List ℕ → SavedText → Type 0
@@ -304,8 +359,8 @@ abbrev pub IsJournalRefused : RunSettings → List Item → RunJournal → Failu
 IsJournalRefused settings items (journals.New name) failure = IsUnbegun name failure
 IsJournalRefused settings items (journals.Older name) failure =
     IsUnresumed items name (heading_for settings items) failure
-IsJournalRefused settings items (journals.Again name) failure =
-    IsUnopenedAgain items name (heading_for settings items) settings.from failure
+IsJournalRefused settings items journal failure =
+    IsUnopenedAgain items (name_of journal) (heading_for settings items) settings.from failure
 
 -- why a run of these items isn't begun with this journal, if it has one: that can't be kept, or the as-run list can't be
 abbrev pub IsUnkept : RunSettings → List Item → Option RunJournal → Failure → Type 0
@@ -321,6 +376,7 @@ unbegun_journal (Err failure) None = None
 unbegun_journal (Err failure) (Some (journals.New name)) = Some name
 unbegun_journal (Err failure) (Some (journals.Older name)) = None
 unbegun_journal (Err failure) (Some (journals.Again name)) = None
+unbegun_journal (Err failure) (Some (journals.Left name)) = None
 
 -- the journal that a run goes on from: that which it had, unless that isn't where it was
 abbrev pub journal_after : RecordFault → Option RunJournal → Option RunJournal
@@ -369,11 +425,24 @@ pub record GoesOn {F : Type 0} (settings : RunSettings) (items : List Item) (sta
   pub left : IfSome recorder
       (λ r. IsTimedOut (open_after (plan_of_run (heading_for settings items) items run) run.rows) r.pending)
 
+-- how a new run begins in this journal: behind one that the operator left, or else with this event, if one is named
+abbrev pub beginning_of : RunJournal → (from : Option ℕ) → Beginning
+beginning_of (journals.Left name) (Some event) = beginnings.Left event
+beginning_of journal (Some event) = beginnings.From event
+beginning_of journal None = beginnings.Next
+
+-- a new run begins in the journal, after its last one
+abbrev pub IsAgain : RunJournal → Type 0
+IsAgain (journals.New name) = ⊥
+IsAgain (journals.Older name) = ⊥
+IsAgain (journals.Again name) = Unit {0}
+IsAgain (journals.Left name) = Unit {0}
+
 -- if that is opened again, it begins with this event, and the journal says so
-pub record BeginsAgain {F : Type 0} (settings : RunSettings) (items : List Item) (start : Start)
+pub record BeginsAgain {F : Type 0} (settings : RunSettings) (items : List Item) (journal : RunJournal) (start : Start)
     (recorder : Option (Recording F)) : Type 0 where
   pub opened : IsOpenedAgain items (heading_for settings items) settings.from start.from start.plan start.state
-  pub began : IfSome recorder (BeganWith (Some start.from))
+  pub began : IfSome recorder (BeganWith (Some (beginning_note (beginning_of journal settings.from) start.from)))
 
 -- a new controller of these items, with the event that is named, or else the first one
 abbrev pub BeginsNew : RunSettings → List Item → Start → Type 0
@@ -384,9 +453,9 @@ BeginsNew settings items begun = (begun.from ≡ first_event settings.from)
 abbrev pub BeginsBy : {F : Type 0} → RunSettings → List Item → Option RunJournal → Start → Option (Recording F) → Type 0
 BeginsBy settings items None begun recorder = BeginsNew settings items begun
 BeginsBy settings items (Some (journals.New name)) begun recorder =
-    BeginsNew settings items begun × IfSome recorder (BeganWith settings.from)
+    BeginsNew settings items begun × IfSome recorder (BeganWith (option_map note.From settings.from))
 BeginsBy settings items (Some (journals.Older name)) begun recorder = GoesOn settings items begun recorder
-BeginsBy settings items (Some (journals.Again name)) begun recorder = BeginsAgain settings items begun recorder
+BeginsBy settings items (Some journal) begun recorder = BeginsAgain settings items journal begun recorder
 
 -- so, with a controller that some calls led there, and that plays from an event of them on
 pub record IsBegun {F : Type 0} (settings : RunSettings) (items : List Item) (journal : Option RunJournal) (start : Start)
@@ -403,14 +472,18 @@ HasRecorder unit None state recorder = recorder ≡ None
 HasRecorder unit (Some journal) state None = IsSome (outcome_of state.stage)
 HasRecorder unit (Some journal) state (Some recorder) = (recorder.name ≡ name_of journal) × (recorder.unit ≡ unit)
 
--- How a try of these items with these settings ended: a session played them from one on. If it has a journal, its controller
--- begins as that says, and its exchanges were kept there.
-pub record IsTried (settings : RunSettings) (items : List Item) (end : RunEnd) : Type 0 where
+-- How a try of these items with these settings ended: a session played them from one on, over the wire that the try before left,
+-- if it left one. If it has a journal, its controller begins as that says, and its exchanges were kept there. To the next try it
+-- left this wire, if any.
+pub record IsTried (settings : RunSettings) (items : List Item) (before : Option Streamed) (end : RunEnd)
+    (left : Option Streamed) : Type 0 where
   pub start : Start
   pub recorder : Option (Recording StdFile)
   pub begun : IsBegun settings items settings.journal start recorder
   pub kept : HasRecorder settings.unit settings.journal start.state recorder
-  pub session : HasSession (λ file. None) settings start recorder end
+  pub last : Option Streamed
+  pub session : HasSession (λ file. None) settings start recorder before end last
+  pub left_is : left ≡ line_left (keeps_line settings (length items) end) last
   pub asrun : HasAsrun settings items end
 
 -- why a try of these items with these settings came to nothing: the journal can't be kept, or else nobody takes the
@@ -420,10 +493,10 @@ pub data IsUntried (settings : RunSettings) (items : List Item) (failure : Failu
   unconnected : failure ≡ failures.Connect → IsUntried settings items failure
   occupied : failure ≡ failures.NotEmpty → IsUntried settings items failure
 
--- what a try came to
-abbrev pub CameTo : RunSettings → List Item → Result RunEnd Failure → Type 0
-CameTo settings items (Ok end) = IsTried settings items end
-CameTo settings items (Err failure) = IsUntried settings items failure
+-- what a try came to, and the wire that it left
+abbrev pub CameTo : RunSettings → List Item → (before : Option Streamed) → Result RunEnd Failure → (left : Option Streamed) → Type 0
+CameTo settings items before (Ok end) left = IsTried settings items before end left
+CameTo settings items before (Err failure) left = IsUntried settings items failure × (left ≡ None)
 
 -- the run sends an event again that may have aired
 abbrev pub SendsAgain : Option Staying → Type 0
@@ -440,17 +513,29 @@ BeginsBehind items (Err failure) next = (lines : FileBytes) × (run : Run) × (e
     × ((next.from ≡ Some (next_event (heading_for next items) run + 1))
     ⊎ (SendsAgain next.stay × (next.from ≡ Some (next_event (heading_for next items) run))))
 
--- with which settings a run tries: with its own first, and then with those that follow from what the last try came to
-pub data IsTry (settings : RunSettings) (items : List Item) : RunSettings → Type 0 where
-  first : IsTry settings items settings
-  later : {before next : RunSettings} → IsTry settings items before → (end : Result RunEnd Failure)
-      → CameTo before items end → later_after before (length items) end ≡ Some next → IsTry settings items next
+-- with which settings and over which wire, if there is one yet, a run tries: with its own first, and then with those that follow
+-- from what the last try came to, over the wire that it left
+pub data IsTry (settings : RunSettings) (items : List Item) : RunSettings → Option Streamed → Type 0 where
+  first : IsTry settings items settings None
+  later : {before next : RunSettings} {wire left : Option Streamed} → IsTry settings items before wire
+      → (end : Result RunEnd Failure) → CameTo before items wire end left → later_after before (length items) end ≡ Some next
+      → IsTry settings items next left
+
+-- this is the end of a try that it made with these settings
+pub record EndsTry (settings : RunSettings) (items : List Item) (last : RunSettings) (end : RunEnd) : Type 0 where
+  pub wire : Option Streamed
+  pub tries : IsTry settings items last wire
+  pub left : Option Streamed
+  pub tried : IsTried last items wire end left
+
+-- this is the end of one of its tries
+abbrev pub IsEarlier : RunSettings → List Item → RunEnd → Type 0
+IsEarlier settings items end = (with_settings : RunSettings) × EndsTry settings items with_settings end
 
 -- this is the end of its last try, after which it doesn't try again
 pub record IsLastTry (settings : RunSettings) (items : List Item) (end : RunEnd) : Type 0 where
   pub last : RunSettings
-  pub tries : IsTry settings items last
-  pub tried : IsTried last items end
+  pub ends : EndsTry settings items last end
   pub over : later_of last (length items) end ≡ None
 
 -- the last of two ends, if there is one
@@ -458,16 +543,11 @@ abbrev pub latest_end : Result RunEnd Failure → (earlier : Option RunEnd) → 
 latest_end (Ok end) earlier = Some end
 latest_end (Err failure) earlier = earlier
 
--- this is the end of one of its tries
-pub record IsEarlier (settings : RunSettings) (items : List Item) (end : RunEnd) : Type 0 where
-  pub with_settings : RunSettings
-  pub tries : IsTry settings items with_settings
-  pub tried : IsTried with_settings items end
-
 -- Its last try came to nothing, and it doesn't try again. This is the end of one before, with the as-run file of its journal.
 pub record CameToNothing (settings : RunSettings) (items : List Item) (failure : Failure) (end : RunEnd) : Type 0 where
   pub last : RunSettings
-  pub tries : IsTry settings items last
+  pub wire : Option Streamed
+  pub tries : IsTry settings items last wire
   pub untried : IsUntried last items failure
   pub over : later_after last (length items) (Err failure) ≡ None
   pub before : RunEnd

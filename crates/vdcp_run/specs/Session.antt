@@ -1,6 +1,6 @@
 -- What a session did: it asked the port, if it was to, and ran a driver, with the journal that it has, if it has one.
 use Rattle.std.specs.Option.{option_map}
-use Rattle.std.specs.Prelude.{ℕ, ◌≡◌, ◌≢◌, ◌⊎◌, ◌+◌, ◌*◌, Bool, true, false, ◌&&◌, List, [], ◌∷◌, Option, None, Some, IfSome, IsSome, IsTrue, Result, Err}
+use Rattle.std.specs.Prelude.{ℕ, ◌≡◌, ◌≢◌, ◌⊎◌, ◌+◌, ◌-◌, ◌*◌, ◌≤◌, Bool, true, false, not, ◌&&◌, ◌||◌, List, [], ◌∷◌, Option, None, Some, IsSome, IsTrue, Result, Err}
 use Rattle.vdcp_auto.specs.Commands.{is_cue_command}
 use Rattle.vdcp_auto.specs.State.{Stage, Ready}
 use Rattle.vdcp_auto.specs.Turn.{is_awaiting, outcome_of}
@@ -15,7 +15,7 @@ use Rattle.vdcp_drive.specs.Hearing as ears
 use Rattle.vdcp_drive.specs.Hooked.{MayKeep, MayLose}
 use Rattle.vdcp_drive.specs.Leaves.{HasRun, steps_in}
 use Rattle.vdcp_drive.specs.Reading.{holds}
-use Rattle.vdcp_drive.specs.Steps.{Rules, World}
+use Rattle.vdcp_drive.specs.Steps.{Rules, Step, World, asks}
 use Rattle.vdcp_drive.specs.Traces.{kept_in}
 use Rattle.vdcp_drive.specs.declared.hooks.BrokenOff.{BrokenOff}
 use Rattle.vdcp_drive.specs.declared.hooks.BrokenOff.TheVariants as fault
@@ -33,8 +33,8 @@ use Rattle.vdcp_journal_file.specs.Recorded.{Loses, Notes, NotesEnd, recorder_ru
 use Rattle.vdcp_journal_file.specs.Recording.{Adds, Recording, outcome_rows}
 use Rattle.vdcp_journal_file.specs.declared.pending.Pending.TheVariants as pending
 use Rattle.vdcp_operator.specs.Hands.{is_to_play}
-use Rattle.vdcp_run.specs.Ends.{Reports, line_end_of}
-use Rattle.vdcp_run.specs.Asking.{HasAsked, Start, asker_of, over}
+use Rattle.vdcp_run.specs.Ends.{Reports, is_unplayed, line_end_of}
+use Rattle.vdcp_run.specs.Asking.{HasAsked, Start, asker_of, is_answer, over}
 use Rattle.vdcp_run.specs.declared.lack.Lack.{Lack}
 use Rattle.vdcp_run.specs.declared.run_end.LineEnd.{LineEnd}
 use Rattle.vdcp_run.specs.declared.run_end.LineEnd.TheVariants as line_end
@@ -43,6 +43,7 @@ use Rattle.vdcp_run.specs.declared.run_end.Signs.{Signs}
 use Rattle.vdcp_run.specs.declared.run_end.Why.{Why}
 use Rattle.vdcp_run.specs.declared.run_end.Why.TheVariants as why
 use Rattle.vdcp_run.specs.declared.settings.RunSettings.{RunSettings}
+use Rattle.vdcp_run.specs.declared.settings.Staying.{Staying}
 use Rattle.vdcp_wire.specs.Acts.{Act}
 use Rattle.vdcp_wire.specs.Streams.{StreamDoes, Streamed}
 use Rattle.vdcp_wire.specs.declared.stream.Connection.TheVariants as connection
@@ -50,10 +51,11 @@ use Rattle.vdcp_words.specs.declared.reply.Reply.TheVariants as reply
 
 -- ---- what is kept over a connection
 
--- its journal, if there is one, and the signs
+-- its journal, if there is one, the signs, and how many turns are left
 pub record Keeping (F : Type 0) : Type 0 where
   pub recorder : Option (Recording F)
   pub signs : Signs
+  pub left : ℕ
 
 -- NAK, or whether the catalogue has a clip
 abbrev pub is_unopened : Heard → Bool
@@ -63,15 +65,19 @@ is_unopened _ = false
 
 -- the signs before a run; where none took place; and once this is kept
 abbrev pub signs_at_first : Signs
-signs_at_first = record { heard = false; unopened = true; cueing = false; stopped = false }
+signs_at_first = record { heard = false; unopened = true; cueing = false; stopped = false; unanswered = false }
 
 abbrev pub no_signs : Signs
-no_signs = record { heard = false; unopened = false; cueing = false; stopped = false }
+no_signs = record { heard = false; unopened = false; cueing = false; stopped = false; unanswered = false }
 
 abbrev pub signs_after : Kept → Signs → Signs
 signs_after (kept.Sent c) signs = record signs { cueing = is_cue_command c }
-signs_after (kept.Heard h) signs = record signs { heard = true; unopened = signs.unopened && is_unopened h }
-signs_after kept.Silence signs = signs
+signs_after (kept.Heard h) signs = record signs {
+  heard = true;
+  unopened = signs.unopened && is_unopened h;
+  unanswered = not (is_answer h) || signs.unanswered;
+}
+signs_after kept.Silence signs = record signs { unanswered = true }
 signs_after (kept.Called Take) signs = signs
 signs_after (kept.Called Stop) signs = record signs { stopped = true }
 
@@ -82,12 +88,13 @@ signs_by (one ∷ later) signs = signs_by later (signs_after one signs)
 -- what a run does over a connection to its wire, and to this
 abbrev pub KeepsOn : {F : Type 0} → (F → Option (List ℕ)) → Kept → Keeping F → Keeping F → Type 0
 KeepsOn safe one old new = MayKeep (Notes safe) one old.recorder new.recorder
-    × (new.signs ≡ signs_after one old.signs)
+    × (new.signs ≡ signs_after one old.signs) × (new.left ≡ old.left)
 
 abbrev pub LosesIn : {F : Type 0} → (F → Option (List ℕ)) → Kept → Keeping F → Keeping F → Type 0
-LosesIn safe one old new = MayLose (Loses safe) one old.recorder new.recorder × (new.signs ≡ old.signs)
+LosesIn safe one old new = MayLose (Loses safe) one old.recorder new.recorder × (new.signs ≡ old.signs) × (new.left ≡ old.left)
 
--- No PLAY of the next event has gone out: the controller asks about it next, or, in plain mode, does what comes before the PLAY.
+-- The controller asks about the next event next; or, in plain mode, what it sends next is for its cue, or is its PLAY: a first one,
+-- or again, behind one that had no answer and that a state has shown to be lost.
 abbrev pub IsBeforeEvent : Mode → Stage → Type 0
 IsBeforeEvent mode (Ready (phase.Exists k)) = Unit {0}
 IsBeforeEvent Plain (Ready (phase.Cue k)) = Unit {0}
@@ -103,10 +110,16 @@ LeavesBefore mode stage n = Unit {0}
 abbrev pub playing_rules : {W F : Type 0} → Mode → (Act → W → W → Type 0) → (F → Option (List ℕ)) → Rules W (Keeping F)
 playing_rules mode does safe = record {
   does = does;
-  asks = λ state n before after. (after ≡ before) × LeavesBefore mode state.stage n;
+  asks = λ state n before after. (after ≡ record before { left = before.left - 1 }) × LeavesBefore mode state.stage n;
   adds = KeepsOn safe;
   loses = LosesIn safe;
 }
+
+-- how many turns such steps made: at the beginning of each it was asked what to do
+abbrev pub turns_in : List Step → ℕ
+turns_in [] = 0
+turns_in (asks state n ∷ later) = turns_in later + 1
+turns_in (step ∷ later) = turns_in later
 
 -- ---- a driver's run
 
@@ -125,7 +138,7 @@ IsClosed {F} safe stage line None (Some recorder) = (line ≢ line_end.Unkept) �
 IsClosed safe stage line (Some lack) (Some recorder) = lack.journal ≡ recorder.name
 
 -- with this ear a driver ran, and came to this end: before each command went out and each call was given its journal,
--- if it has one, had the rows safe that were due. Then the journal was ended. The wire was left so
+-- if it has one, had the rows safe that were due. Then the journal was ended. The wire was left so, and the turns that weren't made
 pub record Plays {E W F : Type 0} (does : Act → W → W → Type 0) (safe : F → Option (List ℕ)) (fold : Fold E) (ear : E)
     (unit listens : ℕ) (signs : Signs) (start : Start) (world : World W (Option (Recording F))) (last : W) (end : RunEnd)
     : Type 0 where
@@ -137,9 +150,10 @@ pub record Plays {E W F : Type 0} (does : Act → W → W → Type 0) (safe : F 
   pub last_is : left.wire ≡ last
   pub left_before : ran ≡ Err fault.Left → LeavesBefore start.plan.mode auto.state.stage next.Leave
   pub kept : ℕ
-  pub line_is : end.line ≡ line_end_of ran (start.from + auto.state.settled) kept
+  pub line_is : end.line ≡ line_end_of ran (is_unplayed start.plan.mode end.signs auto.state) (start.from + auto.state.settled) kept
   pub reports : Reports start.from auto.state end
   pub signs_are : end.signs ≡ signs_by (kept_in (steps_in runs.run)) signs
+  pub left_is : end.left ≡ listens - turns_in (steps_in runs.run)
   pub closed : IsClosed safe auto.state.stage end.line end.unkept left.keep
 
 -- ---- over a connection
@@ -153,11 +167,12 @@ pub record Onset (E W F : Type 0) : Type 0 where
   pub turns : ℕ
   pub signs : Signs
 
--- first what was to be asked was, with the ear and the turns of the stretch
+-- first what was to be asked was, with the ear and the turns of the stretch, and with its signs, which tell if there was no
+-- answer
 abbrev pub AsksFirst : {E W F : Type 0} → (Act → W → W → Type 0) → Fold E → RunSettings → (is_held : Bool) → Onset E W F → E → W
-    → (left : ℕ) → Option LineEnd → Type 0
-AsksFirst does fold settings is_held x ear wire left line = HasAsked (asker_of settings.ask is_held x.start) does fold
-    (record settings { listens = x.turns }) x.ear ear x.world.wire wire left line
+    → (left : ℕ) → Signs → Option LineEnd → Type 0
+AsksFirst does fold settings is_held x ear wire left signs line = HasAsked (asker_of settings.ask is_held x.start) does fold
+    (record settings { listens = x.turns }) x.ear ear x.world.wire wire left x.signs signs line
 
 -- all that waited is written to the journal, if there is one
 abbrev pub IsWritten : {F : Type 0} → (F → Option (List ℕ)) → (old new : Option (Recording F)) → Type 0
@@ -165,15 +180,15 @@ IsWritten safe None new = new ≡ None
 IsWritten safe (Some old) None = ⊥
 IsWritten safe (Some old) (Some new) = Adds safe old new [] × (new ≡ record old { file = new.file; pending = pending.Nothing })
 
--- a stretch that was left before a PLAY so, with this journal, and these turns to make, leads to the next one
+-- a stretch that was left before a PLAY so, with this journal, these turns to make and these signs, leads to the next one
 abbrev pub onset_after : {E W F : Type 0} → Onset E W F → Auto E → World W (Option (Recording F)) → Option (Recording F)
-    → (turns : ℕ) → List Kept → Onset E W F
-onset_after x auto left keep turns noted = record {
+    → (turns : ℕ) → Signs → Onset E W F
+onset_after x auto left keep turns signs = record {
   start = record x.start { state = auto.state };
   ear = auto.ear;
   world = record left { keep = keep };
   turns = turns;
-  signs = signs_by noted x.signs;
+  signs = signs;
 }
 
 -- The operator held some PLAYs, each for a while: what was to be asked was, and with the ear that this left a driver ran that was
@@ -181,12 +196,13 @@ onset_after x auto left keep turns noted = record {
 pub data HasHeld {E W F : Type 0} (does : Act → W → W → Type 0) (safe : F → Option (List ℕ)) (fold : Fold E)
     (settings : RunSettings) (z : Onset E W F) : Onset E W F → Type 0 where
   none : HasHeld does safe fold settings z z
-  held : {x : Onset E W F} (is_held : Bool) (ear : E) (wire : W) (count : ℕ)
-      → AsksFirst does fold settings is_held x ear wire count None → (auto : Auto E) (left : World W (Option (Recording F)))
+  held : {x : Onset E W F} (is_held : Bool) (ear : E) (wire : W) (count : ℕ) (signs : Signs)
+      → AsksFirst does fold settings is_held x ear wire count signs None → (auto : Auto E) (left : World W (Option (Recording F)))
       → (runs : HasRun (recorder_rules does safe) fold x.start.plan settings.unit count
       (record { ear = ear; state = x.start.state }) auto (record x.world { wire = wire }) left (Err fault.Left))
-      → IsTrue (is_to_play auto.state.stage) → (keep : Option (Recording F)) → IsWritten safe left.keep keep → (turns : ℕ)
-      → HasHeld does safe fold settings z (onset_after x auto left keep turns (kept_in (steps_in runs.run)))
+      → IsTrue (is_to_play auto.state.stage) → (keep : Option (Recording F)) → IsWritten safe left.keep keep
+      → (turns : (n : ℕ) × (n ≤ count - turns_in (steps_in runs.run)))
+      → HasHeld does safe fold settings z (onset_after x auto left keep turns.0 (signs_by (kept_in (steps_in runs.run)) signs))
       → HasHeld does safe fold settings z x
 
 -- the line ended so, with these signs, and with so many turns left
@@ -196,11 +212,13 @@ EndsSo line signs left end = (end.line ≡ line) × (end.signs ≡ signs) × (en
 -- The last stretch: what was to be asked was, and then the list was played, unless that ends the line.
 pub data HasEnded {E W F : Type 0} (does : Act → W → W → Type 0) (safe : F → Option (List ℕ)) (fold : Fold E)
     (settings : RunSettings) (x : Onset E W F) (last : W) (end : RunEnd) : Type 0 where
-  played : (is_held : Bool) (ear : E) (wire : W) (left : ℕ) → AsksFirst does fold settings is_held x ear wire left None
-      → Plays does safe fold ear settings.unit left x.signs x.start (record x.world { wire = wire }) last end
+  played : (is_held : Bool) (ear : E) (wire : W) (left : ℕ) (signs : Signs)
+      → AsksFirst does fold settings is_held x ear wire left signs None
+      → Plays does safe fold ear settings.unit left signs x.start (record x.world { wire = wire }) last end
       → HasEnded does safe fold settings x last end
-  unbegun : (is_held : Bool) (ear : E) (left : ℕ) (line : LineEnd) → AsksFirst does fold settings is_held x ear last left (Some line)
-      → EndsSo line x.signs left end → Reports x.start.from x.start.state end → HasEnded does safe fold settings x last end
+  unbegun : (is_held : Bool) (ear : E) (left : ℕ) (signs : Signs) (line : LineEnd)
+      → AsksFirst does fold settings is_held x ear last left signs (Some line)
+      → EndsSo line signs left end → Reports x.start.from x.start.state end → HasEnded does safe fold settings x last end
 
 -- one stretch after another
 pub record HasTried {E W F : Type 0} (does : Act → W → W → Type 0) (safe : F → Option (List ℕ)) (fold : Fold E)
@@ -245,14 +263,24 @@ IsUnconnected patience why.Stopped = Unit {0}
 IsUnconnected patience why.GivenUp = IsSome patience
 IsUnconnected patience other = ⊥
 
--- a session of a connection: nothing went out if its controller had ended before, the connection was no wire, or there was none
+-- how the line ended if there was no wire: the connection was none, or a run that stays wasn't connected
+abbrev pub IsUnwired : Option Staying → LineEnd → Type 0
+IsUnwired stay line_end.Failed = Unit {0}
+IsUnwired (Some stay) (line_end.NotBegun why) = IsUnconnected stay.patience why
+IsUnwired stay line = ⊥
+
+-- the wire of a session: the one that the try before left, or else a new one over a connection, which limits answers
+abbrev pub IsWire : RunSettings → (before : Option Streamed) → Streamed → Type 0
+IsWire settings None wire = (wire.connection ≡ connection.Open) × Limits wire (longest_answer settings)
+IsWire settings (Some before) wire = wire ≡ before
+
+-- A session over the wire that the try before left, or a new one, and the wire as it was at the end. Nothing went out, and there
+-- was none, if its controller had ended before, or if there was no wire.
 pub data HasSession {F : Type 0} (safe : F → Option (List ℕ)) (settings : RunSettings) (start : Start)
-    (recorder : Option (Recording F)) (end : RunEnd) : Type 0 where
+    (recorder : Option (Recording F)) (before : Option Streamed) (end : RunEnd) : Option Streamed → Type 0 where
   had_ended : IsSome (outcome_of start.state.stage) → EndsSo (line_end.Ran ran.Ended) signs_at_first settings.listens end
-      → Reports start.from start.state end → HasSession safe settings start recorder end
-  no_wire : EndsSo line_end.Failed no_signs settings.listens end → Reports start.from start.state end → HasSession safe settings start recorder end
-  unconnected : (why : Why) → IfSome settings.stay (λ stay. IsUnconnected stay.patience why) → IsSome settings.stay
-      → EndsSo (line_end.NotBegun why) no_signs settings.listens end → Reports start.from start.state end → HasSession safe settings start recorder end
-  tried : (wire last : Streamed) → wire.connection ≡ connection.Open → Limits wire (longest_answer settings)
-      → TriesOver StreamDoes safe settings start wire last recorder end
-      → HasSession safe settings start recorder end
+      → Reports start.from start.state end → HasSession safe settings start recorder before end None
+  unwired : (line : LineEnd) → IsUnwired settings.stay line → EndsSo line no_signs settings.listens end
+      → Reports start.from start.state end → HasSession safe settings start recorder before end None
+  tried : (wire last : Streamed) → IsWire settings before wire → TriesOver StreamDoes safe settings start wire last recorder end
+      → HasSession safe settings start recorder before end (Some last)

@@ -1,16 +1,16 @@
 //! What is asked before a list's own commands: is the port empty, has the clip before ended, and what does a port do whose PLAY
 //! is held?
 ghost use Rattle.std.specs.Option.{option_map};
-ghost use Rattle.std.specs.Prelude.{◌≡◌, ◌≢◌, ◌≤◌, Bool, Err, None};
+ghost use Rattle.std.specs.Prelude.{◌≡◌, ◌≢◌, ◌≤◌, Bool, Err, Some};
 ghost use Rattle.vdcp_auto.specs.Plan.{View, plan_of};
 ghost use Rattle.vdcp_auto.specs.Turn as turns;
 ghost use Rattle.vdcp_list.specs.Rests.{FromEvent, items_left};
 ghost use Rattle.vdcp_operator.specs.Hands.{Asks as AsksHand, holds_play};
 ghost use Rattle.vdcp_run.specs.declared.asking.Purpose.{Purpose};
-ghost use Rattle.vdcp_run.specs.Asking.{Comes, HasAsked, asker_of, asking, held_line, is_answered, is_called_off, is_opening, is_question, left_line, line_of, may_ask, over, ran_line, start_of};
+ghost use Rattle.vdcp_run.specs.Asking.{Comes, HasAsked, asker_of, asking, held_line, is_answered, is_called_off, is_opening, is_question, left_line, line_of, may_ask, over, ran_line, signs_asked, start_of};
 
 use crate::console::Console;
-use crate::run_end::{LineEnd, Why};
+use crate::run_end::{LineEnd, Signs, Why};
 use crate::settings::RunSettings;
 use std::io;
 use std::rt::{Clock, Files};
@@ -41,6 +41,8 @@ pub struct Asked<E, W, C> {
     pub console: C,
     /// How many turns may still be made.
     pub left: u32,
+    /// The signs of before, and whether a question had no answer.
+    pub signs: Signs,
 }
 
 /// The hooks of an automation that asks: only questions go out, and none once they are answered or called off.
@@ -53,6 +55,7 @@ struct Inquiry<'c, 'r, 'l, S: Source, R: Clock, I: io::Read, O: io::Write, V: io
     // The state byte that was heard last.
     state: Option<u8>,
     left: u32,
+    signs: Signs,
 }
 
 #[derive(Drop)]
@@ -79,13 +82,15 @@ impl<
         controller: &Controller<Rest<S>>,
         ear: E,
         wire: W,
+        signs: Signs,
         settings: RunSettings<'_>,
     ) -> Asked<E, W, Self>
         requires unit { settings.unit ≤ 15 }
         requires works { W.failures wire ≡ 0 }
         ensures asks { HasAsked (asker_of settings.entry.ask (holds_play self.entry.hand.holds controller.now.state)
-            (start_of S.items controller.now)) W.does E.fold settings.entry ear result.ear wire result.wire result.left result.line }
-        ensures works { result.line ≡ None → W.failures result.wire ≡ 0 }
+            (start_of S.items controller.now)) W.does E.fold settings.entry ear result.ear wire result.wire result.left
+            signs result.signs result.line }
+        ensures works { result.line ≢ Some LineEnd.Failed → W.failures result.wire ≡ 0 }
     {
         let holds = self.hand.holds_play(controller);
         let Some((purpose, asker)) = asker_of(controller, settings.ask, holds) else {
@@ -95,6 +100,7 @@ impl<
                 wire,
                 console: self,
                 left: settings.listens,
+                signs,
             };
         };
         let mut inquiry = Inquiry {
@@ -103,14 +109,16 @@ impl<
             console: self,
             state: None,
             left: settings.listens,
+            signs,
         };
         let answer = inquiry.ask(asker, ear, wire, settings);
         Asked {
             line: inquiry.line_of(answer.ran, answer.outcome),
             ear: answer.ear,
             wire: answer.wire,
-            console: inquiry.console,
             left: inquiry.left,
+            signs: inquiry.signs_after(answer.ran),
+            console: inquiry.console,
         }
     }
 }
@@ -182,11 +190,13 @@ impl<
               held = self.old.console.hand.held;
               state = self.old.state;
               left = self.old.left;
+              signs = self.old.signs;
             })) (over result.wire (record {
               purpose = self.new.purpose;
               held = self.new.console.hand.held;
               state = self.new.state;
               left = self.new.left;
+              signs = self.new.signs;
             })) result.ran result.outcome }
         ensures works { result.ran ≢ Err BrokenOff.Device → W.failures result.wire ≡ 0 }
     {
@@ -200,6 +210,7 @@ impl<
           held = self.now.console.hand.held;
           state = self.now.state;
           left = self.now.left;
+          signs = self.now.signs;
         }) command }
     {
         let Some(command) = command else {
@@ -231,6 +242,7 @@ impl<
         ensures purpose { self.new.purpose ≡ self.old.purpose }
         ensures state { self.new.state ≡ self.old.state }
         ensures left { self.new.left ≡ self.old.left }
+        ensures signs { self.new.signs ≡ self.old.signs }
         ensures asks { self.old.purpose ≡ Purpose.Hold → self.old.console.hand.held ≡ None →
             AsksHand S.items I.remaining asker.now self.old.console.hand.holds self.old.console.hand.page
             self.old.console.hand.typed self.new.console.hand.held self.new.console.hand.holds self.new.console.hand.page
@@ -251,6 +263,7 @@ impl<
           held = self.now.console.hand.held;
           state = self.now.state;
           left = self.now.left;
+          signs = self.now.signs;
         }) ran outcome }
     {
         match (ran, self.purpose) {
@@ -262,12 +275,25 @@ impl<
         }
     }
 
+    // One that neither was left nor has ended may await an answer.
+    fn signs_after(&self, ran: Result<Ran, BrokenOff>) -> Signs
+        ensures { result ≡ signs_asked ran self.now.signs }
+    {
+        let mut signs = self.signs;
+        match ran {
+            Err(BrokenOff::Left) | Ok(Ran::Ended) => {}
+            Err(_) | Ok(_) => signs.note_silence(),
+        }
+        signs
+    }
+
     fn left_line(&self) -> Option<LineEnd>
         ensures { result ≡ left_line (record {
           purpose = self.now.purpose;
           held = self.now.console.hand.held;
           state = self.now.state;
           left = self.now.left;
+          signs = self.now.signs;
         }) }
     {
         if self.is_called_off() {
@@ -349,7 +375,13 @@ impl<
 
     ghost Journal = { Inquiring };
 
-    ghost journal = { λ i. record { purpose = i.purpose; held = i.console.hand.held; state = i.state; left = i.left } };
+    ghost journal = { λ i. record {
+      purpose = i.purpose;
+      held = i.console.hand.held;
+      state = i.state;
+      left = i.left;
+      signs = i.signs;
+    } };
 
     ghost asks = { Asks };
 
@@ -381,9 +413,14 @@ impl<
 
     fn note_end(&mut self, heard: Option<Heard>) {
         self.console.note_end(heard);
-        if let Some(Heard::Reply(Reply::State(_, Some(state)))) = heard {
+        let Some(heard) = heard else {
+            self.signs.note_silence();
+            return;
+        };
+        if let Heard::Reply(Reply::State(_, Some(state))) = heard {
             self.state = Some(state);
         }
+        self.signs.note_answer(heard);
     }
 
     fn see(&mut self, controller: &Controller<Rest<S>>) {

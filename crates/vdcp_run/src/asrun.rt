@@ -71,6 +71,7 @@ fn listed<'a, R: Files + AllocGlobal, S: Source>(
     match settings.journal {
         Some(RunJournal::Older(name)) => asrun_of_journal(rt, name, events, settings.rate),
         Some(RunJournal::Again(name)) => asrun_of_journal(rt, name, events, settings.rate),
+        Some(RunJournal::Left(name)) => asrun_of_journal(rt, name, events, settings.rate),
         Some(RunJournal::New(_)) => reported(rt, controller, settings.rate),
         None => reported(rt, controller, settings.rate),
     }

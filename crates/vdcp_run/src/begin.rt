@@ -1,7 +1,9 @@
 //! What a run begins with: its controller, and the recorder of its journal.
+ghost use Rattle.std.specs.Option.{option_map};
 ghost use Rattle.std.specs.Prelude.{◌≡◌, ◌⊎◌, ◌≤◌, IfErr, IfOk, IfSome, IsSome, IsSomeAnd, Some, length};
 ghost use Rattle.vdcp_journal_file.specs.Recording.{BeganWith, IsUnbegun};
-ghost use Rattle.vdcp_run.specs.Run.{HasRecorder, IsApart, IsBegun, IsPlaceRefused, IsUnkept, first_event, heading_for, name_of, new_controller};
+ghost use Rattle.vdcp_journal_file.specs.Resuming.{said_event};
+ghost use Rattle.vdcp_run.specs.Run.{HasRecorder, IsAgain, IsApart, IsBegun, IsPlaceRefused, IsUnkept, first_event, beginning_of, heading_for, name_of, new_controller};
 ghost use Rattle.vdcp_run.specs.Asking.{start_of};
 
 use crate::place::{Apart, test_place};
@@ -9,8 +11,8 @@ use crate::settings::{RunJournal, RunSettings};
 use std::fs::{self, File};
 use std::rt::{Clock, Files};
 use vdcp_auto::{Controller, Mode, Source};
-use vdcp_journal::{Heading, digest_of};
-use vdcp_journal_file::{Resumption, begin_again, begin_journal, resume_journal};
+use vdcp_journal::{Heading, Note, digest_of};
+use vdcp_journal_file::{Beginning, Resumption, begin_again, begin_journal, resume_journal};
 use vdcp_list::Rest;
 use vdcp_text::Failure;
 
@@ -72,10 +74,46 @@ fn begin_kept<'a, 'r, 's, R: Files<File = File> + Clock + AllocGlobal, S: Source
             Ok(begun) => Ok((begun, Some(apart))),
             Err(failure) => Err(failure),
         },
-        RunJournal::Again(name) => match begin_again(rt, name, &heading, source, settings.from) {
-            Ok(begun) => Ok((begun, Some(apart))),
-            Err(failure) => Err(failure),
-        },
+        RunJournal::Again(_) => begin_after(rt, source, journal, &heading, settings, apart),
+        RunJournal::Left(_) => begin_after(rt, source, journal, &heading, settings, apart),
+    }
+}
+
+fn begin_after<'a, 'r, 's, R: Files<File = File> + Clock + AllocGlobal, S: Source>(
+    rt: &'r R,
+    source: &'s S,
+    journal: RunJournal<'a>,
+    heading: &Heading,
+    settings: RunSettings<'a>,
+    apart: Apart<'a>,
+) -> Result<(Resumption<'a, 'r, R, &'s S>, Option<Apart<'a>>), Failure<'a>>
+    requires unit { settings.unit ≤ 15 }
+    requires some { 1 ≤ settings.limit }
+    requires few { settings.limit ≤ 1000 }
+    requires heading { heading.now ≡ heading_for settings (S.items source.now) }
+    requires apart { IsApart settings.asrun (name_of journal) apart }
+    ensures begun { IsAgain journal.entry → IfOk result (λ r. IsBegun settings.entry (S.items source.now) (Some journal.entry)
+        (start_of (λ s. S.items s.now) r.0.controller) r.0.recorder) }
+    ensures kept { IfOk result (λ r. HasRecorder settings.entry.unit (Some journal.entry) r.0.controller.state r.0.recorder) }
+    ensures list { IfOk result (λ r. S.items r.0.controller.source.source.now ≡ S.items source.now) }
+    ensures apart { IfOk result (λ r. IsSomeAnd r.1 (IsApart settings.entry.asrun (name_of journal.entry))) }
+    ensures refused { IsAgain journal.entry → IfErr result (IsUnkept settings.entry (S.items source.now) (Some journal.entry)) }
+{
+    let beginning = beginning_of(journal, settings.from);
+    match begin_again(rt, journal.name(), heading, source, beginning) {
+        Ok(begun) => Ok((begun, Some(apart))),
+        Err(failure) => Err(failure),
+    }
+}
+
+fn beginning_of(journal: RunJournal<'_>, from: Option<usize>) -> Beginning
+    ensures beginning { result ≡ beginning_of journal.entry from }
+    ensures said { said_event result ≡ from }
+{
+    match (journal, from) {
+        (RunJournal::Left(_), Some(event)) => Beginning::Left(event),
+        (_, Some(event)) => Beginning::From(event),
+        (_, None) => Beginning::Next,
     }
 }
 
@@ -95,7 +133,7 @@ fn begin_new<'a, 'r, 's, R: Files<File = File> + Clock + AllocGlobal, S: Source>
     ensures controller { IfOk result (λ r. r.0.controller ≡ new_controller settings.entry source.entry) }
     ensures recorder { IfOk result (λ r. IfSome r.0.recorder
         (λ recorder. (recorder.name ≡ name.entry) × (recorder.unit ≡ heading.now.unit))) }
-    ensures from { IfOk result (λ r. IfSome r.0.recorder (BeganWith settings.entry.from)) }
+    ensures from { IfOk result (λ r. IfSome r.0.recorder (BeganWith (option_map Note.From settings.entry.from))) }
     ensures kept { IfOk result (λ r. IsSome r.0.recorder) }
     ensures apart { IfOk result (λ r. IsSomeAnd r.1 (IsApart settings.entry.asrun name.entry)) }
     ensures refused { IfErr result (λ failure. IsUnbegun name.entry failure

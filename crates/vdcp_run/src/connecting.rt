@@ -133,6 +133,7 @@ impl<
             if self.has_stopped(controller) {
                 return true;
             }
+            self.see_down();
         }
         false
     }

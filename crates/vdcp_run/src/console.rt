@@ -1,8 +1,7 @@
 //! The operator's side of a run: calls, page, progress line and what is told.
-ghost use Rattle.std.specs.Prelude.{ℕ, ◌≡◌, ◌≢◌, ◌+◌, IsTrue};
+ghost use Rattle.std.specs.Prelude.{ℕ, ◌≡◌, ◌≢◌, ◌⊎◌, ◌+◌, IsFalse, IsTrue, Some, false};
 ghost use Rattle.vdcp_run.specs.Ends.{Reports};
 ghost use Rattle.vdcp_run.specs.Run.{HasAsrun};
-ghost use Rattle.vdcp_drive.specs.declared.hooks.Next.TheVariants.{Leave};
 ghost use Rattle.vdcp_operator.specs.Hands.{holds_play};
 ghost use Rattle.vdcp_operator.specs.LeftOut.{IsNextKept};
 ghost use Rattle.vdcp_run.specs.Session.{IsBeforeEvent, LeavesBefore};
@@ -10,12 +9,13 @@ ghost use Rattle.vdcp_run.specs.Session.{IsBeforeEvent, LeavesBefore};
 use crate::in_list::reported_in_list;
 use crate::lack::Lack;
 use crate::run_end::{LineEnd, RunEnd, Signs, ended};
-use crate::settings::{RunSettings, Staying, Unsure};
+use crate::settings::{RunJournal, RunSettings, Staying, Unsure};
 use crate::stalling::Stalling;
 use crate::staying::later_of;
 use std::rt::{Clock, Files};
 use std::{fmt, io};
 use vdcp_auto::{Controller, Heard, Mode, Phase, Source, Standing};
+use vdcp_drive::{Call, Next};
 use vdcp_list::Rest;
 use vdcp_log::Log;
 use vdcp_operator::{Hand, Progress};
@@ -97,29 +97,59 @@ impl<
         }
     }
 
-    /// Whether the run is left here: the operator leaves out the next event, of which no PLAY has gone out, or holds its PLAY.
-    pub fn leaves_here<S: Source>(&self, controller: &Controller<Rest<S>>) -> bool
-        ensures before { IsTrue result → LeavesBefore controller.now.mode controller.now.state.stage Leave }
-        ensures holds { IsTrue (holds_play self.now.hand.holds controller.now.state) → IsTrue result }
+    /// What a run does next, as the operator wants. It is left if the next event is left out, as long as no PLAY may have put
+    /// it to air, or if its PLAY is held. A take is for an event that isn't left out: before one that is, it is held.
+    pub fn next<S: Source>(&mut self, controller: &Controller<Rest<S>>) -> Next
+        ensures before { LeavesBefore controller.now.mode controller.now.state.stage result }
+        ensures holds { result ≡ Next.GoOn → holds_play self.new.hand.holds controller.now.state ≡ false }
+        ensures kept { result ≡ Next.GoOn → IsBeforeEvent controller.now.mode controller.now.state.stage →
+            controller.now.state.stop ≡ false →
+            IsNextKept self.new.hand.left_out (controller.now.source.from + controller.now.state.settled)
+            (controller.now.source.from + controller.now.state.settled) }
+        ensures take { result ≡ Next.Call Call.Take → controller.now.state.stop ≡ false →
+            IsNextKept self.new.hand.left_out (controller.now.source.from + controller.now.state.settled)
+            (controller.now.source.from + controller.now.state.settled) }
+        ensures held { self.old.hand.held ≡ Some Call.Take →
+            (result ≡ Next.Call Call.Take) ⊎ (self.new.hand.held ≡ Some Call.Take) }
     {
-        self.leaves_out_next(controller) || self.hand.holds_play(controller)
+        match self.hand.call(controller) {
+            Some(Call::Take) if self.leaves_out_next(controller) => self.hand.held = Some(
+                Call::Take,
+            ),
+            Some(call) => return Next::Call(call),
+            None => {}
+        }
+        if self.leaves_here(controller) {
+            Next::Leave
+        } else {
+            Next::GoOn
+        }
     }
 
+    fn leaves_here<S: Source>(&self, controller: &Controller<Rest<S>>) -> bool
+        ensures before { IsTrue result → LeavesBefore controller.now.mode controller.now.state.stage Next.Leave }
+        ensures holds { IsTrue (holds_play self.now.hand.holds controller.now.state) → IsTrue result }
+        ensures kept { IsFalse result → IsBeforeEvent controller.now.mode controller.now.state.stage →
+            controller.now.state.stop ≡ false →
+            IsNextKept self.now.hand.left_out (controller.now.source.from + controller.now.state.settled)
+            (controller.now.source.from + controller.now.state.settled) }
+    {
+        let leaves_out = is_before_event(controller) && self.leaves_out_next(controller);
+        leaves_out || self.hand.holds_play(controller)
+    }
+
+    // Whether the next event is left out, unless the run is to stop.
     fn leaves_out_next<S: Source>(&self, controller: &Controller<Rest<S>>) -> bool
-        ensures before { IsTrue result → IsBeforeEvent controller.now.mode controller.now.state.stage }
         ensures left_out { IsTrue result → (kept : ℕ)
             × IsNextKept self.now.hand.left_out (controller.now.source.from + controller.now.state.settled) kept
             × (kept ≢ controller.now.source.from + controller.now.state.settled) }
+        ensures stops { IsTrue result → controller.now.state.stop ≡ false }
+        ensures kept { IsFalse result → controller.now.state.stop ≡ false →
+            IsNextKept self.now.hand.left_out (controller.now.source.from + controller.now.state.settled)
+            (controller.now.source.from + controller.now.state.settled) }
     {
-        let snapshot = controller.snapshot();
-        match (snapshot.standing, snapshot.mode) {
-            (Standing::Ready(Phase::Exists(_)), _)
-            | (Standing::Ready(Phase::Cue(_) | Phase::Wait(_) | Phase::Play(_)), Mode::Plain) => {
-                let event = reported_in_list(controller);
-                self.hand.next_kept(event) != event
-            }
-            _ => false,
-        }
+        let event = reported_in_list(controller);
+        self.hand.next_kept(event) != event && !controller.snapshot().stop
     }
 
     /// Tells how the run goes on after this try.
@@ -141,11 +171,11 @@ impl<
             return;
         }
         let (event, outcome) = (end.reported, OutcomeText(end.told_outcome()));
-        match end.line.failure() {
-            Some(failure) => self.tell_down(&format_args!("{failure}; connecting again")),
-            None if end.is_by_line() => self.tell_down(&"lost; connecting again"),
-            None if later.from.is_some() => self.tell(&format_args!("left out: {outcome}")),
-            None => self.tell(&format_args!("port lost: going on with event {event}")),
+        match (end.line.failure(), later.journal) {
+            (Some(failure), _) => self.tell_down(&format_args!("{failure}; connecting again")),
+            (None, Some(RunJournal::Older(_))) => self.tell_down(&"lost; connecting again"),
+            (None, _) if later.leaves_out() => self.tell(&format_args!("left out: {outcome}")),
+            (None, _) => self.tell(&format_args!("port lost: going on with event {event}")),
         }
     }
 
@@ -181,6 +211,20 @@ impl<
         if self.is_down {
             self.tell(&"line up");
             self.is_down = false;
+        }
+        if let Some(progress) = &mut self.progress {
+            progress.note_up();
+        }
+    }
+
+    /// Draws the progress line while there is no connection, once that was told.
+    pub fn see_down(&mut self)
+        ensures { self.new.hand ≡ self.old.hand }
+    {
+        if self.is_down
+            && let Some(progress) = &mut self.progress
+        {
+            progress.see_down();
         }
     }
 
@@ -223,5 +267,19 @@ impl<
             self.hand.show_end(controller, end.told_outcome());
         }
         end
+    }
+}
+
+// The next event is asked about next; or, in plain mode, what comes next is for its cue, or is its PLAY: a first one, or the one
+// that a state has shown to be lost, again.
+fn is_before_event<S: Source>(controller: &Controller<S>) -> bool
+    ensures before { IsTrue result → IsBeforeEvent controller.now.mode controller.now.state.stage }
+    ensures all { IsBeforeEvent controller.now.mode controller.now.state.stage → IsTrue result }
+{
+    let snapshot = controller.snapshot();
+    match (snapshot.standing, snapshot.mode) {
+        (Standing::Ready(Phase::Exists(_)), _) => true,
+        (Standing::Ready(Phase::Cue(_) | Phase::Wait(_) | Phase::Play(_)), Mode::Plain) => true,
+        _ => false,
     }
 }

@@ -26,14 +26,14 @@ impl<
     O: io::Write + Drop,
     V: io::Write + Drop,
 > Hooks<Rest<S>> for Playing<'_, '_, '_, R, F, I, O, V> {
-    ghost use Rattle.std.specs.Prelude.{◌≡◌};
+    ghost use Rattle.std.specs.Prelude.{◌≡◌, ◌-◌};
     ghost use Rattle.vdcp_run.specs.Session.{Keeping, KeepsOn, LeavesBefore, LosesIn};
 
     ghost Journal = { Keeping F };
 
-    ghost journal = { λ p. record { recorder = p.recorder; signs = p.signs } };
+    ghost journal = { λ p. record { recorder = p.recorder; signs = p.signs; left = p.left } };
 
-    ghost asks = { λ plan state n old new. (new ≡ old) × LeavesBefore plan.mode state.stage n };
+    ghost asks = { λ plan state n old new. (new ≡ record old { left = old.left - 1 }) × LeavesBefore plan.mode state.stage n };
 
     ghost adds = { KeepsOn F.safe };
 
@@ -41,11 +41,7 @@ impl<
 
     fn due(&mut self, controller: &Controller<Rest<S>>) -> Next {
         self.left = self.left.saturating_sub(1);
-        match self.console.hand.call(controller) {
-            Some(call) => Next::Call(call),
-            None if self.console.leaves_here(controller) => Next::Leave,
-            None => Next::GoOn,
-        }
+        self.console.next(controller)
     }
 
     fn keep_call(&mut self, call: Call) -> Result<(), KeepFault> {
@@ -63,8 +59,9 @@ impl<
 
     fn note_end(&mut self, heard: Option<Heard>) {
         self.console.note_end(heard);
-        if let Some(heard) = heard {
-            self.signs.note_heard(heard);
+        match heard {
+            Some(heard) => self.signs.note_heard(heard),
+            None => self.signs.note_silence(),
         }
         Hooks::<Rest<S>>::note_end(&mut self.recorder, heard);
     }

@@ -1,9 +1,10 @@
 //! The subcommand `run`: its files, one session, and the report.
-ghost use Rattle.std.specs.Prelude.{◌≡◌, ◌<◌, ◌≤◌, IfErr, IfOk, IfSome, OnOk, length};
+ghost use Rattle.std.specs.Prelude.{◌≡◌, ◌<◌, ◌≤◌, IfOk, IfSome, None, OnOk, length};
 ghost use Rattle.vdcp_files.specs.Files.{file};
 ghost use Rattle.vdcp_list.specs.List.{items_of};
 ghost use Rattle.vdcp_list.specs.Playlists.{IsListOf};
-ghost use Rattle.vdcp_run.specs.Run.{IsApart, IsEnd, IsPlayed, IsRun, IsTried, IsUntried, first_event, later_after, latest_end, unbegun_journal};
+ghost use Rattle.vdcp_run.specs.Run.{CameTo, IsApart, IsEnd, IsPlayed, IsRun, first_event, later_after, latest_end, unbegun_journal};
+ghost use Rattle.vdcp_wire.specs.Streams.{failures_of};
 
 use crate::advice::Advice;
 use crate::asrun::save_asrun_of_journal;
@@ -114,10 +115,8 @@ fn run_shown<
         capture,
     } = showing;
     let log = Log::new(telling, capture, Side::Automation);
-    let session = Session {
-        console: Console::new(rt, hand, terminal, &log, settings),
-        pace: Pace::new(rt),
-    };
+    let console = Console::new(rt, hand, terminal, &log, settings);
+    let session = Session::unconnected(console, Pace::new(rt));
     session.run_list(address, list, settings)
 }
 
@@ -138,6 +137,7 @@ impl<
         requires unit { settings.unit ≤ 15 }
         requires some { 1 ≤ settings.limit }
         requires few { settings.limit ≤ 1000 }
+        requires new { self.line ≡ None }
         ensures { IfOk result (IsPlayed settings.entry (file list.entry.name (L.remaining list.entry.reader))) }
     {
         let Ok(address) = address_of(address) else {
@@ -162,6 +162,7 @@ impl<
         requires some { 1 ≤ settings.limit }
         requires few { settings.limit ≤ 1000 }
         requires listed { first_event settings.from ≤ length (items_of events.now) }
+        requires new { self.line ≡ None }
         ensures { IfOk result (IsEnd settings.entry (items_of events.now)) }
     {
         let mut settings = settings;
@@ -195,13 +196,16 @@ impl<
         requires some { 1 ≤ settings.limit }
         requires few { settings.limit ≤ 1000 }
         requires listed { first_event settings.from ≤ length (items_of events.now) }
-        ensures played { IfOk result.0 (IsTried settings.entry (items_of events.now)) }
-        ensures untried { IfErr result.0 (IsUntried settings.entry (items_of events.now)) }
+        requires works { IfSome self.line (λ wire. failures_of wire.connection ≡ 0) }
+        ensures came { CameTo settings.entry (items_of events.now) self.entry.line result.0 result.1.line }
+        ensures works { IfSome result.1.line (λ wire. failures_of wire.connection ≡ 0) }
     {
         let rt = self.console.rt;
         let begun = match begin(rt, events, settings) {
             Ok((begun, _)) => begun,
-            Err(failure) => return (Err(failure), self),
+            Err(failure) => {
+                return (Err(failure), Session::unconnected(self.console, self.pace));
+            }
         };
         let (end, session) = self.play_at(address, begun, settings);
         if let Some(name) = unbegun_journal(&end, settings.journal) {

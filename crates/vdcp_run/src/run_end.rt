@@ -1,10 +1,11 @@
 //! How a run ended, what is printed of that, and its exit status.
-ghost use Rattle.std.specs.Prelude.{◌≡◌, ◌≤◌, IfOk, IfSome};
+ghost use Rattle.std.specs.Prelude.{◌≡◌, ◌≤◌, ◌||◌, IfOk, IfSome, not};
 ghost use Rattle.vdcp_drive.specs.declared.hooks.Kept.TheVariants as kept;
 ghost use Rattle.vdcp_run.specs.Advice.{missing_in};
-ghost use Rattle.vdcp_run.specs.Ends.{Reports, line_end_of};
+ghost use Rattle.vdcp_run.specs.Asking.{is_answer};
+ghost use Rattle.vdcp_run.specs.Ends.{Reports, is_unplayable, line_end_of};
 ghost use Rattle.vdcp_run.specs.Session.{no_signs, signs_after, signs_at_first};
-ghost use Rattle.vdcp_run.specs.Run.{HasAsrun, asrun_failure, behind_left_out, has_lost_port, is_by_line, is_refused, is_unplayable, line_failure, run_status, told_outcome};
+ghost use Rattle.vdcp_run.specs.Run.{HasAsrun, asrun_failure, behind_left_out, has_lost_port, is_by_line, is_lost, is_refused, journal_behind, keeps_line, line_failure, run_status, told_outcome};
 
 use crate::asrun::save_asrun;
 use crate::in_list::{outcome_in_list, reported_in_list};
@@ -14,8 +15,8 @@ use crate::settings::{RunJournal, RunSettings};
 use crate::staying::later_of;
 use std::io;
 use std::rt::Files;
-use vdcp_auto::{Controller, Heard, Outcome, Source};
-use vdcp_drive::{BrokenOff, Call, Ran};
+use vdcp_auto::{Controller, Heard, Mode, Outcome, Source};
+use vdcp_drive::{BrokenOff, Call, Hearing, Ran};
 use vdcp_list::Rest;
 use vdcp_text::{Failure, OutcomeText};
 use vdcp_value::ClipId;
@@ -49,11 +50,18 @@ pub enum Why {
 
 impl LineEnd {
     /// `reported` is the next event, and `kept` the next one that isn't left out. A run is left before an event that is; or
-    /// before a PLAY that is held, which ends it only if the journal can't be written.
-    pub fn of_run(ran: Result<Ran, BrokenOff>, reported: usize, kept: usize) -> LineEnd
-        ensures { result ≡ line_end_of ran reported kept }
+    /// before a PLAY that is held, which ends it only if the journal can't be written. If it has ended since the next event
+    /// can't be played, as `unplayed` says, this counts only if that isn't left out.
+    pub fn of_run(
+        ran: Result<Ran, BrokenOff>,
+        unplayed: bool,
+        reported: usize,
+        kept: usize,
+    ) -> LineEnd
+        ensures { result ≡ line_end_of ran unplayed reported kept }
     {
         match ran {
+            Ok(Ran::Ended) if unplayed && kept != reported => LineEnd::LeftOut(kept),
             Ok(ran) => LineEnd::Ran(ran),
             Err(BrokenOff::Device) => LineEnd::Failed,
             Err(BrokenOff::Unkept) => LineEnd::Unkept,
@@ -90,6 +98,8 @@ pub struct Signs {
     pub cueing: bool,
     /// The operator stopped.
     pub stopped: bool,
+    /// A command had no answer in time, or another message came, so that one may still come.
+    pub unanswered: bool,
 }
 
 impl Signs {
@@ -102,6 +112,7 @@ impl Signs {
             unopened: true,
             cueing: false,
             stopped: false,
+            unanswered: false,
         }
     }
 
@@ -114,6 +125,7 @@ impl Signs {
             unopened: false,
             cueing: false,
             stopped: false,
+            unanswered: false,
         }
     }
 
@@ -129,12 +141,43 @@ impl Signs {
         self.heard = true;
         self.unopened = self.unopened
             && matches!(heard, Heard::Reply(Reply::Nak(_) | Reply::Present(_)));
+        self.note_answer(heard);
+    }
+
+    /// What came for a command may not be its answer.
+    pub fn note_answer(&mut self, heard: Heard)
+        ensures { self.new ≡ record self.old { unanswered = not (is_answer heard) || self.old.unanswered } }
+    {
+        let is_answer = match heard {
+            Heard::Reply(Reply::Nak(errors)) => errors == 0x01,
+            Heard::Reply(_) => true,
+            Heard::Other => false,
+        };
+        self.unanswered = !is_answer || self.unanswered;
+    }
+
+    pub fn note_silence(&mut self)
+        ensures { self.new ≡ signs_after kept.Silence self.old }
+    {
+        self.unanswered = true;
     }
 
     pub fn note_call(&mut self, call: Call)
         ensures { self.new ≡ signs_after (kept.Called call) self.old }
     {
         self.stopped = self.stopped || call == Call::Stop;
+    }
+
+    /// Whether a controller that ended so did since the server doesn't have the clip of its next event, or, in plain mode,
+    /// refused its cue.
+    pub fn is_unplayable(self, mode: Mode, outcome: Option<Outcome>) -> bool
+        ensures { result ≡ is_unplayable mode self outcome }
+    {
+        match (outcome, mode) {
+            (Some(Outcome::Missing(_)), _) => true,
+            (Some(Outcome::Refused(_)), Mode::Plain) => self.cueing,
+            _ => false,
+        }
     }
 }
 
@@ -206,13 +249,14 @@ impl<'a> RunEnd<'a> {
         }
     }
 
-    /// Whether the server has lost the port since the rows of this journal.
+    /// Whether the run goes on no more from the rows of this journal: the server has lost the port since, or their controller
+    /// was lost for good.
     pub fn has_lost_port(&self, journal: RunJournal<'_>) -> bool
         ensures { result ≡ has_lost_port journal.entry self.now }
     {
         match journal {
-            RunJournal::New(_) | RunJournal::Again(_) => false,
-            RunJournal::Older(_) => self.signs.unopened && self.is_refused(),
+            RunJournal::New(_) | RunJournal::Again(_) | RunJournal::Left(_) => false,
+            RunJournal::Older(_) => self.signs.unopened && (self.is_refused() || self.is_lost()),
         }
     }
 
@@ -225,28 +269,48 @@ impl<'a> RunEnd<'a> {
         }
     }
 
+    fn is_lost(&self) -> bool
+        ensures { result ≡ is_lost self.now.line self.now.signs self.now.outcome }
+    {
+        match (self.line, self.outcome) {
+            (LineEnd::Ran(Ran::Ended), Some(Outcome::Lost)) => !self.signs.unanswered,
+            _ => false,
+        }
+    }
+
+    /// Whether the next try, of a list of so many events, uses the same line: if it leaves out an event, each command over the
+    /// line was answered, and messages are heard at once. (One that is heard at silences may be a part of an answer, whose rest
+    /// would be heard as the next one.)
+    pub fn keeps_line(&self, count: usize, settings: RunSettings<'_>) -> bool
+        ensures { result ≡ keeps_line settings.entry count self.now }
+    {
+        match (settings.hearing, later_of(self, count, settings)) {
+            (Hearing::AtOnce, Some(later)) => !self.signs.unanswered && later.leaves_out(),
+            (Hearing::AtOnce, None) | (Hearing::AtSilences, _) => false,
+        }
+    }
+
     /// If the next event is left out, by the operator or since it can't be played, the event with which the list of so many
     /// goes on.
-    pub fn behind_left_out(&self, skips: bool, count: usize) -> Option<usize>
-        ensures behind { result ≡ behind_left_out skips count self.now }
+    pub fn behind_left_out(&self, skips: bool, mode: Mode, count: usize) -> Option<usize>
+        ensures behind { result ≡ behind_left_out skips mode count self.now }
         ensures listed { IfSome result (λ first. first ≤ count) }
     {
+        let skips = skips && self.signs.is_unplayable(mode, self.outcome);
         match self.line {
             LineEnd::LeftOut(kept) if self.reported < kept && kept <= count => Some(kept),
-            LineEnd::LeftOut(_) => None,
-            _ if skips && self.is_unplayable() && self.reported < count => Some(self.reported + 1),
+            LineEnd::Ran(Ran::Ended) if skips && self.reported < count => Some(self.reported + 1),
             _ => None,
         }
     }
 
-    // Whether the server doesn't have the clip of the next event, or refused its cue.
-    fn is_unplayable(&self) -> bool
-        ensures { result ≡ is_unplayable self.now.line self.now.signs self.now.outcome }
+    /// The journal of a new run behind an event that is left out.
+    pub fn journal_behind<'j>(&self, journal: RunJournal<'j>) -> RunJournal<'j>
+        ensures { result ≡ journal_behind self.now.line journal.entry }
     {
-        match (self.line, self.outcome) {
-            (LineEnd::Ran(Ran::Ended), Some(Outcome::Missing(_))) => true,
-            (LineEnd::Ran(Ran::Ended), Some(Outcome::Refused(_))) => self.signs.cueing,
-            _ => false,
+        match self.line {
+            LineEnd::LeftOut(_) => RunJournal::Left(journal.name()),
+            _ => RunJournal::Again(journal.name()),
         }
     }
 

@@ -1,10 +1,12 @@
 //! One session: plays a list over a connection, and says what came of it.
 ghost use Rattle.std.specs.Duration.{as_nanos};
-ghost use Rattle.std.specs.Prelude.{◌≡◌, ◌⊎◌, ◌≤◌, ◌*◌, ◌^◌, ◌-◌, IfErr, IfOk, IfSome, IsSome, None};
+ghost use Rattle.std.specs.Prelude.{◌≡◌, ◌≢◌, ◌⊎◌, ◌≤◌, ◌*◌, ◌^◌, ◌-◌, IfErr, IfOk, IfSome, IsSome, None, Option, Some, length};
+ghost use Rattle.vdcp_auto.specs.Turn.{outcome_of};
 ghost use Rattle.vdcp_run.specs.Ends.{Reports};
-ghost use Rattle.vdcp_run.specs.Run.{HasAsrun};
+ghost use Rattle.vdcp_run.specs.Run.{HasAsrun, keeps_line, line_left};
 ghost use Rattle.vdcp_run.specs.Asking.{over, start_of};
-ghost use Rattle.vdcp_run.specs.Session.{EndsSo, HasSession, IsUnconnected, TriesOver, longest_answer, no_signs};
+ghost use Rattle.vdcp_run.specs.Session.{EndsSo, HasSession, IsUnwired, IsWire, TriesOver, longest_answer, no_signs, signs_at_first};
+ghost use Rattle.vdcp_wire.specs.Streams.{Streamed, failures_of};
 
 use crate::before::events_before;
 use crate::console::Console;
@@ -26,11 +28,13 @@ use vdcp_log::Logged;
 use vdcp_text::Failure;
 use vdcp_wire::{StreamWire, Wire};
 
-/// What a run keeps from one connection to the next.
+/// What a run keeps from one try to the next.
 #[derive(Drop)]
-pub struct Session<'r, 'l, R: Clock, I: io::Read, O: io::Write, V: io::Write> {
+pub struct Session<'r, 'l, R: Net + Clock, I: io::Read, O: io::Write, V: io::Write> {
     pub console: Console<'r, 'l, R, I, O, V>,
     pub pace: Pace<'r, R>,
+    /// The next try goes on over this line: each command over it was answered.
+    pub line: Option<StreamWire<R::Stream, &'r R>>,
 }
 
 impl<
@@ -41,90 +45,161 @@ impl<
     O: io::Write + Drop,
     V: io::Write + Drop,
 > Session<'r, 'l, R, I, O, V> {
-    /// Connects and plays the list, and hands the session back. If the controller has ended already nothing is sent: a run that
-    /// stays goes on from there as if it had ended just now.
+    /// Plays the list, over the line that the try before left or a new connection, and hands the session back. If the
+    /// controller has ended already nothing is sent: a run that stays goes on from there as if it had ended just now.
     /// The failure is `Connect` if nobody takes the connection in time and the run doesn't stay, and `NotEmpty` if the port
     /// is asked and isn't empty.
     pub fn play_at<'a, S: Source + Copy>(
-        mut self,
+        self,
         address: SocketAddrV4,
         begun: Resumption<'a, 'r, R, S>,
         settings: RunSettings<'a>,
     ) -> (Result<RunEnd<'a>, Failure<'a>>, Self)
         requires unit { settings.unit ≤ 15 }
         requires some { 1 ≤ settings.limit }
-        ensures session { IfOk result.0 (HasSession (λ _. None) settings.entry
-            (start_of S.items begun.entry.controller) begun.entry.recorder) }
+        requires works { IfSome self.line (λ wire. failures_of wire.connection ≡ 0) }
+        ensures session { IfOk result.0 (λ end. (last : Option Streamed) × HasSession (λ _. None) settings.entry
+            (start_of S.items begun.entry.controller) begun.entry.recorder self.entry.line end last
+            × (result.1.line ≡ line_left (keeps_line settings.entry (length (S.items begun.entry.controller.source.source)) end) last)) }
+        ensures works { IfSome result.1.line (λ wire. failures_of wire.connection ≡ 0) }
         ensures asrun { IfOk result.0 (HasAsrun settings.entry (S.items begun.entry.controller.source.source)) }
         ensures refused { IfErr result.0 (λ failure. (failure ≡ Failure.Connect) ⊎ (failure ≡ Failure.NotEmpty)) }
+        ensures none { IfErr result.0 (λ failure. result.1.line ≡ None) }
     {
         let Resumption {
             controller,
             recorder,
             runs,
         } = begun;
-        let rt = self.console.rt;
+        let Session {
+            console,
+            pace,
+            line,
+        } = self;
+        let mut session = Session::unconnected(console, pace);
         if controller.outcome().is_some() {
-            let (line, left) = (LineEnd::Ran(Ran::Ended), settings.listens);
-            let end = self
-                .console
-                .end(&controller, line, Signs::at_first(), None, left, settings);
-            return (Ok(end), self);
+            let (end, session) = session.end_again(&controller, settings);
+            return (Ok(end), session);
         }
-        let before = events_before(rt.alloc(), runs.as_slice(), &controller);
-        self.console.hand.set_before(before);
-        let stream = match self.connect(address, &controller, settings) {
-            Ok(stream) => stream,
-            Err(why) => return self.end_unconnected(&controller, why, settings),
+        let said = events_before(session.console.rt.alloc(), runs.as_slice(), &controller);
+        session.console.hand.set_before(said);
+        let wire = match session.wire_after(line, address, &controller, settings) {
+            Ok(wire) => wire,
+            Err(line) => return session.end_unwired(&controller, line, settings),
         };
-        let wire = StreamWire::with_limit(stream, silence_of(settings), limit_of(settings), rt);
-        let Ok(wire) = wire else {
-            let left = settings.listens;
-            let end = self.console.end(
-                &controller,
-                LineEnd::Failed,
-                Signs::none(),
-                None,
-                left,
-                settings,
-            );
-            return (Ok(end), self);
-        };
-        let Session { console, pace } = self;
-        let (end, console, _) = console.play_over(recorder, controller, wire, settings);
-        let mut session = Session { console, pace };
+        let count = controller.source().whole().len();
+        let Session {
+            console,
+            mut pace,
+            ..
+        } = session;
+        let (end, console, wire) = console.play_over(recorder, controller, wire, settings);
         if end.signs.heard {
-            session.pace.note_heard();
+            pace.note_heard();
         }
         if end.line == LineEnd::NotBegun(Why::Occupied) {
-            return (Err(Failure::NotEmpty), session);
+            return (Err(Failure::NotEmpty), Session::unconnected(console, pace));
         }
+        let line = line_left(end.keeps_line(count, settings), wire);
+        let session = Session {
+            console,
+            pace,
+            line,
+        };
         (Ok(end), session)
     }
 
-    // Nobody took the connection, or the operator stopped before.
-    fn end_unconnected<'a, S: Source>(
-        mut self,
+    pub fn unconnected(console: Console<'r, 'l, R, I, O, V>, pace: Pace<'r, R>) -> Self
+        ensures { result.line ≡ None }
+    {
+        Session {
+            console,
+            pace,
+            line: None,
+        }
+    }
+
+    // That which the try before left, or else a new one. The error is how the line ended if there is none.
+    fn wire_after<S: Source>(
+        &mut self,
+        before: Option<StreamWire<R::Stream, &'r R>>,
+        address: SocketAddrV4,
         controller: &Controller<Rest<S>>,
-        why: Why,
+        settings: RunSettings<'_>,
+    ) -> Result<StreamWire<R::Stream, &'r R>, LineEnd>
+        requires works { IfSome before (λ wire. failures_of wire.connection ≡ 0) }
+        ensures wire { IfOk result (IsWire settings.entry before.entry) }
+        ensures works { IfOk result (λ wire. failures_of wire.connection ≡ 0) }
+        ensures unwired { IfErr result (λ line. IfSome settings.entry.stay (λ stay. IsUnwired (Some stay) line)) }
+    {
+        if let Some(wire) = before {
+            return Ok(wire);
+        }
+        let stream = match self.connect(address, controller, settings) {
+            Ok(stream) => stream,
+            Err(why) => return Err(LineEnd::NotBegun(why)),
+        };
+        let (silence, limit) = (silence_of(settings), limit_of(settings));
+        match StreamWire::with_limit(stream, silence, limit, self.console.rt) {
+            Ok(wire) => Ok(wire),
+            Err(_) => Err(LineEnd::Failed),
+        }
+    }
+
+    // Nobody took the connection, the operator stopped before, or the connection is no wire.
+    fn end_unwired<'a, S: Source>(
+        self,
+        controller: &Controller<Rest<S>>,
+        line: LineEnd,
         settings: RunSettings<'a>,
     ) -> (Result<RunEnd<'a>, Failure<'a>>, Self)
-        requires { IfSome settings.stay (λ stay. IsUnconnected stay.patience why) }
-        ensures ended { IfOk result.0 (λ end. IfSome settings.entry.stay (λ stay. IsUnconnected stay.patience why)
-            × IsSome settings.entry.stay × EndsSo (LineEnd.NotBegun why) no_signs settings.entry.listens end
+        requires { IfSome settings.stay (λ stay. IsUnwired (Some stay) line) }
+        ensures ended { IfOk result.0 (λ end. IsUnwired settings.entry.stay line × EndsSo line no_signs settings.entry.listens end
             × Reports controller.now.source.from controller.now.state end) }
         ensures asrun { IfOk result.0 (HasAsrun settings.entry (S.items controller.now.source.source)) }
         ensures refused { IfErr result.0 (λ failure. failure ≡ Failure.Connect) }
+        ensures line { result.1.line ≡ None }
     {
-        if settings.stay.is_none() {
-            return (Err(Failure::Connect), self);
+        if settings.stay.is_none() && line != LineEnd::Failed {
+            return (
+                Err(Failure::Connect),
+                Session::unconnected(self.console, self.pace),
+            );
         }
-        let (line, left) = (LineEnd::NotBegun(why), settings.listens);
-        let end = self
-            .console
-            .end(controller, line, Signs::none(), None, left, settings);
-        (Ok(end), self)
+        let mut console = self.console;
+        let left = settings.listens;
+        let end = console.end(controller, line, Signs::none(), None, left, settings);
+        (Ok(end), Session::unconnected(console, self.pace))
     }
+
+    // The controller had ended before: that is the end of this try, too.
+    fn end_again<'a, S: Source>(
+        self,
+        controller: &Controller<Rest<S>>,
+        settings: RunSettings<'a>,
+    ) -> (RunEnd<'a>, Self)
+        requires { IsSome (outcome_of controller.now.state.stage) }
+        ensures ended { IsSome (outcome_of controller.now.state.stage)
+            × EndsSo (LineEnd.Ran Ran.Ended) signs_at_first settings.entry.listens result.0
+            × Reports controller.now.source.from controller.now.state result.0 }
+        ensures asrun { HasAsrun settings.entry (S.items controller.now.source.source) result.0 }
+        ensures line { result.1.line ≡ None }
+    {
+        let mut console = self.console;
+        let (line, signs, left) = (
+            LineEnd::Ran(Ran::Ended),
+            Signs::at_first(),
+            settings.listens,
+        );
+        let end = console.end(controller, line, signs, None, left, settings);
+        (end, Session::unconnected(console, self.pace))
+    }
+}
+
+fn line_left<W: Drop>(keeps: bool, wire: W) -> Option<W>
+    ensures { result ≡ line_left keeps (Some wire) }
+{
+    if keeps { Some(wire) } else { None }
 }
 
 fn silence_of(settings: RunSettings<'_>) -> Duration
@@ -164,6 +239,7 @@ impl<
         requires works { W.failures wire ≡ 0 }
         ensures session { TriesOver W.does F.safe settings.entry (start_of S.items controller) wire result.2
             recorder.entry result.0 }
+        ensures works { result.0.line ≢ LineEnd.Failed → W.failures result.2 ≡ 0 }
         ensures asrun { HasAsrun settings.entry (S.items controller.source.source) result.0 }
     {
         let wire = Logged::new(wire, self.log, settings.hearing);

@@ -1,6 +1,6 @@
 //! What a run is made with, and what shows it.
 ghost use Rattle.std.specs.Prelude.{◌≡◌};
-ghost use Rattle.vdcp_run.specs.Run.{name_of};
+ghost use Rattle.vdcp_run.specs.Run.{leaves_out, name_of};
 
 use vdcp_auto::Mode;
 use vdcp_drive::Hearing;
@@ -33,10 +33,22 @@ pub struct RunSettings<'a> {
     pub stay: Option<Staying>,
 }
 
+impl RunSettings<'_> {
+    /// Whether a run begins behind an event that it leaves out, after the last one of its journal.
+    pub fn leaves_out(self) -> bool
+        ensures { result ≡ leaves_out self.entry.journal self.entry.from }
+    {
+        match self.journal {
+            Some(RunJournal::Again(_) | RunJournal::Left(_)) => self.from.is_some(),
+            Some(RunJournal::New(_) | RunJournal::Older(_)) | None => false,
+        }
+    }
+}
+
 /// How a run stays.
 #[derive(Clone, Copy)]
 pub struct Staying {
-    /// It leaves out an event whose clip the server doesn't have, or whose cue it refuses.
+    /// It leaves out an event whose clip the server doesn't have, or, in plain mode, whose cue it refuses.
     pub skip: bool,
     pub unsure: Unsure,
     /// For how many seconds it tries while nothing is heard of the server; without a number it tries for ever.
@@ -59,8 +71,10 @@ pub enum RunJournal<'a> {
     New(&'a str),
     /// Its last run goes on.
     Older(&'a str),
-    /// A new controller begins after its last run, since the server was lost.
+    /// A new controller begins after its last run, which was lost or can't go on.
     Again(&'a str),
+    /// A new controller begins after its last run, which the operator left.
+    Left(&'a str),
 }
 
 impl<'a> RunJournal<'a> {
@@ -71,6 +85,7 @@ impl<'a> RunJournal<'a> {
             RunJournal::New(name) => name,
             RunJournal::Older(name) => name,
             RunJournal::Again(name) => name,
+            RunJournal::Left(name) => name,
         }
     }
 }

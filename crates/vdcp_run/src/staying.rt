@@ -5,6 +5,7 @@ ghost use Rattle.vdcp_run.specs.Run.{IsSilentFor, first_event, later_of, once_oc
 use crate::run_end::RunEnd;
 use crate::settings::{RunJournal, RunSettings, Unsure};
 use std::rt::Clock;
+use vdcp_auto::Mode;
 use vdcp_wire::Stopwatch;
 
 /// From the beginning of one try to that of the next, in nanoseconds.
@@ -14,9 +15,10 @@ const PACE: u64 = 1_000_000_000;
 const PIECE: u64 = 20_000_000;
 
 /// The settings of the next try of a list of `count` events. There is one only if the run stays, nobody stopped it, its
-/// journal is whole and a turn is left. If the line ended this try, the next one goes on from the journal. If the server has
-/// lost the port, a new run begins there. If the next event is left out, a new run begins behind it. A connection takes at
-/// least one turn.
+/// journal is whole and a turn is left. If the server has lost the port, or the controller of the journal's rows was lost
+/// before, a new run begins there; in confirm mode it asks first whether the port is empty. If the line ended this try, the
+/// next one goes on from the journal. If the next event is left out, a new run begins behind it. A connection takes at least
+/// one turn.
 pub fn later_of<'a>(
     end: &RunEnd<'_>,
     count: usize,
@@ -38,6 +40,12 @@ pub fn later_of<'a>(
         listens: left,
         ..settings
     };
+    if end.has_lost_port(journal) {
+        return Some(RunSettings {
+            ask: settings.ask || settings.mode == Mode::Confirming,
+            ..anew
+        });
+    }
     if end.is_by_line() {
         return Some(RunSettings {
             journal: Some(RunJournal::Older(journal.name())),
@@ -45,12 +53,10 @@ pub fn later_of<'a>(
             ..anew
         });
     }
-    if end.has_lost_port(journal) {
-        return Some(anew);
-    }
-    let first = end.behind_left_out(stay.skip, count)?;
+    let first = end.behind_left_out(stay.skip, settings.mode, count)?;
     Some(RunSettings {
         ask: false,
+        journal: Some(end.journal_behind(journal)),
         from: Some(first),
         ..anew
     })
@@ -93,7 +99,7 @@ pub fn once_occupied<'a>(settings: RunSettings<'a>) -> Option<RunSettings<'a>>
     settings.stay?;
     let name = match settings.journal? {
         RunJournal::New(_) => return None,
-        RunJournal::Older(name) | RunJournal::Again(name) => name,
+        RunJournal::Older(name) | RunJournal::Again(name) | RunJournal::Left(name) => name,
     };
     if settings.listens <= 1 {
         return None;

@@ -1,12 +1,13 @@
 //! One stretch of a session: what is to be asked is asked, and the list is played, up to a PLAY that the operator holds.
-ghost use Rattle.std.specs.Prelude.{ℕ, Bool, ◌≡◌, ◌<◌, ◌≤◌, ◌+◌, Err, IfErr, IfNone, IfOk, IfSome, IsSomeAnd, IsTrue, None};
+ghost use Rattle.std.specs.Prelude.{ℕ, Bool, ◌≡◌, ◌≢◌, ◌<◌, ◌≤◌, ◌+◌, Err, IfErr, IfNone, IfOk, IfSome, IsSomeAnd, IsTrue, None};
 ghost use Rattle.vdcp_auto.specs.Turn.{is_awaiting};
 ghost use Rattle.vdcp_drive.specs.declared.hooks.BrokenOff.{BrokenOff};
 ghost use Rattle.vdcp_operator.specs.Hands.{is_to_play};
 ghost use Rattle.vdcp_operator.specs.LeftOut.{IsNextKept};
 ghost use Rattle.vdcp_run.specs.Asking.{over, start_of};
-ghost use Rattle.vdcp_run.specs.Ends.{Reports, line_end_of};
+ghost use Rattle.vdcp_run.specs.Ends.{Reports, is_unplayed, line_end_of};
 ghost use Rattle.vdcp_run.specs.Run.{HasAsrun};
+ghost use Rattle.vdcp_run.specs.declared.run_end.Signs.{Signs};
 ghost use Rattle.vdcp_run.specs.Session.{EndsOpen, HasEnded, HasHeld, HasTried, IsClosed, IsWritten, Onset, Plays, AsksFirst, onset_of};
 
 use crate::asking::Asked;
@@ -64,6 +65,7 @@ impl<
         requires works { W.failures self.wire ≡ 0 }
         ensures session { HasTried W.does F.safe E.fold settings.entry (onset_of (start_of S.items self.entry.controller) self.entry.ear
             (over self.entry.wire self.entry.playing.recorder) self.entry.playing.left self.entry.playing.signs) result.2 result.0 }
+        ensures works { result.0.line ≢ LineEnd.Failed → W.failures result.2 ≡ 0 }
         ensures asrun { HasAsrun settings.entry (S.items self.entry.controller.source.source) result.0 }
     {
         let mut stretch = self;
@@ -93,6 +95,7 @@ impl<
         ensures ended { IfErr result (λ end.
             HasEnded W.does F.safe E.fold settings.entry (onset_of (start_of S.items self.entry.controller) self.entry.ear
             (over self.entry.wire self.entry.playing.recorder) self.entry.playing.left self.entry.playing.signs) end.2 end.0) }
+        ensures ended_works { IfErr result (λ end. end.0.line ≢ LineEnd.Failed → W.failures end.2 ≡ 0) }
         ensures asrun { IfErr result (λ end. HasAsrun settings.entry (S.items self.entry.controller.source.source) end.0) }
     {
         let Stretch {
@@ -117,7 +120,8 @@ impl<
             wire,
             mut console,
             left,
-        } = console.ask_first(&controller, ear, wire, turns);
+            signs,
+        } = console.ask_first(&controller, ear, wire, signs, turns);
         if let Some(line) = line {
             let end = console.end(&controller, line, signs, None, left, settings);
             return Err((end, console, wire));
@@ -155,9 +159,9 @@ impl<
     >
         requires works { W.failures driver.wire ≡ 0 }
         requires unit { driver.unit ≡ settings.unit }
-        ensures held { IfOk result (λ next. (is_held : Bool) (ear : E) (wire : W) (z : Onset E W F)
-            → (let x : Onset E W F = onset_of (start_of S.items driver.controller) ear (over wire self.entry.recorder) most
-            self.entry.signs in AsksFirst W.does E.fold settings.entry is_held x driver.ear driver.wire self.entry.left None
+        ensures held { IfOk result (λ next. (is_held : Bool) (ear : E) (wire : W) (signs : Signs) (z : Onset E W F)
+            → (let x : Onset E W F = onset_of (start_of S.items driver.controller) ear (over wire self.entry.recorder) most signs in
+            AsksFirst W.does E.fold settings.entry is_held x driver.ear driver.wire self.entry.left self.entry.signs None
             → HasHeld W.does F.safe E.fold settings.entry z (onset_of (start_of S.items next.controller) next.ear
             (over next.wire next.playing.recorder) next.playing.left next.playing.signs)
             → HasHeld W.does F.safe E.fold settings.entry z x)) }
@@ -166,6 +170,7 @@ impl<
         ensures fewer { IfOk result (λ next. next.playing.left < most) }
         ensures ended { IfErr result (λ end. Plays W.does F.safe E.fold driver.ear driver.unit self.entry.left
             self.entry.signs (start_of S.items driver.controller) (over driver.wire self.entry.recorder) end.2 end.0) }
+        ensures ended_works { IfErr result (λ end. end.0.line ≢ LineEnd.Failed → W.failures end.2 ≡ 0) }
         ensures asrun { IfErr result (λ end. HasAsrun settings.entry (S.items driver.controller.source.source) end.0) }
     {
         let ran = driver.run_with(u64::from(self.left), &mut self);
@@ -192,11 +197,20 @@ impl<
         ran: Result<Ran, BrokenOff>,
         controller: &Controller<Rest<S>>,
     ) -> LineEnd
-        ensures { (kept : ℕ) × (result ≡ line_end_of ran (controller.now.source.from + controller.now.state.settled) kept)
+        ensures { (kept : ℕ) × (result ≡ line_end_of ran (is_unplayed controller.now.mode self.now.signs controller.now.state)
+            (controller.now.source.from + controller.now.state.settled) kept)
             × IsNextKept self.now.console.hand.left_out (controller.now.source.from + controller.now.state.settled) kept }
     {
+        let snapshot = controller.snapshot();
+        let outcome = controller.outcome();
+        let unplayed = self.signs.is_unplayable(snapshot.mode, outcome) && !snapshot.stop;
         let reported = reported_in_list(controller);
-        LineEnd::of_run(ran, reported, self.console.hand.next_kept(reported))
+        LineEnd::of_run(
+            ran,
+            unplayed,
+            reported,
+            self.console.hand.next_kept(reported),
+        )
     }
 
     // Whether the run was left since the PLAY that comes next is held.
@@ -225,6 +239,7 @@ impl<
         ensures line { result.0.line ≡ line }
         ensures signs { result.0.signs ≡ self.entry.signs }
         ensures kept { result.0.unkept ≡ unkept.entry }
+        ensures left { result.0.left ≡ self.entry.left }
         ensures asrun { HasAsrun settings.entry (S.items driver.controller.source.source) result.0 }
         ensures wire { result.2 ≡ driver.wire }
     {
@@ -266,7 +281,8 @@ fn write_out<'a, R: Files + Clock + AllocGlobal, F: Disk + Drop>(
     }
 }
 
-// No answer comes any more. Behind that a state that was heard before announces no PLAY.
+// No answer is heard any more: if one is awaited, the journal says that none came. Else a state that was heard before would
+// announce a PLAY, as if one could have gone out.
 fn end_open<S: Source, R: Files + Clock + AllocGlobal, F: Disk + Drop>(
     recorder: &mut Recorder<'_, '_, R, F>,
     controller: &Controller<Rest<S>>,

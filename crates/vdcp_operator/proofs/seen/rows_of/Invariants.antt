@@ -5,4 +5,4 @@ use Rattle.vdcp_operator.specs.Seen.{row_data}
 use Rattle.vdcp_operator.proofs.seen.rows_of.Given as goal
 
 abbrev pub invariant-loop-k : goal.invariant-loop-k
-invariant-loop-k l = map view l.rows.items ≡ map (row_data l.rate l.clips l.left_out) (take l.k l.events)
+invariant-loop-k l = map view l.rows.items ≡ map (row_data l.rate l.clips l.left_out l.ahead) (take l.k l.events)

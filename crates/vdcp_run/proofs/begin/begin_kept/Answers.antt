@@ -1,9 +1,10 @@
 use Rattle.std.proofs.Common.{refl}
 use Rattle.std.proofs.lemmas.Result.{IfOk-weaker}
 use Rattle.std.specs.Prelude.{Some}
-use Rattle.vdcp_run.proofs.Begun.{begun_again, begun_new, begun_older, both}
+use Rattle.vdcp_run.proofs.Begun.{begun_new, begun_older, both}
 use Rattle.vdcp_run.proofs.begin.begin_kept.Goals as goal
 use Rattle.vdcp_run.specs.Asking.{start_of}
+use Rattle.vdcp_run.specs.Run.{IsAgain}
 use Rattle.vdcp_run.specs.declared.settings.RunJournal.TheVariants as journals
 
 pub returns-in-New-clause-begun : goal.returns-in-New-clause-begun
@@ -20,10 +21,18 @@ returns-in-Ok-clause-begun g c =
     (start_of (λ s. g.S.Source.items s.now) c.in-Ok.begun.controller) c.in-Ok.begun.recorder c.requires.some
     c.in_ok-heading.ensures.heading c.in-Ok.ensures.resumed)
 
-pub returns-in-Ok-begin_again-clause-begun : goal.returns-in-Ok-begin_again-clause-begun
-returns-in-Ok-begin_again-clause-begun g c =
-    let begun = c.in-Ok-begin_again.begun in
-    rw c.in-Again.is
-    (begun_again (g.S.Source.items c.args.source.now) c.args.settings c.in-Again.name c.in_ok-heading.heading
-    (start_of (λ s. g.S.Source.items s.now) begun.controller) begun.recorder c.requires.some c.requires.few
-    c.in_ok-heading.ensures.heading c.in-Ok-begin_again.ensures.opened c.in-Ok-begin_again.ensures.from)
+pub returns-in-Again-clause-begun : goal.returns-in-Again-clause-begun
+returns-in-Again-clause-begun g c =
+    let again : IsAgain c.args.journal = rw c.in-Again.is tt in c.begin_after.ensures.begun again
+
+pub returns-in-Left-clause-begun : goal.returns-in-Left-clause-begun
+returns-in-Left-clause-begun g c =
+    let again : IsAgain c.args.journal = rw c.in-Left.is tt in c.begin_after-in-Left.ensures.begun again
+
+pub returns-in-Again-clause-refused : goal.returns-in-Again-clause-refused
+returns-in-Again-clause-refused g c =
+    let again : IsAgain c.args.journal = rw c.in-Again.is tt in c.begin_after.ensures.refused again
+
+pub returns-in-Left-clause-refused : goal.returns-in-Left-clause-refused
+returns-in-Left-clause-refused g c =
+    let again : IsAgain c.args.journal = rw c.in-Left.is tt in c.begin_after-in-Left.ensures.refused again

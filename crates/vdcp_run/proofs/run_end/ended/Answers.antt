@@ -20,6 +20,7 @@ later_so settings count (Some stay) None end asrun = refl
 later_so settings count (Some stay) (Some (journals.New name)) end asrun = refl
 later_so settings count (Some stay) (Some (journals.Older name)) end asrun = refl
 later_so settings count (Some stay) (Some (journals.Again name)) end asrun = refl
+later_so settings count (Some stay) (Some (journals.Left name)) end asrun = refl
 
 -- a run that doesn't try again has its as-run file
 made_so : (settings : RunSettings) (items : List Item) (end : RunEnd) (asrun : Option (Result SavedText Failure))

@@ -23,6 +23,7 @@ returns g c =
       round = rw c.as_slice.ensures.value c.follow-event.ensures.round;
       rows = rw c.as_slice.ensures.value c.follow-event.ensures.rows;
       hand_is = refl;
+      ahead = c.ahead_of.ensures;
       down = ap (λ (p : RunPage). p.down) c.follow-event.ensures.rest;
     })
     (record {

@@ -1,17 +1,37 @@
-use Rattle.std.proofs.Common.{inl}
+use Rattle.std.proofs.Common.{◌∙◌, Bool, ap, inl}
 use Rattle.std.proofs.lemmas.Result.{IfErr-weaker, IfOk-weaker}
-use Rattle.vdcp_run.proofs.Seen.{limits_so}
+use Rattle.std.specs.Prelude.{Some, length}
+use Rattle.vdcp_run.proofs.KeptLine.{unkept_line, works_on}
 use Rattle.vdcp_run.proofs.session.Session.play_at.Goals as goal
-use Rattle.vdcp_run.specs.Session.{tried, unconnected}
+use Rattle.vdcp_run.specs.Run.{keeps_line, line_left}
+use Rattle.vdcp_run.specs.Session.{had_ended, tried, unwired}
+
+pub returns-then-is_some-clause-session : goal.returns-then-is_some-clause-session
+returns-then-is_some-clause-session g c =
+    let e = c.end_again-end.ensures.ended in
+    unkept_line c.args.settings _ c.end_again-end.result.0 c.end_again-end.result.1.line _ _ c.args.self.line
+    c.end_again-end.ensures.line (had_ended e.0 e.1 e.2)
 
 pub returns-in-Err-clause-session : goal.returns-in-Err-clause-session
 returns-in-Err-clause-session g c =
-    IfOk-weaker c.end_unconnected.result.0 _ _ (λ end e. unconnected c.in-Err.why e.0 e.1 e.2 e.3) c.end_unconnected.ensures.ended
+    IfOk-weaker c.end_unwired.result.0 _ _
+    (λ end e. unkept_line c.args.settings _ end c.end_unwired.result.1.line _ _ c.args.self.line c.end_unwired.ensures.line
+    (unwired c.in-Err.line e.0 e.1 e.2)) c.end_unwired.ensures.ended
 
 pub returns-in-Err-clause-refused : goal.returns-in-Err-clause-refused
-returns-in-Err-clause-refused g c = IfErr-weaker c.end_unconnected.result.0 _ _ (λ failure e. inl e) c.end_unconnected.ensures.refused
+returns-in-Err-clause-refused g c = IfErr-weaker c.end_unwired.result.0 _ _ (λ failure e. inl e) c.end_unwired.ensures.refused
 
 pub returns-clause-session : goal.returns-clause-session
-returns-clause-session g c = tried c.in-Ok-wire.wire c.play_over-end.result.2 (rw c.in-Ok-wire.is at c.with_limit-wire.ensures.open)
-    (limits_so _ _ c.in-Ok-wire.wire c.limit_of.ensures.limit c.limit_of.ensures.short (rw c.in-Ok-wire.is at c.with_limit-wire.ensures.limit))
-    c.play_over-end.ensures.session
+returns-clause-session g c =
+    let end = c.play_over-end.result.0 in
+    let last = c.play_over-end.result.2 in
+    let count = c.len-count.ensures ∙ ap (λ r. length (g.S.Source.items r)) (c.whole.ensures ∙ ap (λ v. v.source) c.source.ensures) in (
+      Some last,
+      tried c.in-Ok.wire last c.in-Ok.ensures.wire c.play_over-end.ensures.session,
+      c.line_left-line.ensures ∙ ap (λ (b : Bool). line_left b (Some last))
+          (c.keeps_line.ensures ∙ ap (λ n. keeps_line c.args.settings n end) count),
+    )
+
+pub returns-clause-works : goal.returns-clause-works
+returns-clause-works g c = works_on _ _ _ c.play_over-end.result.0 c.play_over-end.result.2 _ c.keeps_line.ensures
+    c.line_left-line.ensures c.play_over-end.ensures.works

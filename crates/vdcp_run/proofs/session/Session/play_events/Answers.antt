@@ -1,11 +1,11 @@
 use Rattle.std.proofs.Common.{◌≡◌, ◌∙◌, ◌≤◌, arith, subst, sym}
-use Rattle.std.specs.Prelude.{IfOk, IfSome, None, Some}
+use Rattle.std.specs.Prelude.{IfOk, IfSome, None, Option, Some}
 use Rattle.vdcp_list.specs.List.{items_of}
 use Rattle.vdcp_run.proofs.Ending.{came_to_nothing, last_ends, latest_is}
-use Rattle.vdcp_run.proofs.Tries.{tries_later}
 use Rattle.vdcp_run.proofs.session.Session.play_events.Goals as goal
 use Rattle.vdcp_run.proofs.session.Session.play_events.Goals.{in_default-2, in_default-2-2}
-use Rattle.vdcp_run.specs.Run.{IsEarlier, IsEnd, first, first_event, later_after}
+use Rattle.vdcp_run.specs.Run.{CameTo, IsEarlier, IsEnd, first, first_event, later, later_after}
+use Rattle.vdcp_wire.specs.Streams.{Streamed}
 
 pub tries-init : goal.tries-init
 tries-init g c = record {
@@ -13,9 +13,13 @@ tries-init g c = record {
   some = c.requires.some;
   few = c.requires.few;
   listed = c.requires.listed;
-  tries = first;
-  played = c.try_events-end.ensures.played;
-  untried = c.try_events-end.ensures.untried;
+  works = c.try_events-end.ensures.works;
+  tries = (
+    None,
+    first,
+    subst (λ (wire : Option Streamed). CameTo c.args.settings (items_of c.args.events.now) wire c.try_events-end.result.0
+        c.try_events-end.result.1.line) c.requires.new c.try_events-end.ensures.came,
+  );
   earlier = tt;
 }
 
@@ -30,14 +34,16 @@ tries-preserved g c =
       few = omega (arith, before.few, same.1);
       listed = subst (λ n. first_event c.in-Some.later.from ≤ n) count
           (c.in-Some.ensures.listed (subst (λ n. first_event c.tries.settings.from ≤ n) (sym count) before.listed));
-      tries = tries_later c.args.settings c.tries.settings (items_of c.args.events.now) c.tries.end c.in-Some.later before.tries
-          before.played before.untried (subst (λ n. later_after c.tries.settings n c.tries.end ≡ Some c.in-Some.later) count
-          (sym c.in-Some.ensures.later));
-      played = c.try_events-next.ensures.played;
-      untried = c.try_events-next.ensures.untried;
+      works = c.try_events-next.ensures.works;
+      tries = (
+        c.tries.session.line,
+        later before.tries.1 c.tries.end before.tries.2
+            (subst (λ n. later_after c.tries.settings n c.tries.end ≡ Some c.in-Some.later) count (sym c.in-Some.ensures.later)),
+        c.try_events-next.ensures.came,
+      );
       earlier = subst (λ end. IfSome end (IsEarlier c.args.settings (items_of c.args.events.now))) (sym c.latest_end-earlier.ensures)
-          (latest_is c.args.settings c.tries.settings (items_of c.args.events.now) c.tries.end c.tries.earlier before.tries
-          before.played before.earlier);
+          (latest_is c.args.settings c.tries.settings (items_of c.args.events.now) before.tries.0 c.tries.session.line before.tries.1
+          c.tries.end c.tries.earlier before.tries.2 before.earlier);
     }
 
 pub returns-in-Err-Some : goal.returns-in-Err-Some
@@ -46,16 +52,16 @@ returns-in-Err-Some g c =
     let last = c.tries.invariant in
     let over = subst (λ n. later_after c.tries.settings n c.tries.end ≡ None) c.len.ensures
     (sym c.later_after.ensures.later ∙ c.in_default.is) in
-    came_to_nothing c.args.settings c.tries.settings (items_of c.args.events.now) at.failure at.before
-    c.save_asrun_of_journal.result last.tries (rw at.is-0 at last.untried) (rw at.is-0 at over) (rw at.is-1 at last.earlier)
+    came_to_nothing c.args.settings c.tries.settings (items_of c.args.events.now) last.tries.0 c.tries.session.line last.tries.1
+    at.failure at.before c.save_asrun_of_journal.result (rw at.is-0 at last.tries.2) (rw at.is-0 at over) (rw at.is-1 at last.earlier)
     c.save_asrun_of_journal.ensures
 
 pub returns : goal.returns
 returns g c =
     let over = subst (λ n. later_after c.tries.settings n c.tries.end ≡ None) c.len.ensures
     (sym c.later_after.ensures.later ∙ c.in_default.is) in
-    let ends = last_ends c.args.settings c.tries.settings (items_of c.args.events.now) c.tries.end c.tries.invariant.tries
-    c.tries.invariant.played over in
+    let ends = last_ends c.args.settings c.tries.settings (items_of c.args.events.now) c.tries.invariant.tries.0 c.tries.session.line
+    c.tries.invariant.tries.1 c.tries.end c.tries.invariant.tries.2 over in
     elim c.match-end.branch [
       | in_default-2 w ↦ subst (λ r. IfOk r (IsEnd c.args.settings (items_of c.args.events.now))) (sym w.result-is) tt
       | in_default-2-2 w ↦ subst (λ r. IfOk r (IsEnd c.args.settings (items_of c.args.events.now))) (sym w.result-is) ends

@@ -1,23 +1,22 @@
-use Rattle.std.proofs.Common.{subst}
 use Rattle.std.proofs.lemmas.Result.{IfOk-weaker}
 use Rattle.vdcp_list.specs.List.{items_of}
 use Rattle.vdcp_run.proofs.Begun.{both}
+use Rattle.vdcp_run.proofs.Tries.{came_so, tried_so, untried_so}
 use Rattle.vdcp_run.proofs.session.Session.try_events.Goals as goal
 use Rattle.vdcp_run.specs.Asking.{start_of}
-use Rattle.vdcp_run.specs.Run.{HasAsrun, not_kept}
+use Rattle.vdcp_run.specs.Run.{not_kept}
 
-pub returns-in-Err-clause-untried : goal.returns-in-Err-clause-untried
-returns-in-Err-clause-untried g c = not_kept c.in-Err.ensures.refused
+pub returns-in-Err-clause-came : goal.returns-in-Err-clause-came
+returns-in-Err-clause-came g c = (not_kept c.in-Err.ensures.refused, c.unconnected.ensures)
 
-pub returns-clause-played : goal.returns-clause-played
-returns-clause-played g c =
+pub returns-clause-came : goal.returns-clause-came
+returns-clause-came g c =
     let begun = c.in-Ok.begun in
-    let done = both c.play_at-end.result.0 _ _ c.play_at-end.ensures.session c.play_at-end.ensures.asrun in
-    IfOk-weaker c.play_at-end.result.0 _ _ (λ end e. record {
-      start = start_of (λ list. items_of list.now) begun.controller;
-      recorder = begun.recorder;
-      begun = c.in-Ok.ensures.begun;
-      kept = c.in-Ok.ensures.kept;
-      session = e.0;
-      asrun = subst (λ items. HasAsrun c.args.settings items end) c.in-Ok.ensures.list e.1;
-    }) done
+    let end = c.play_at-end in
+    came_so c.args.settings (items_of c.args.events.now) c.args.self.line end.result.0 end.result.1.line
+    (IfOk-weaker end.result.0 _ _ (λ e h. tried_so c.args.settings (items_of c.args.events.now)
+    (items_of begun.controller.source.source.now) c.args.self.line e end.result.1.line
+    (start_of (λ list. items_of list.now) begun.controller) begun.recorder c.in-Ok.ensures.begun c.in-Ok.ensures.kept h.0.0 h.0.1
+    h.0.2 c.in-Ok.ensures.list h.1)
+    (both end.result.0 _ _ end.ensures.session end.ensures.asrun))
+    (untried_so c.args.settings (items_of c.args.events.now) end.result.0 end.result.1.line end.ensures.refused end.ensures.none)

@@ -6,12 +6,13 @@ use Rattle.vdcp_operator.specs.Hands.{holds_play}
 use Rattle.vdcp_run.proofs.stretch.Stretch.play.Goals as goal
 use Rattle.vdcp_run.specs.Asking.{over, start_of}
 use Rattle.vdcp_run.specs.Session.{AsksFirst, HasHeld, Onset, Plays, onset_of, played, unbegun}
+use Rattle.vdcp_run.specs.declared.run_end.Signs.{Signs}
 
 pub returns-in-Some-clause-ended : goal.returns-in-Some-clause-ended
 returns-in-Some-clause-ended g c =
     let self = c.args.self in
     let asked = c.ask_first-line.result in
-    unbegun (holds_play self.playing.console.hand.holds self.controller.state) asked.ear asked.left c.in-Some.line
+    unbegun (holds_play self.playing.console.hand.holds self.controller.state) asked.ear asked.left asked.signs c.in-Some.line
     (rw c.in-Some.is at c.ask_first-line.ensures.asks)
     (c.end-end.ensures.line, c.end-end.ensures.signs, c.end-end.ensures.left) c.end-end.ensures.reports
 
@@ -20,15 +21,16 @@ returns-clause-held g c =
     let self = c.args.self in
     let first = c.ask_first-line.ensures.asks in
     IfOk-weaker c.play.result _ _
-    (λ next h z later. h (holds_play self.playing.console.hand.holds self.controller.state) self.ear self.wire z
+    (λ next h z later. h (holds_play self.playing.console.hand.holds self.controller.state) self.ear self.wire self.playing.signs z
     (rw c.in_default.is at first) later)
-    (subst (λ (d : Driving _ _ _). IfOk c.play.result (λ next. (is_held : Bool) (ear : _) (wire : _) (z : Onset _ _ _)
+    (subst (λ (d : Driving _ _ _). IfOk c.play.result (λ next. (is_held : Bool) (ear : _) (wire : _) (signs : Signs) (z : Onset _ _ _)
     → AsksFirst g.W.Wire.does g.E.Ear.fold c.args.settings is_held (onset_of (start_of g.S.Source.items d.controller) ear
-    (over wire self.playing.recorder) self.playing.left self.playing.signs) d.ear d.wire c.ask_first-line.result.left None
+    (over wire self.playing.recorder) self.playing.left signs) d.ear d.wire c.ask_first-line.result.left
+    c.ask_first-line.result.signs None
     → HasHeld g.W.Wire.does g.F.Disk.safe g.E.Ear.fold c.args.settings z (onset_of (start_of g.S.Source.items next.controller) next.ear
     (over next.wire next.playing.recorder) next.playing.left next.playing.signs)
     → HasHeld g.W.Wire.does g.F.Disk.safe g.E.Ear.fold c.args.settings z (onset_of (start_of g.S.Source.items d.controller) ear
-    (over wire self.playing.recorder) self.playing.left self.playing.signs))) c.with_ear-driver.ensures c.play.ensures.held)
+    (over wire self.playing.recorder) self.playing.left signs))) c.with_ear-driver.ensures c.play.ensures.held)
 
 pub returns-clause-ended : goal.returns-clause-ended
 returns-clause-ended g c =
@@ -36,8 +38,8 @@ returns-clause-ended g c =
     let asked = c.ask_first-line.result in
     let first = c.ask_first-line.ensures.asks in
     IfErr-weaker c.play.result _ _
-    (λ end plays. played (holds_play self.playing.console.hand.holds self.controller.state) asked.ear asked.wire asked.left
+    (λ end plays. played (holds_play self.playing.console.hand.holds self.controller.state) asked.ear asked.wire asked.left asked.signs
     (rw c.in_default.is at first) plays)
     (subst (λ (d : Driving _ _ _). IfErr c.play.result (λ end. Plays g.W.Wire.does g.F.Disk.safe g.E.Ear.fold d.ear d.unit asked.left
-    self.playing.signs (start_of g.S.Source.items d.controller) (over d.wire self.playing.recorder) end.2 end.0))
+    asked.signs (start_of g.S.Source.items d.controller) (over d.wire self.playing.recorder) end.2 end.0))
     c.with_ear-driver.ensures c.play.ensures.ended)
