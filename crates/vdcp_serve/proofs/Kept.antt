@@ -12,19 +12,18 @@ use Rattle.vdcp_serve.specs.declared.stay.Coming.TheVariants as comings
 use Rattle.vdcp_serve.specs.declared.timing.Timing.{Timing}
 
 -- this many turns are left, since some are
-pub one_more : {W R L : Type 0} {does : Act → W → W → Type 0} {failures : W → ℕ} {settings : ServeSettings}
+pub one_more : {W R L : Type 0} {does : Act → W → W → Type 0} {failures : W → ℕ} {IsLine : W → Type 0} {settings : ServeSettings}
     {port : ClockedPort} {first h : Hooks R L} (now : ClockedPort) (left : ℕ) → 0 < left
-    → IsKept does failures settings port first now left h
-    → IsKept does failures settings port first now (suc (left - 1)) h
-one_more {W} {R} {L} {does} {failures} {settings} {port} {first} {h} now left some kept =
+    → IsKept does failures IsLine settings port first now left h
+    → IsKept does failures IsLine settings port first now (suc (left - 1)) h
+one_more {W} {R} {L} {does} {failures} {IsLine} {settings} {port} {first} {h} now left some kept =
     let one : left ≡ suc (left - 1) = omega (arith, some) in
-    subst (λ (n : ℕ). IsKept does failures settings port first now n h) one kept
+    subst (λ (n : ℕ). IsKept does failures IsLine settings port first now n h) one kept
 
--- of a line that came and works
-pub line_works : {W : Type 0} (failures : W → ℕ) (coming : Coming W) (line : W) (from : SocketAddr)
-    → coming ≡ comings.Line line from → IfLine coming (λ w. failures w ≡ 0) → failures line ≡ 0
-line_works {W} failures coming line from is works =
-    subst (λ (c : Coming W). IfLine c (λ w. failures w ≡ 0)) is works
+-- what holds of a line that comes holds of this one
+pub line_is : {W : Type 0} (Holds : W → Type 0) (coming : Coming W) (line : W) (from : SocketAddr)
+    → coming ≡ comings.Line line from → IfLine coming Holds → Holds line
+line_is {W} Holds coming line from is holds = subst (λ (c : Coming W). IfLine c Holds) is holds
 
 -- a line begins once its address is shown
 pub same_timing : {R L : Type 0} (from : Option SocketAddr) (h h' : Hooks R L) → h' ≡ driven from h → h'.timing ≡ h.timing

@@ -2,3 +2,4 @@
 pub mod Timing
 pub mod Stay
 pub mod Panel
+pub mod Serve

@@ -88,6 +88,13 @@ pub record IsPortSeen (p : ClockedPort) (seen : PortSeen) : Type 0 where
   pub kept : p ≡ port_of p.clips seen.kept
   pub state : seen.state ≡ state_byte p.state
 
+-- a new page shows the port, in time codes of this rate; nothing has aired, and nobody drives it
+pub record IsNewPage {R : Type 0} (rate : Rate) (p : ClockedPort) (page : PortPanel R) : Type 0 where
+  pub port : IsPortSeen p page.seen
+  pub rate_is : page.seen.rate ≡ rate
+  pub none_aired : page.seen.aired ≡ buffer [] 50
+  pub from_nobody : page.seen.from ≡ None
+
 -- and nothing else changes of what is shown
 pub record Shows {R : Type 0} (p : ClockedPort) (old new : PortPanel R) : Type 0 where
   pub port : IsPortSeen p new.seen

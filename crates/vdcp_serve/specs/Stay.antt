@@ -75,17 +75,17 @@ pub record IsServed {W R L : Type 0} (does : Act → W → W → Type 0) (failur
 -- what becomes of a port in the turns of the settings: the port then, how many turns are left, and the timing. Each wait
 -- for a connection is a turn, in which a frame passes if nobody comes, and the page shows that; each line that is taken is
 -- served with the port as it is, and its address is shown meanwhile
-pub data IsKept {W R L : Type 0} (does : Act → W → W → Type 0) (failures : W → ℕ) (settings : ServeSettings)
-    (port : ClockedPort) (first : Hooks R L) : ClockedPort → ℕ → Hooks R L → Type 0 where
-  at_first : IsKept does failures settings port first port settings.turns first
+pub data IsKept {W R L : Type 0} (does : Act → W → W → Type 0) (failures : W → ℕ) (IsLine : W → Type 0)
+    (settings : ServeSettings) (port : ClockedPort) (first : Hooks R L) : ClockedPort → ℕ → Hooks R L → Type 0 where
+  at_first : IsKept does failures IsLine settings port first port settings.turns first
   nobody_came : {now : ClockedPort} {left : ℕ} {h h' : Hooks R L}
-      → IsKept does failures settings port first now (suc left) h → h'.timing ≡ begun_anew h.timing
-      → Looks (after_frame now) None h h' → IsKept does failures settings port first (after_frame now) left h'
+      → IsKept does failures IsLine settings port first now (suc left) h → h'.timing ≡ begun_anew h.timing
+      → Looks (after_frame now) None h h' → IsKept does failures IsLine settings port first (after_frame now) left h'
   no_line_came : {now : ClockedPort} {left : ℕ} {h h' : Hooks R L}
-      → IsKept does failures settings port first now (suc left) h → h' ≡ record h { timing = begun_anew h.timing }
-      → IsKept does failures settings port first now left h'
+      → IsKept does failures IsLine settings port first now (suc left) h → h' ≡ record h { timing = begun_anew h.timing }
+      → IsKept does failures IsLine settings port first now left h'
   served : {now now' : ClockedPort} {left : ℕ} {h h' : Hooks R L}
-      → IsKept does failures settings port first now (suc left) h → (line : W) → failures line ≡ 0
+      → IsKept does failures IsLine settings port first now (suc left) h → (line : W) → IsLine line → failures line ≡ 0
       → (from : SocketAddr) → (answer : Result TurnsEnd DriveFault)
       → IsServed does failures settings left now line (Some from) h now' answer h'
-      → IsKept does failures settings port first now' (left - h'.timing.turns) h'
+      → IsKept does failures IsLine settings port first now' (left - h'.timing.turns) h'

@@ -1,7 +1,7 @@
 //! How one connection after another is taken, and made a line.
 ghost use Rattle.std.specs.Duration.{as_nanos};
-ghost use Rattle.std.specs.Int.{div_ceil};
-ghost use Rattle.std.specs.Prelude.{◌≡◌, ◌*◌, false, true, IfErr, IfOk, IsTrue};
+ghost use Rattle.std.specs.Prelude.{◌≡◌, ◌*◌, false, true, unwrap_or, IfErr, IfOk, IsTrue};
+ghost use Rattle.vdcp_serve.specs.Serve.{IsTaken, reads_of};
 ghost use Rattle.vdcp_serve.specs.Stay.{IfLine, IsPause};
 ghost use Rattle.vdcp_wire.specs.Streams.{failures_of};
 
@@ -48,7 +48,8 @@ impl<'a, R: Net + AllocGlobal, L: io::Write + Drop> Entrance<'a, R, L> {
         settings: ServeSettings,
         log: &'a Log<L>,
     ) -> io::Result<Self>
-        ensures { IfOk result (λ entrance. IsPause settings (as_nanos entrance.pause)) }
+        ensures pause { IfOk result (λ entrance. IsPause settings (as_nanos entrance.pause)) }
+        ensures settings { IfOk result (λ entrance. entrance.settings ≡ settings) }
     {
         listener.set_nonblocking(true)?;
         let poll = Poll::new(rt)?;
@@ -68,7 +69,8 @@ impl<'a, R: Net + AllocGlobal, L: io::Write + Drop> Entrance<'a, R, L> {
     }
 
     fn pause(&mut self) -> Result<(), WireFault>
-        ensures { IfErr result (λ _. IsTrue self.new.is_refused) }
+        ensures refused { IfErr result (λ _. IsTrue self.new.is_refused) }
+        ensures settings { self.new.settings ≡ self.old.settings }
     {
         // (what came is told once, so that one that can't be taken doesn't cut the wait short again)
         self.is_refused = self.poll.poll(&mut self.events, Some(self.pause)).is_err();
@@ -81,9 +83,20 @@ impl<'a, R: Net + AllocGlobal, L: io::Write + Drop> Entrance<'a, R, L> {
 
 impl<'a, R: Net + AllocGlobal, L: io::Write + Drop> Connections<
     Logged<'a, StreamWire<R::Stream>, L>,
-> for Entrance<'a, R, L> {
+> for Entrance<'a, R, L>
+where
+    R::Stream: Duplex,
+{
+    ghost use Rattle.vdcp_serve.specs.Serve.{IsTaken};
+
+    ghost made_with = { λ entrance. entrance.settings };
+
+    ghost is_line = { IsTaken R.Stream.ahead R.Stream.written };
+
     fn wait(&mut self) -> Result<Coming<Logged<'a, StreamWire<R::Stream>, L>>, WireFault>
         ensures works { IfOk result (λ coming. IfLine coming (λ line. failures_of line.wire.connection ≡ 0)) }
+        ensures comes { IfOk result (λ coming. IfLine coming (IsTaken R.Stream.ahead R.Stream.written self.old.settings)) }
+        ensures keeps { self.new.settings ≡ self.old.settings }
         ensures refused { IfErr result (λ _. IsTrue self.new.is_refused) }
     {
         // (if none can be taken now, none has come)
@@ -123,6 +136,7 @@ pub fn line_over<S: Duplex + Drop, L: io::Write + Drop>(
     log: &Log<L>,
 ) -> io::Result<Logged<'_, StreamWire<S>, L>>
     ensures works { IfOk result (λ line. failures_of line.wire.connection ≡ 0) }
+    ensures taken { IfOk result (IsTaken S.ahead S.written settings) }
 {
     let wire = StreamWire::with_waits(stream, waits_of(settings))?;
     Ok(Logged::new(wire, log, hearing_of(settings)))
@@ -130,9 +144,10 @@ pub fn line_over<S: Duplex + Drop, L: io::Write + Drop>(
 
 // By the clock a listen is short, so that a frame passes in time; several are a silence.
 fn waits_of(settings: ServeSettings) -> Waits
-    ensures at_silences { settings.by_clock ≡ false → (as_nanos result.read ≡ settings.silence * 1000000) × (result.reads ≡ 1) }
-    ensures by_clock { settings.by_clock ≡ true → (as_nanos result.read ≡ TICK * 1000000)
-        × (result.reads ≡ div_ceil settings.silence TICK) }
+    ensures at_silences { settings.by_clock ≡ false → as_nanos result.read ≡ settings.silence * 1000000 }
+    ensures by_clock { settings.by_clock ≡ true → as_nanos result.read ≡ TICK * 1000000 }
+    ensures reads { result.reads ≡ reads_of settings }
+    ensures send { as_nanos result.send ≡ unwrap_or settings.idle SENDING * 1000000000 }
 {
     let send = Duration::from_secs(u64::from(settings.idle.unwrap_or(SENDING)));
     let (read, reads) = if settings.by_clock {

@@ -1,5 +1,5 @@
 //! What takes part in a server's turns: time, the log and the page.
-ghost use Rattle.std.specs.Prelude.{◌≡◌, Some};
+ghost use Rattle.std.specs.Prelude.{◌≡◌, false, Some};
 ghost use Rattle.vdcp_serve.specs.Panel.{NotesOn, counted_on};
 ghost use Rattle.vdcp_serve.specs.Stay.{Looks, driven};
 
@@ -24,7 +24,11 @@ pub struct Hooks<'a, R: Clock, L: io::Write> {
 }
 
 impl<'a, R: Clock + AllocGlobal, L: io::Write + Drop> Hooks<'a, R, L> {
-    pub fn new(rt: &'a R, log: &'a Log<L>, rate: Rate, panel: Option<PortPanel<'a, R>>) -> Self {
+    pub fn new(rt: &'a R, log: &'a Log<L>, rate: Rate, panel: Option<PortPanel<'a, R>>) -> Self
+        ensures patient { result.timing.patience.gives_up ≡ false }
+        ensures none_aired { result.aired ≡ 0 }
+        ensures page { result.panel ≡ panel.entry }
+    {
         Hooks {
             timing: Timing::new(rt),
             log,

@@ -12,4 +12,5 @@ mod serve;
 mod stay;
 mod timing;
 
+pub use hooks::Hooks;
 pub use serve::{ServeSettings, do_serve};

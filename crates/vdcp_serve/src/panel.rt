@@ -4,7 +4,7 @@ ghost use Rattle.std.specs.Prelude.{◌≡◌, ℕ, [], IfOk, None, map, string_
 ghost use Rattle.serde_json.specs.Data.{array};
 ghost use Rattle.serde_json.specs.View.{items_of, view};
 ghost use Rattle.vdcp_text.specs.Items.{item_text};
-ghost use Rattle.vdcp_serve.specs.Panel.{Answers, IsPortSeen, Shows, access_text, airing_data, from_data, noting, seen_data, slot_data};
+ghost use Rattle.vdcp_serve.specs.Panel.{Answers, IsNewPage, Shows, access_text, airing_data, from_data, noting, seen_data, slot_data};
 
 use crate::page::PAGE;
 use circular_buffer::HeapCircularBuffer;
@@ -61,10 +61,7 @@ impl<'a, R: Clock + AllocGlobal> PortPanel<'a, R> {
         rate: Rate,
         port: &Port<C>,
     ) -> Result<Self, AllocError>
-        ensures port { IfOk result (λ page. IsPortSeen port.now page.seen) }
-        ensures rate { IfOk result (λ page. page.seen.rate ≡ rate) }
-        ensures aired { IfOk result (λ page. page.seen.aired ≡ buffer [] MOST_AIRED) }
-        ensures from { IfOk result (λ page. page.seen.from ≡ None) }
+        ensures { IfOk result (IsNewPage rate port.now) }
     {
         Ok(PortPanel {
             rt,

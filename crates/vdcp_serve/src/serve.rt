@@ -1,6 +1,11 @@
 //! The subcommand `serve` and its settings.
-ghost use Rattle.std.specs.Prelude.{◌≡◌, ◌≤◌};
-ghost use Rattle.vdcp_port.specs.Clock.{new_port};
+ghost use Rattle.std.specs.Prelude.{◌≡◌, ◌≤◌, false, true, IfErr, OnOk};
+ghost use Rattle.vdcp_files.specs.Files.{file};
+ghost use Rattle.vdcp_port.specs.Clock.{ClockedPort, new_port};
+ghost use Rattle.vdcp_serve.specs.Serve.{AreNewHooks, IsRowRefused, IsServe, ServesEach, ServesOne};
+ghost use Rattle.vdcp_serve.specs.declared.hooks.Hooks.{Hooks};
+ghost use Rattle.vdcp_text.specs.Failure.{status_of};
+ghost use Rattle.vdcp_wire.specs.Address.{IsAddress};
 
 use crate::entrance::{Entrance, line_over};
 use crate::hooks::Hooks;
@@ -16,7 +21,7 @@ use vdcp_panel::Panel;
 use vdcp_port::{Catalogue, Port};
 use vdcp_text::Failure;
 use vdcp_value::Rate;
-use vdcp_wire::{AcceptFault, accept_one, address_of, listen_at};
+use vdcp_wire::{AcceptFault, Duplex, accept_one, address_of, listen_at};
 
 #[derive(Clone, Copy, Debug, PartialEq, Eq)]
 pub struct ServeSettings {
@@ -66,9 +71,18 @@ pub fn do_serve<
     out: &mut W,
     err: &mut E,
 ) -> u8
+where
+    // The clause is of a network whose streams tell their bytes, if there is one.
+    R::Stream: Duplex,
     requires unit { settings.unit ≤ 15 }
     requires some_frames { 1 ≤ settings.cue_frames }
     requires few_frames { settings.cue_frames ≤ 1000 }
+    ensures served { result ≡ 0 → IsServe R.Listener R.Stream R L R.Stream.ahead R.Stream.written settings
+        (file catalogue.entry.name (C.remaining catalogue.entry.reader)) }
+    ensures refused { result ≡ 1 → IsRowRefused settings.rate (file catalogue.entry.name (C.remaining catalogue.entry.reader)) }
+    ensures no_address { result ≡ 2 → ¬ IsAddress address.now }
+    ensures needs_address { ¬ IsAddress address.now → 2 ≤ result }
+    ensures statuses { result ≤ 3 }
 {
     let log = Log::new(telling, capture, Side::Server);
     match serve(rt, address, catalogue, settings, &log, panel, out) {
@@ -86,9 +100,18 @@ fn serve<'a, R: Net + AllocGlobal + Clock, C: io::Read + Drop, L: io::Write + Dr
     panel: Option<Panel>,
     out: &mut W,
 ) -> Result<(), Failure<'a>>
+where
+    R::Stream: Duplex,
     requires unit { settings.unit ≤ 15 }
     requires some_frames { 1 ≤ settings.cue_frames }
     requires few_frames { settings.cue_frames ≤ 1000 }
+    ensures served { OnOk result (IsServe R.Listener R.Stream R L R.Stream.ahead R.Stream.written settings
+        (file catalogue.entry.name (C.remaining catalogue.entry.reader))) }
+    ensures address { OnOk result (IsAddress address.now) }
+    ensures refused { IfErr result (λ e. status_of e ≡ 1 →
+        IsRowRefused settings.rate (file catalogue.entry.name (C.remaining catalogue.entry.reader))) }
+    ensures no_address { IfErr result (λ e. status_of e ≡ 2 → ¬ IsAddress address.now) }
+    ensures needs_address { IfErr result (λ e. ¬ IsAddress address.now → 2 ≤ status_of e) }
 {
     let Ok(address) = address_of(address) else {
         return Err(Failure::Address);
@@ -128,7 +151,13 @@ fn serve_first<
     settings: ServeSettings,
     log: &'a Log<L>,
     out: &mut W,
-) -> Result<TurnsEnd, Failure<'static>> {
+) -> Result<TurnsEnd, Failure<'static>>
+where
+    R::Stream: Duplex,
+    ensures served { OnOk result ((first last : Hooks R L) × (left : ClockedPort) × AreNewHooks settings port first
+        × ServesOne R.Stream.ahead R.Stream.written settings port first last left) }
+    ensures failed { IfErr result (λ e. status_of e ≡ 3) }
+{
     let stream = match accept_one(rt, address, out) {
         Ok(stream) => stream,
         Err(fault) => return Err(failure_of(fault)),
@@ -158,7 +187,13 @@ fn serve_each<
     log: &'a Log<L>,
     panel: Option<Panel>,
     out: &mut W,
-) -> Result<TurnsEnd, Failure<'static>> {
+) -> Result<TurnsEnd, Failure<'static>>
+where
+    R::Stream: Duplex,
+    ensures served { OnOk result ((first last : Hooks R L) × (left : ClockedPort) × AreNewHooks settings port first
+        × ServesEach R.Listener R.Stream.ahead R.Stream.written settings port first last left) }
+    ensures failed { IfErr result (λ e. status_of e ≡ 3) }
+{
     let listener = match listen_at(rt, address, out) {
         Ok(listener) => listener,
         Err(fault) => return Err(failure_of(fault)),
@@ -179,7 +214,9 @@ fn serve_each<
     }
 }
 
-fn failure_of(fault: AcceptFault) -> Failure<'static> {
+fn failure_of(fault: AcceptFault) -> Failure<'static>
+    ensures { status_of result ≡ 3 }
+{
     match fault {
         AcceptFault::Bind => Failure::Bind,
         AcceptFault::Writer => Failure::Writer,

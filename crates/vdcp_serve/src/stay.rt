@@ -24,19 +24,29 @@ pub enum Coming<W> {
 pub trait Connections<W: Wire> {
     ghost use Rattle.std.specs.Prelude.{◌≡◌, IfOk};
     ghost use Rattle.vdcp_serve.specs.Stay.{IfLine};
+    ghost use Rattle.vdcp_serve.specs.declared.serve.ServeSettings.{ServeSettings};
+
+    /// With which settings lines are made.
+    ghost made_with: { Self → ServeSettings };
+
+    /// What a line is that comes.
+    ghost is_line: { ServeSettings → W → Type 0 };
 
     /// Waits for the next line, no longer than a silence or, by the clock, a frame.
     fn wait(&mut self) -> Result<Coming<W>, WireFault>
-        ensures { IfOk result (λ coming. IfLine coming (λ line. W.failures line ≡ 0)) };
+        ensures works { IfOk result (λ coming. IfLine coming (λ line. W.failures line ≡ 0)) }
+        ensures comes { IfOk result (λ coming. IfLine coming (is_line (made_with self.old))) }
+        ensures keeps { made_with self.new ≡ made_with self.old };
 
     /// Is told how the last connection ended, also that it failed or couldn't be a line.
-    fn tell_end(&mut self, end: Result<TurnsEnd, DriveFault>);
+    fn tell_end(&mut self, end: Result<TurnsEnd, DriveFault>)
+        ensures keeps { made_with self.new ≡ made_with self.old };
 }
 
 /// Serves a port over one line after another, for `turns` of the settings in all, each a wait for a line, a listen or a
 /// frame. While there is no line a frame passes at each wait. A line ends if the other end closes it, if nothing comes for
-/// too long, and if it fails; the port stays as it is. A line that waited behind one that was idle for too long is given up
-/// after its first listen in vain. The fault is that nobody can be waited for.
+/// too long, and if it fails; the port stays as it is. A line that waited while an idle one was given up gets one listen, and
+/// is given up if that is in vain. The fault is that nobody can be waited for.
 pub fn stay<
     C: Catalogue + Drop,
     W: Wire + Drop,
@@ -49,7 +59,8 @@ pub fn stay<
     settings: ServeSettings,
     hooks: &mut Hooks<'_, R, L>,
 ) -> Result<Port<C>, WireFault>
-    ensures { IfOk result (λ kept. IsKept W.does W.failures settings port hooks.old kept 0 hooks.new) }
+    requires { D.made_with connections.old ≡ settings }
+    ensures { IfOk result (λ kept. IsKept W.does W.failures (D.is_line settings) settings port hooks.old kept 0 hooks.new) }
 {
     let mut port = port;
     let mut left = u64::from(settings.turns);

@@ -66,7 +66,9 @@ pub struct Timing<'a, R: Clock> {
 }
 
 impl<'a, R: Clock> Timing<'a, R> {
-    pub fn new(clock: &'a R) -> Self {
+    pub fn new(clock: &'a R) -> Self
+        ensures { result.patience.gives_up ≡ false }
+    {
         Timing {
             stopwatch: Stopwatch::new(clock),
             frames: None,
