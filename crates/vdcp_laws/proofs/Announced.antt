@@ -1,7 +1,7 @@
 -- The PLAY that the state heard last announces, and that may have gone out without its row.
 use Rattle.std.proofs.Common.{◌≡◌, ℕ, arith, All, Bool, true, false, List, [], ◌∷◌, ◌++◌, Option, None, Some, append-nil, append_assoc, refl, sym, ap, ap₂, length, subst, ◌∙◌, true≢false}
 use Rattle.std.specs.Option.{option_map, option_to_list}
-use Rattle.std.specs.Prelude.{IsSome, IsTrue, is_some, ◌&&◌, remove}
+use Rattle.std.specs.Prelude.{IsSome, IsTrue, is_some, remove}
 use Rattle.vdcp_value.specs.declared.part.Item.{Item}
 use Rattle.vdcp_auto.specs.Table.{on_no_answer, on_refusal, on_reply}
 use Rattle.vdcp_auto.specs.declared.phase.Phase.{Phase}
@@ -228,10 +228,6 @@ came_up stays h c d notes (Some x) plan state log unit first later still before 
     plays
 
 -- A receipt from nowhere ends nothing.
-
-and_false : (b : Bool) → b && false ≡ false
-and_false true = refl
-and_false false = refl
 
 receipt_ends : (mode : Mode) (r : Reply) (asks : Option Command) → mode ≡ Confirming → is_receipt r ≡ true
     → exchange_of mode (Some (heard.Reply r)) asks ≡ None

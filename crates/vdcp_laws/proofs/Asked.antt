@@ -133,14 +133,14 @@ asked_side plan unit e cs held list more last none a s =
 
 -- A run of the automation that asks.
 
-commands_both : (xs ys : List Kept) → commands_kept (xs ++ ys) ≡ commands_kept xs ++ commands_kept ys
+pub commands_both : (xs ys : List Kept) → commands_kept (xs ++ ys) ≡ commands_kept xs ++ commands_kept ys
 commands_both [] ys = refl
 commands_both (row.Sent c ∷ xs) ys = ap (λ (l : List Command). c ∷ l) (commands_both xs ys)
 commands_both (row.Heard h ∷ xs) ys = commands_both xs ys
 commands_both (row.Silence ∷ xs) ys = commands_both xs ys
 commands_both (row.Called c ∷ xs) ys = commands_both xs ys
 
-ear_so : (plan : Plan) (unit : ℕ) (a : Auto Held) (events : List Event)
+pub ear_so : (plan : Plan) (unit : ℕ) (a : Auto Held) (events : List Event)
     → (after at_once plan unit a events).ear ≡ ear_over unit (arrivals events) a.ear
 ear_so plan unit a [] = refl
 ear_so plan unit a (arrives what ∷ later) = ear_so plan unit (auto.listens at_once plan unit what (auto.gives a)) later

@@ -1,6 +1,7 @@
 -- What is asked beside the controller.
 use Rattle.std.proofs.Common.{ℕ, ◌≡◌, ◌<◌, lit<, inl, inr, All, List, [], ◌∷◌, refl, sym, ap, ap₂, subst, ◌∙◌, append-nil, append_assoc, Some}
 use Rattle.std.proofs.lemmas.List.Elements.{All-head, All-tail}
+use Rattle.vdcp_frame.specs.Message.{Fits}
 use Rattle.vdcp_words.specs.Commands.{IsWritableCommand}
 use Rattle.vdcp_words.specs.declared.command.Command.{Command}
 use Rattle.vdcp_words.specs.declared.command.Command.TheVariants as command
@@ -15,7 +16,8 @@ use Rattle.vdcp_world.specs.LateLine.LateEvent as event
 use Rattle.vdcp_laws.specs.Below.{Laws}
 use Rattle.vdcp_laws.specs.Kills.{happened}
 use Rattle.vdcp_laws.specs.TwoEnds.{AreLed, CanJoin, Ends, asks, sending, went_on}
-use Rattle.vdcp_laws.proofs.Joining.{IsBeside, given_fits, goes_down}
+use Rattle.vdcp_laws.proofs.Joining.{IsBeside, given_fits, goes_down, more_fit}
+use Rattle.vdcp_laws.proofs.Queues.{messages_to}
 use Rattle.vdcp_laws.proofs.Running.{no_notes}
 
 one_of : {c d : Command} → Some c ≡ Some d → d ≡ c
@@ -59,11 +61,14 @@ asks_next law plan port asked e c q d can is b = record {
   held = b.held;
   server_is = b.server_is;
   downwards = goes_down plan port e c b (Some d) (asked_in c.plan q c.state.stage)
-      (sym is ∙ sym (ap₂ (λ (p : Plan) (s : State). asked_in p q s.stage) b.plan_is b.state_is))
-      (given_fits law.written port.state.unit (Some d) can.can_start.unit_fits
-      (writable plan.port d can.can_start.port_fits (is_question plan q e.automation.state.stage d is)));
+      (sym is ∙ sym (ap₂ (λ (p : Plan) (s : State). asked_in p q s.stage) b.plan_is b.state_is)) fits;
   upwards = b.upwards;
-}
+  fits = more_fit port.state.unit e.sent (d ∷ []) b.fits fits;
+  fewer = b.fewer;
+} where
+  fits : All Fits (messages_to port.state.unit (d ∷ []))
+  fits = given_fits law.written port.state.unit (Some d) can.can_start.unit_fits
+      (writable plan.port d can.can_start.port_fits (is_question plan q e.automation.state.stage d is))
 
 -- All of it joins.
 

@@ -100,9 +100,9 @@ front_by law m ms fits front rest more (within x r is next) = record {
   unfinished = begins_unfinished law m front r x (subst (Spells m) is (law.spelt m fits));
 }
 
-none_of : (xs ys : List ℕ) → xs ++ ys ≡ [] → xs ≡ []
-none_of [] ys is = refl
-none_of (x ∷ xs) ys is = cc
+pub none_before : {A : Type 0} (xs ys : List A) → [] ≡ xs ++ ys → xs ≡ []
+none_before [] ys is = refl
+none_before (x ∷ xs) ys is = cc
 
 pub front_of : (law : Spelt) (ms : List Content) → All Fits ms → (front rest : List ℕ) → front ++ rest ≡ spelt ms
     → IsFront ms front
@@ -111,7 +111,7 @@ front_of law [] fits front rest is = record {
   left = [];
   held = [];
   all_is = refl;
-  front_is = none_of front rest is;
+  front_is = none_before front rest (sym is);
   unfinished = nothing_unfinished law;
 }
 front_of law (m ∷ ms) fits front rest is =

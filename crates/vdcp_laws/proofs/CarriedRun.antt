@@ -34,7 +34,8 @@ use Rattle.vdcp_laws.specs.Mended.{behind}
 use Rattle.vdcp_laws.specs.OneConnection.{ends_at, ends_by, hears_in}
 use Rattle.vdcp_laws.specs.TwoEnds as two
 use Rattle.vdcp_laws.specs.TwoEnds.{AreJoined, AreLed, CanJoin, Ends, aired_now, log_now, new_ends, note_for, sent_down}
-use Rattle.vdcp_laws.proofs.Carrying.{Leads, Side, events_side, given_side, head_of, no_act, none_before, sent_both, tail_of}
+use Rattle.vdcp_laws.proofs.Bytes.{none_before}
+use Rattle.vdcp_laws.proofs.Carrying.{Leads, Side, events_side, given_side, head_of, no_act, sent_both, tail_of}
 use Rattle.vdcp_laws.proofs.Leading.{IsFront, IsQuiet, side_led}
 use Rattle.vdcp_laws.proofs.Headline.{Laws, before_tick, of_ends}
 use Rattle.vdcp_laws.proofs.Noted.{noted}
@@ -72,7 +73,7 @@ pub led_by : (plan : Plan) (unit : ℕ) (e : Ends) (list : List Act) (last : End
     → AreCarried unit e list below → AreLed plan unit e (record last { downs = e.downs ++ turns })
 led_by plan unit e list last turns below aired s served c =
     side_led plan unit (AreLed plan unit) (leads_on plan unit) e list last turns served.heard s waits served.whole served.answers
-    (served.carried unit list c) where
+    (served.carried unit e list c) where
       waits : (now : Ends) (autos : List Act) (a : Arrival) → IsFront list (autos ++ brings a ∷ []) → IsQuiet a
           → AreLed plan unit e now → AreLed plan unit e (hears_in plan unit a now)
       waits now autos (bytes piece) front quiet j = absurd quiet

@@ -29,6 +29,7 @@ use Rattle.vdcp_laws.specs.Carried.{driver_of}
 use Rattle.vdcp_laws.specs.OneConnection.{ends_by, hears_in, heeds_in}
 use Rattle.vdcp_laws.specs.TwoEnds as two
 use Rattle.vdcp_laws.specs.TwoEnds.{Ends, bytes_in, sent_down, with_command}
+use Rattle.vdcp_laws.proofs.Bytes.{none_before}
 use Rattle.vdcp_laws.proofs.Fronts.{head_so, tail_so}
 use Rattle.vdcp_laws.proofs.Joining.{sent_more}
 use Rattle.vdcp_laws.proofs.OneRun.{automation_so}
@@ -149,7 +150,7 @@ last_so plan unit count events a a' answer more (in_listen is m left) =
 heard_port : (plan : Plan) (unit : ℕ) (a : Arrival) (e : Ends) → (hears_in plan unit a e).port ≡ e.port
 heard_port plan unit a e = grind arith
 
-heard_ups : (plan : Plan) (unit : ℕ) (a : Arrival) (e : Ends) (came : List Arrival)
+pub heard_ups : (plan : Plan) (unit : ℕ) (a : Arrival) (e : Ends) (came : List Arrival)
     → (hears_in plan unit a e).ups ++ bytes_in came ≡ e.ups ++ bytes_in (a ∷ came)
 heard_ups plan unit (bytes piece) e came = append_assoc e.ups piece (bytes_in came)
 heard_ups plan unit silence e came = refl
@@ -200,10 +201,6 @@ pub record Side (plan : Plan) (unit : ℕ) (R : Ends → Ends → Type 0) (e : E
 none_comes : (came rest : List Arrival) (a : Arrival) → [] ≡ came ++ a ∷ rest → ⊥
 none_comes [] rest a is = cc
 none_comes (x ∷ came) rest a is = cc
-
-pub none_before : {A : Type 0} (xs ys : List A) → [] ≡ xs ++ ys → xs ≡ []
-none_before [] ys is = refl
-none_before (x ∷ xs) ys is = cc
 
 pub no_act : (plan : Plan) (unit : ℕ) (R : Ends → Ends → Type 0) (e : Ends) (sent more : List ℕ) → sent_down unit e ≡ sent ++ more
     → Side plan unit R e sent [] e

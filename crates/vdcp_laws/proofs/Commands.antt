@@ -1,6 +1,6 @@
--- What an automation that hears at once awaits, after a tick, an exchange's end and a time-out.
-use Rattle.std.proofs.Common.{ℕ, ◌≡◌, arith, ◌++◌, true, refl, ap, ◌∙◌, append-nil}
-use Rattle.std.specs.Option.{option_to_list, option_map_or}
+-- What an automation that hears at once awaits, after an exchange's end and a time-out.
+use Rattle.std.proofs.Common.{ℕ, ◌≡◌, arith, true, refl, ap, ◌∙◌}
+use Rattle.std.specs.Option.{option_map_or}
 use Rattle.std.specs.Prelude.{Option, Some, None}
 use Rattle.vdcp_frame.specs.Message.{Content}
 use Rattle.vdcp_words.specs.declared.command.Command.{Command}
@@ -17,18 +17,6 @@ use Rattle.vdcp_auto.specs.declared.phase.Mode.{Mode}
 use Rattle.vdcp_auto.specs.declared.phase.Mode.TheVariants.{Plain, Confirming}
 use Rattle.vdcp_auto.specs.declared.phase.Transition.{Transition}
 use Rattle.vdcp_laws.specs.Automation.{Prompt, gives, hears}
-
--- A tick.
-
-abbrev pub TicksTo : Plan → State → Stage → Type 0
-TicksTo plan s stage = option_to_list (awaited plan (tick_in stage s))
-    ≡ option_to_list (awaited_in plan stage) ++ option_to_list (given_in plan s.stop stage)
-
-ticks_in : (plan : Plan) (s : State) (stage : Stage) → s.stage ≡ stage → TicksTo plan s stage
-ticks_in plan s stage is = grind (arith, append-nil)
-
-pub ticks_state : (plan : Plan) (s : State) → TicksTo plan s s.stage
-ticks_state plan s = ticks_in plan s s.stage refl
 
 -- An exchange that ends is of the command that was awaited, and then none is.
 

@@ -1,5 +1,5 @@
 -- The two ends, over one connection after another and over kills, and the late channel beside them.
-use Rattle.std.proofs.Common.{ℕ, ◌≡◌, ◌<◌, ◌≤◌, inr, All, List, [], ◌∷◌, ◌++◌, map, refl, sym, ap, ap₂, subst, ◌∙◌, append-nil}
+use Rattle.std.proofs.Common.{arith, ℕ, ◌≡◌, ◌<◌, ◌≤◌, inr, All, List, [], ◌∷◌, ◌++◌, map, refl, sym, ap, ap₂, subst, ◌∙◌, append-nil}
 use Rattle.std.proofs.lemmas.List.Elements.{All-cons, All-head, All-nil, All-tail}
 use Rattle.std.specs.Prelude.{Some, None, is_some}
 use Rattle.vdcp_frame.specs.Message.{Content, Fits, spelling}
@@ -26,7 +26,7 @@ use Rattle.vdcp_world.specs.LateLine.LateChannel.{AsksOnly, LateChannel, IsQuest
 use Rattle.vdcp_world.specs.LateLine.LateEvent as event
 use Rattle.vdcp_laws.specs.TwoEnds.{AreJoined, begun, went_on, gave, asks, came_up, came_down, waited, passed, paused, shut, took, halted, resumed, restarted}
 use Rattle.vdcp_laws.specs.TwoEnds.{GoesOn, as_announced, as_noted}
-use Rattle.vdcp_laws.specs.TwoEnds.{CanJoin, Ends, IsLateChannel, aired_now, connected_anew, log_now, new_ends, port_now, with_take, heard_again}
+use Rattle.vdcp_laws.specs.TwoEnds.{CanJoin, Ends, IsLateChannel, aired_now, connected_anew, log_now, new_ends, port_now, sent_down, with_take, heard_again}
 use Rattle.vdcp_laws.proofs.Bytes.{nothing_unfinished}
 use Rattle.vdcp_laws.proofs.Noting.{are_reached}
 use Rattle.vdcp_laws.proofs.Queues.{Takes, bytes_to, logged_behind, loses_down, loses_up, messages_to, nothing_taken, with_queues}
@@ -99,8 +99,12 @@ begins law plan port asked can =
         at_is = refl;
         unfinished = nothing_unfinished law.spelt;
         queue_is = refl;
+        behind = sent_down unit (new_ends port asked);
+        sent_on = refl;
       };
       upwards = nothing_taken law.spelt;
+      fits = q.fits;
+      fewer = omega arith;
     }
 
 -- the channel whose queues are lost, and whose time is up
@@ -139,6 +143,8 @@ connects law plan port e c d q b run same is unit clips =
       server_is = ap (λ (p : ClockedPort). record { port = p; ear = in_stream (holds []) }) (sym is);
       downwards = subst (Takes [] [] (holds [])) (sym (ap (λ (x : LateChannel). x.down) same)) (nothing_taken law.spelt);
       upwards = subst (Takes [] [] (holds [])) (sym (ap (λ (x : LateChannel). x.up) same)) (nothing_taken law.spelt);
+      fits = All-nil Fits;
+      fewer = omega arith;
     }
 
 -- What an automation goes on as that is killed.
@@ -183,6 +189,8 @@ hears_again law plan port asked e c h can ready a b =
         server_is = g.server_is;
         downwards = g.downwards;
         upwards = b.upwards;
+        fits = g.fits;
+        fewer = b.fewer;
       };
     }
 

@@ -10,7 +10,8 @@ use Rattle.vdcp_laws.specs.Carried as carried
 use Rattle.vdcp_laws.specs.Servers as servers
 use Rattle.vdcp_laws.specs.Servers.{Counts, upto_message}
 use Rattle.vdcp_laws.specs.TwoEnds.{Ends, bytes_in, sent_up}
-use Rattle.vdcp_laws.proofs.Carrying.{came_both, none_before, sent_both}
+use Rattle.vdcp_laws.proofs.Bytes.{none_before}
+use Rattle.vdcp_laws.proofs.Carrying.{came_both, sent_both}
 use Rattle.vdcp_laws.proofs.CutShort.{last_of, no_last, quiet}
 
 same_piece : (piece other : List ℕ) → brings (bytes piece) ≡ brings (bytes other) → piece ≡ other

@@ -1,6 +1,6 @@
 -- The headline of a late channel, said of the two ends.
 use Rattle.std.proofs.Common.{arith, ℕ, ◌≡◌, ◌≤◌, List, ◌++◌, length, take, refl, subst}
-use Rattle.std.specs.Prelude.{IfSome, IsTrue, Option}
+use Rattle.std.specs.Prelude.{IfSome, IsSome, IsTrue, Option}
 use Rattle.vdcp_value.specs.declared.clip_id.ClipId.{ClipId}
 use Rattle.vdcp_value.specs.declared.part.Item.{Item}
 use Rattle.vdcp_value.specs.declared.timecode.Timecode.{Timecode}
@@ -25,7 +25,14 @@ pub record Laws : Type 0 where
 
 of_channel : (c : LateChannel) → LateHeadline c → EndsHeadline c.plan c.port.clips c.state c.log c.aired
 of_channel c h =
-    record { beginning = h.beginning; reported = h.reported; count = h.count; ended = h.ended; complete = h.complete }
+    record {
+      beginning = h.beginning;
+      reported = h.reported;
+      count = h.count;
+      ended = h.ended;
+      complete = h.complete;
+      to_end = h.to_end;
+    }
 
 pub of_ends : (law : Laws) → (plan : Plan) (port : ClockedPort) (asked : List Command) (e : Ends)
     → CanJoin plan port asked → AreJoined plan port asked e
@@ -62,4 +69,8 @@ before_tick plan clips s log aired h =
           → aired ≡ take s.settled plan.list)) (same_outcome s.stage s refl)
           (subst (λ (n : ℕ). IfSome (outcome_of (ticked s).stage) (λ (x : Outcome). IsTrue
           (is_late_complete plan.mode x) → aired ≡ take n plan.list)) same h.complete);
+      to_end = λ unstopped. let t = h.to_end unstopped in record {
+        few = t.few;
+        ends = λ enough. subst IsSome (same_outcome s.stage s refl) (t.ends enough);
+      };
     }

@@ -58,8 +58,8 @@ module _ {W : Type 0} {does : Act → W → W → Type 0} (law : Laws does) (pla
             subst (λ (l : List Act). Side plan unit (AreLed plan unit) e (sent_down unit e) l last)
             (sym (append_assoc acts (first ++ done) more))
             (r.side ((first ++ done) ++ more) last
-            (stretch_on law (record a.settings { unit = unit }) a.is_held (start_at plan from now) now last now.automation.held a.ear
-            a.wire a.wire' a.left events more r.ready a.asked made s));
+            (stretch_on law (record a.settings { unit = unit }) a.is_held (start_at plan from now) now now.automation.held a.ear
+            a.wire a.wire' a.left a.signs a.signs' a.asked last events more r.ready made s));
         port_is = stays (λ p l i. p) plan unit asked events ∙ r.port_is;
         before_is = stays (λ p l i. i) plan unit asked events ∙ r.before_is;
       }

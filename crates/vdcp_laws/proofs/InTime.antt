@@ -14,7 +14,6 @@ use Rattle.vdcp_words.specs.declared.command.Command.{Command}
 use Rattle.vdcp_port.specs.Answers.{sent_for}
 use Rattle.vdcp_port.specs.Clips.{is_playable}
 use Rattle.vdcp_port.specs.Clock.{ClockedPort}
-use Rattle.vdcp_port.specs.Port.{empty}
 use Rattle.vdcp_auto.specs.Plan.{Plan}
 use Rattle.vdcp_auto.specs.State.{Stage, Ready, Awaiting, Ended, State}
 use Rattle.vdcp_auto.specs.Turn.{given, given_in, is_awaiting, outcome_of, stopped, ticked}
@@ -25,9 +24,9 @@ use Rattle.vdcp_drive.specs.Reading.{Held, completed}
 use Rattle.vdcp_drive.specs.Serving.{Service}
 use Rattle.vdcp_world.specs.AnyPort.{CanRun}
 use Rattle.vdcp_world.specs.Headline.{Headline, Means}
-use Rattle.vdcp_world.specs.Channel.{Channel, IsReached, after_event, after_events, channel_to, down_behind, up_behind}
+use Rattle.vdcp_world.specs.Channel.{Channel, after_event, after_events, channel_to, down_behind, up_behind}
 use Rattle.vdcp_world.specs.InTime.{HasOneWay, IsNoStop, LosesNone, PlaysOn}
-use Rattle.vdcp_world.specs.NoCut.{NoCut, is_take}
+use Rattle.vdcp_world.specs.NoCut.{CutsUnasked, is_take}
 use Rattle.vdcp_world.specs.LateLine.Joined.{late_of}
 use Rattle.vdcp_world.specs.LateLine.LateChannel.{IsQuestion, LateChannel, after_late_event, after_late_events, bursts_of, command_bursts}
 use Rattle.vdcp_world.specs.LateLine.LateEvent as late
@@ -50,12 +49,13 @@ pub record Laws : Type 0 where
   pub ends : below.Laws
   pub line : (plan : Plan) (port : ClockedPort) (events : List Event) → All LosesNone events
       → HasOneWay (after_events (channel_to plan port) events)
-  pub plays : (plan : Plan) (port : ClockedPort) (events : List Event) → CanRun plan port → port.state.cued ≡ empty
+  pub plays : (plan : Plan) (port : ClockedPort) (events : List Event) → CanRun plan port
       → All LosesNone events → All IsNoStop events → All (λ item. IsTrue (is_playable port.clips item)) plan.list
-      → (c : Channel) → c ≡ after_events (channel_to plan port) events → PlaysOn plan c.state c.aired c.log
+      → (c : Channel) → c ≡ after_events (channel_to plan port) events → PlaysOn plan c.state c.aired c.log 0
   pub headline : (plan : Plan) (port : ClockedPort) (events : List Event) → CanRun plan port
       → Headline (after_events (channel_to plan port) events)
-  pub no_cut : (c : Channel) → IsReached c → NoCut c
+  pub uncut : (plan : Plan) (port : ClockedPort) (events : List Event) (e : Event) → CanRun plan port
+      → CutsUnasked (channel_to plan port) events e → ⊥
 
 -- ---- an event of the one line is one of the other
 
@@ -334,43 +334,28 @@ are_ended law plan port e can timed =
     (subst (λ (x : Plan). IfSome (outcome_of c.state.stage) (Means c.port.clips x c.aired c.log)) b.plan_is
     (law.headline plan port t.events can).ended))))
 
-pub are_playing : (law : Laws) (plan : Plan) (port : ClockedPort) (e : Ends) → CanRun plan port → port.state.cued ≡ empty
+pub are_playing : (law : Laws) (plan : Plan) (port : ClockedPort) (e : Ends) → CanRun plan port
     → AreNewInTime plan port e → All (λ item. IsTrue (is_playable port.clips item)) plan.list → All IsNoStopNote e.notes
-    → PlaysOn plan e.automation.state (aired_now e) (log_now e)
-are_playing law plan port e can nothing timed playable on =
+    → PlaysOn plan e.automation.state (aired_now e) (log_now e) 0
+are_playing law plan port e can timed playable on =
     let t = are_timely law plan port can e timed in
     let c : Channel = channel t in
-    subst (λ (s : State). PlaysOn plan s (aired_now e) (log_now e)) t.beside.state_is
-    (subst (λ (l : List Item). PlaysOn plan c.state l (log_now e)) t.beside.aired_is
-    (subst (PlaysOn plan c.state c.aired) t.beside.log_is
-    (law.plays plan port t.events can nothing t.loses_none (t.no_stop on) playable c refl)))
+    subst (λ (s : State). PlaysOn plan s (aired_now e) (log_now e) 0) t.beside.state_is
+    (subst (λ (l : List Item). PlaysOn plan c.state l (log_now e) 0) t.beside.aired_is
+    (subst (λ (l : List Exchange). PlaysOn plan c.state c.aired l 0) t.beside.log_is
+    (law.plays plan port t.events can t.loses_none (t.no_stop on) playable c refl)))
 
 -- nothing goes to air while a clip plays, if the operator didn't take
-pub cuts_none : (law : Laws) (plan : Plan) (port : ClockedPort) (e e' : Ends) → CanRun plan port → port.state.cued ≡ empty
+pub cuts_none : (law : Laws) (plan : Plan) (port : ClockedPort) (e e' : Ends) → CanRun plan port
     → AreNewInTime plan port e → (step : Step plan port.state.unit e e') → IsInTime step → All IsNoTakeNote e.notes
     → CutsShort e e' → ⊥
-cuts_none law plan port e e' can nothing timed step now_timed none cut = by n.by
+cuts_none law plan port e e' can timed step now_timed none cut = by n.by
   where
     t : AreTimely plan port e
     t = are_timely law plan port can e timed
 
     n : Next plan port e t e'
     n = takes_step law plan port can e e' (are_joined law plan port can e timed) t step now_timed
-
-    reached : IsReached (channel_to plan port)
-    reached = record {
-      plan = plan;
-      port = port;
-      events = [];
-      some = can.can_start.some;
-      few = can.can_start.few;
-      unit_fits = can.can_start.unit_fits;
-      port_fits = can.can_start.port_fits;
-      of_bytes = can.can_start.of_bytes;
-      numbered = can.numbered;
-      nothing_cued = nothing;
-      led = refl;
-    }
 
     longer : length (channel t).aired < length (channel n.now).aired
     longer = omega (arith, cut.airs, ap length t.beside.aired_is, ap length n.now.beside.aired_is)
@@ -383,7 +368,7 @@ cuts_none law plan port e e' can nothing timed step now_timed none cut = by n.by
     by : (n.now.events ≡ t.events) ⊎ ((x : Event) × (n.now.events ≡ t.events ++ x ∷ [])) → ⊥
     by (inl same) = omega (arith, airs t.events same)
     by (inr (x, is)) =
-        (law.no_cut (channel_to plan port) reached).never_taken refl t.events x (record {
+        law.uncut plan port t.events x can (record {
           no_take = t.no_take none;
           cuts = record {
             plays = subst (λ (p : ClockedPort). IsSome p.state.playing) (ap (λ (s : Service). s.port) t.beside.server_is)

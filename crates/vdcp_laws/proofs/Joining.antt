@@ -1,7 +1,8 @@
 -- The two ends, step by step, and the late channel beside them: each step is some of its events.
-use Rattle.std.proofs.Common.{ℕ, ◌≡◌, ◌≤◌, All, List, [], ◌∷◌, ◌++◌, map, refl, sym, ap, ap₂, subst, ◌∙◌, append_assoc, append-nil}
+use Rattle.std.proofs.Common.{ℕ, ◌≡◌, ◌≤◌, All, List, [], ◌∷◌, ◌++◌, map, refl, sym, ap, ap₂, subst, ◌∙◌, append_assoc, append-nil, arith, length, length-append, suc}
 use Rattle.std.proofs.lemmas.Grind.{flat_map-append}
-use Rattle.std.proofs.lemmas.List.Elements.{All-cons, All-nil, All-map, All-weaker}
+use Rattle.std.proofs.lemmas.List.{length-map, map-append}
+use Rattle.std.proofs.lemmas.List.Elements.{All-append, All-cons, All-nil, All-map, All-weaker}
 use Rattle.std.specs.Option.{option_to_list}
 use Rattle.std.specs.Prelude.{IfSome, Option, Some, None, is_some}
 use Rattle.vdcp_value.specs.declared.part.Item.{Item}
@@ -10,8 +11,9 @@ use Rattle.vdcp_frame.specs.Reading.{clean}
 use Rattle.vdcp_words.specs.Commands.{command_message, IsWritableCommand}
 use Rattle.vdcp_words.specs.Replies.{reply_message, IsWritableReply}
 use Rattle.vdcp_words.specs.declared.command.Command.{Command}
+use Rattle.vdcp_words.specs.declared.reply.Reply.{Reply}
 use Rattle.vdcp_port.specs.Answers.{after_messages, aired_on_way, answer_bytes, answers_to}
-use Rattle.vdcp_port.specs.Clock.{ClockedPort, after_frame}
+use Rattle.vdcp_port.specs.Clock.{ClockedPort, after_frame, after_message, answer_to}
 use Rattle.vdcp_auto.specs.Course.{logged}
 use Rattle.vdcp_auto.specs.Plan.{Plan}
 use Rattle.vdcp_auto.specs.State.{State}
@@ -32,9 +34,10 @@ use Rattle.vdcp_world.specs.LateLine.LateChannel.{LateChannel, after_late_event,
 use Rattle.vdcp_world.specs.LateLine.LateEvent.{LateEvent}
 use Rattle.vdcp_world.specs.LateLine.LateEvent as event
 use Rattle.vdcp_laws.specs.TwoEnds.{CanJoin, Ends, aired_now, bytes_in, log_now, sending, sent_down, sent_up, server_new, server_now, notes_ended, notes_heard, wishing, with_automation, with_command, with_down, with_up}
+use Rattle.vdcp_laws.specs.AsNew.{messages_in}
 use Rattle.vdcp_laws.specs.Below.{Answered, Laws, Written}
 use Rattle.vdcp_laws.proofs.Bytes.{spelt}
-use Rattle.vdcp_laws.proofs.Queues.{Takes, bursts_to, bytes_from, bytes_to, delivers, downs_of, hears_each, logged_behind, messages_from, messages_to, rests, sends_on, takes_on, ups_of}
+use Rattle.vdcp_laws.proofs.Queues.{Takes, bursts_to, bytes_from, bytes_to, delivers, downs_of, hears_each, logged_behind, messages_from, messages_to, rests, sends_on, takes_on, ups_of, whole_came_on, whole_sent_on}
 use Rattle.vdcp_laws.proofs.Running.{hears_so, no_notes, runs_down, silent_so, ticks_so}
 use Rattle.vdcp_laws.proofs.Serving.{bytes_else, bytes_more, clips_frame, clips_stay}
 
@@ -51,6 +54,9 @@ pub record IsBeside (plan : Plan) (start_port : ClockedPort) (e : Ends) (c : Lat
   pub server_is : server_now e ≡ record { port = c.port; ear = in_stream held }
   pub downwards : Takes (sent_down start_port.state.unit e) (bytes_in (arrivals e.downs)) held c.down
   pub upwards : Takes (sent_up e) e.ups e.automation.held c.up
+  pub fits : All Fits (messages_to start_port.state.unit e.sent)
+  -- the server answers each message once at most
+  pub fewer : length (messages_in (sent_up e)) ≤ length (messages_in (bytes_in (arrivals e.downs)))
 
 pub record AreBeside (plan : Plan) (port : ClockedPort) (e : Ends) : Type 0 where
   pub channel : LateChannel
@@ -81,6 +87,12 @@ pub sent_with : (unit : ℕ) (e : Ends) (cs : List Command)
     → sent_down unit (sending cs e) ≡ sent_down unit e ++ spelt (messages_to unit cs)
 sent_with unit e cs = sent_more unit e cs ∙ ap (λ (l : List ℕ). sent_down unit e ++ l) (bytes_to unit cs)
 
+pub more_fit : (unit : ℕ) (cs ds : List Command) → All Fits (messages_to unit cs) → All Fits (messages_to unit ds)
+    → All Fits (messages_to unit (cs ++ ds))
+more_fit unit cs ds these those =
+    subst (All Fits) (sym (map-append (command_message unit) cs ds))
+    (All-append Fits (messages_to unit cs) (messages_to unit ds) these those)
+
 pub goes_down : (plan : Plan) (port : ClockedPort) (e : Ends) (c : LateChannel) (b : IsBeside plan port e c)
     (o now : Option Command) → o ≡ now → All Fits (messages_to port.state.unit (option_to_list o))
     → Takes (sent_down port.state.unit (sending (option_to_list o) e)) (bytes_in (arrivals e.downs)) b.held
@@ -102,6 +114,8 @@ gives_next law plan port asked e c can ready b =
     let unit : ℕ = port.state.unit in
     let s : State = e.automation.state in
     let given_is : given c.plan c.state ≡ given plan s = ap₂ given b.plan_is b.state_is in
+    let fits = given_fits law.written unit (given plan s) can.can_start.unit_fits
+    (law.written.given plan s can.can_start.of_bytes can.can_start.port_fits) in
     record {
       run = ticks_so c e.notes (given plan s) given_is (ready ∙ ap (λ (x : State). is_ready x.stage) (sym b.state_is)) b.run;
       plan_is = b.plan_is;
@@ -112,10 +126,10 @@ gives_next law plan port asked e c can ready b =
       aired_is = b.aired_is;
       held = b.held;
       server_is = b.server_is;
-      downwards = goes_down plan port e c b (given plan s) (given c.plan c.state) (sym given_is)
-          (given_fits law.written unit (given plan s) can.can_start.unit_fits
-          (law.written.given plan s can.can_start.of_bytes can.can_start.port_fits));
+      downwards = goes_down plan port e c b (given plan s) (given c.plan c.state) (sym given_is) fits;
       upwards = b.upwards;
+      fits = more_fit unit e.sent (option_to_list (given plan s)) b.fits fits;
+      fewer = b.fewer;
     }
 
 -- a time-out
@@ -138,6 +152,8 @@ times_out plan port e c b = record {
   server_is = b.server_is;
   downwards = b.downwards;
   upwards = rests (sent_up e) e.ups e.automation.held c.up b.upwards;
+  fits = b.fits;
+  fewer = b.fewer;
 }
 
 -- bytes come up: each message that they complete is delivered
@@ -171,6 +187,8 @@ comes_up law plan port e piece rest c b is =
             ∙ ap (λ (q : ClockedPort). record { port = q; ear = in_stream b.held }) (sym h.port_is);
         downwards = subst (Takes (sent_down unit e) (bytes_in (arrivals e.downs)) b.held) (sym h.down_is) b.downwards;
         upwards = subst (Takes (sent_up e) (e.ups ++ piece) (held_after p.held piece)) (sym h.up_is) on.takes;
+        fits = b.fits;
+        fewer = b.fewer;
       };
     }
 
@@ -190,6 +208,8 @@ wishes plan port e c state now notes b is run = record {
   server_is = b.server_is;
   downwards = b.downwards;
   upwards = b.upwards;
+  fits = b.fits;
+  fewer = b.fewer;
 }
 
 -- The server.
@@ -201,6 +221,13 @@ answers_fit written answered unit p ms small =
     (All-weaker IsWritableReply (λ r. Fits (reply_message unit r)) (λ r w. written.reply unit r small w)
     (answers_to p ms)
     (subst (All IsWritableReply) (append-nil (answers_to p ms)) (answered.read_back p ms clean)))
+
+few_answers : (p : ClockedPort) (ms : List Content) → length (answers_to p ms) ≤ length ms
+few_answers p [] = omega arith
+few_answers p (m ∷ ms) = by (answer_to p m) (answers_to (after_message p m) ms) (few_answers (after_message p m) ms) where
+  by : (o : Option Reply) (later : List Reply) → length later ≤ length ms → length (option_to_list o ++ later) ≤ suc (length ms)
+  by None later less = omega (arith, less)
+  by (Some r) later less = omega (arith, less)
 
 -- Bytes come down: each command that they complete is delivered.
 pub comes_down : (law : Laws) (plan : Plan) (port : ClockedPort) (asked : List Command) (e : Ends) (piece rest : List ℕ)
@@ -220,6 +247,16 @@ comes_down law plan port asked e piece rest c can b is =
     let answers : List Content = messages_from unit (answers_to c.port new) in
     let items : List Item = items_in (hook_steps (server_new e) e.downs) in
     let s = law.happens (server_new e) e.downs what in
+    let fits : All Fits answers = answers_fit law.written law.answered unit c.port new can.can_start.unit_fits in
+    let up : sent_up (with_down what e) ≡ sent_up e ++ spelt answers =
+    s.sent ∙ ap (λ (x : Service). sent_up e ++ sent_at what x) b.server_is
+    ∙ ap (λ (ms : List Content). sent_up e ++ answer_bytes c.port.state.unit (answers_to c.port ms)) on.new_is
+    ∙ ap (λ (n : ℕ). sent_up e ++ answer_bytes n (answers_to c.port new)) b.unit_is
+    ∙ ap (λ (l : List ℕ). sent_up e ++ l) (bytes_from unit (answers_to c.port new)) in
+    let out_so = whole_sent_on law.spelt law.completed (sent_up e) e.ups e.automation.held c.up b.upwards answers fits in
+    let came_so : messages_in (came ++ piece) ≡ messages_in came ++ new =
+    whole_came_on law.spelt law.completed sent came b.held c.down b.downwards piece
+    ∙ ap (λ (l : List Content). messages_in came ++ l) on.new_is in
     record {
       new = new;
       rest = on.rest;
@@ -243,14 +280,20 @@ comes_down law plan port asked e piece rest c can b is =
             ∙ ap (λ (q : ClockedPort). record { port = q; ear = in_stream held }) (sym r.port_is);
         downwards = subst (λ (l : List ℕ). Takes sent l held d.down) (sym (bytes_more e.downs piece))
             (subst (Takes sent (came ++ piece) held) (sym r.down_is) on.takes);
-        upwards = subst (λ (l : List ℕ). Takes l e.ups e.automation.held d.up)
-            (sym (s.sent ∙ ap (λ (x : Service). sent_up e ++ sent_at what x) b.server_is
-            ∙ ap (λ (ms : List Content). sent_up e ++ answer_bytes c.port.state.unit (answers_to c.port ms)) on.new_is
-            ∙ ap (λ (n : ℕ). sent_up e ++ answer_bytes n (answers_to c.port new)) b.unit_is
-            ∙ ap (λ (l : List ℕ). sent_up e ++ l) (bytes_from unit (answers_to c.port new))))
+        upwards = subst (λ (l : List ℕ). Takes l e.ups e.automation.held d.up) (sym up)
             (subst (Takes (sent_up e ++ spelt answers) e.ups e.automation.held) (sym r.up_is)
-            (sends_on answers (sent_up e) e.ups e.automation.held c.up b.upwards
-            (answers_fit law.written law.answered unit c.port new can.can_start.unit_fits)));
+            (sends_on answers (sent_up e) e.ups e.automation.held c.up b.upwards fits));
+        fits = b.fits;
+        fewer = omega (
+          arith,
+          b.fewer,
+          few_answers c.port new,
+          length-map (answers_to c.port new) (reply_message unit),
+          ap length (ap messages_in up ∙ out_so),
+          length-append (messages_in (sent_up e)) answers,
+          ap length (ap messages_in (bytes_more e.downs piece) ∙ came_so),
+          length-append (messages_in came) new,
+        );
       };
     }
 
@@ -266,6 +309,9 @@ happens_so : (law : Laws) (plan : Plan) (port : ClockedPort) (e : Ends) (c : Lat
 happens_so law plan port e c what p held b no_bytes none no_items goes takes unit clips run =
     let s = law.happens (server_new e) e.downs what in
     let items : List Item = items_in (hook_steps (server_new e) e.downs) in
+    let came : bytes_in (arrivals (e.downs ++ what ∷ [])) ≡ bytes_in (arrivals e.downs) = bytes_else e.downs what no_bytes in
+    let up : sent_up (with_down what e) ≡ sent_up e =
+    s.sent ∙ ap (λ (l : List ℕ). sent_up e ++ l) (ap (sent_at what) b.server_is ∙ none) ∙ append-nil (sent_up e) in
     record {
       run = run;
       plan_is = b.plan_is;
@@ -277,11 +323,11 @@ happens_so law plan port e c what p held b no_bytes none no_items goes takes uni
           ∙ ap (λ (l : List Item). items ++ l) (ap (aired_at what) b.server_is ∙ no_items) ∙ append-nil items));
       held = held;
       server_is = s.left ∙ ap (serves what) b.server_is ∙ goes;
-      downwards = subst (λ (l : List ℕ). Takes (sent_down port.state.unit e) l held c.down)
-          (sym (bytes_else e.downs what no_bytes)) takes;
-      upwards = subst (λ (l : List ℕ). Takes l e.ups e.automation.held c.up)
-          (sym (s.sent ∙ ap (λ (l : List ℕ). sent_up e ++ l) (ap (sent_at what) b.server_is ∙ none) ∙ append-nil (sent_up e)))
-          b.upwards;
+      downwards = subst (λ (l : List ℕ). Takes (sent_down port.state.unit e) l held c.down) (sym came) takes;
+      upwards = subst (λ (l : List ℕ). Takes l e.ups e.automation.held c.up) (sym up) b.upwards;
+      fits = b.fits;
+      fewer = subst (λ (l : List ℕ). length (messages_in (sent_up (with_down what e))) ≤ length (messages_in l)) (sym came)
+          (subst (λ (l : List ℕ). length (messages_in l) ≤ length (messages_in (bytes_in (arrivals e.downs)))) (sym up) b.fewer);
     }
 
 -- a frame passes

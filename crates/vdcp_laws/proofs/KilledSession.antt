@@ -27,7 +27,8 @@ use Rattle.vdcp_laws.specs.Carried.{MayGive, driver_of, next, nothing}
 use Rattle.vdcp_laws.specs.Mended.{AreOfJoined}
 use Rattle.vdcp_laws.specs.OneConnection.{ends_by}
 use Rattle.vdcp_laws.specs.TwoEnds.{AreJoined, CanJoin, Ends, aired_now, note_for, port_now}
-use Rattle.vdcp_laws.proofs.Carrying.{none_before, sent_both}
+use Rattle.vdcp_laws.proofs.Bytes.{none_before}
+use Rattle.vdcp_laws.proofs.Carrying.{sent_both}
 use Rattle.vdcp_laws.proofs.Mended.{Below}
 use Rattle.vdcp_laws.proofs.Unwritten.{Sends, before_last, last_behind, last_mapped, last_of, unheard, with_last}
 use Rattle.vdcp_laws.proofs.Waiting.{heard_since, is_safe}

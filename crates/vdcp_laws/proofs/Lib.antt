@@ -38,6 +38,11 @@ mod Untorn
 mod AsrunRows
 mod LossyGoings
 mod Asks
+mod AsNew
+mod Tallied
+mod Unanswered
 mod Asked
 mod Tried
 mod HeldPlays
+mod Frames
+mod Staying

@@ -1,9 +1,9 @@
 -- What going on writes behind a killed run's safe rows was given.
-use Rattle.std.proofs.Common.{◌≡◌, ℕ, inl, inr, arith, Bool, true, false, List, [], ◌∷◌, ◌++◌, Option, None, Some, append-nil, append_assoc, map, refl, sym, ap, ap₂, subst, ◌∙◌}
+use Rattle.std.proofs.Common.{◌≡◌, ℕ, zero, suc, inl, inr, arith, Bool, true, false, List, [], ◌∷◌, ◌++◌, Option, None, Some, append-nil, append_assoc, map, refl, sym, ap, ap₂, subst, ◌∙◌}
 use Rattle.std.proofs.lemmas.List.{map-append}
 use Rattle.std.specs.Prelude.{IsTrue, is_some}
 use Rattle.vdcp_value.specs.declared.part.Item.{Item}
-use Rattle.vdcp_port.specs.Clock.{ClockedPort}
+use Rattle.vdcp_port.specs.Clock.{ClockedPort, after_frames}
 use Rattle.vdcp_words.specs.declared.command.Command.{Command}
 use Rattle.vdcp_words.specs.declared.command.Command.TheVariants as command
 use Rattle.vdcp_auto.specs.Plan.{Plan}
@@ -20,18 +20,21 @@ use Rattle.vdcp_journal.specs.declared.moment.Moment.{Moment}
 use Rattle.vdcp_journal.specs.declared.row.Note.{Note}
 use Rattle.vdcp_journal.specs.declared.row.Note.TheVariants as note
 use Rattle.vdcp_journal.specs.declared.row.Row.{Row}
+use Rattle.vdcp_drive.specs.Serving.{Service}
 use Rattle.vdcp_drive.specs.Steps.{given_notes}
+use Rattle.vdcp_drive.specs.Turns.{frame}
 use Rattle.vdcp_laws.specs.Announced.{Announces, came_again}
 use Rattle.vdcp_journal_file.specs.Recording.{IsTimedOut, rows_left, seen_before}
 use Rattle.vdcp_journal_file.specs.declared.pending.Pending.{Pending}
 use Rattle.vdcp_laws.specs.Mended as safe
 use Rattle.vdcp_laws.specs.Mended.{AreOfJoined, AreSafe, AreUnkept, Finds, IsGoneOnWith, IsSession, MayLack, anew, behind, state_in}
-use Rattle.vdcp_laws.specs.TwoEnds.{AreJoined, CanJoin, Ends, GoesOn, aired_now, as_announced, as_noted, connected_anew, gave, heard_again, note_for, notes_ended, notes_given, port_now, restarted, resumed, went_on, with_command}
+use Rattle.vdcp_laws.specs.TwoEnds.{AreJoined, CanJoin, Ends, GoesOn, aired_now, as_announced, as_noted, connected_anew, gave, heard_again, note_for, notes_ended, notes_given, passed, port_now, restarted, resumed, server_new, went_on, with_command, with_down}
 use Rattle.vdcp_laws.proofs.Announced.{after_play, none_some, on_refusal_plays, on_silence_plays, one_is, sent_of, thinned_more, ticked_twice}
 use Rattle.vdcp_laws.proofs.Asked.{no_notes}
 use Rattle.vdcp_laws.proofs.Commands as commands
 use Rattle.vdcp_laws.proofs.Commands.{awaits_none_in, exchange_is, left_by}
 use Rattle.vdcp_laws.proofs.Journaled.{AllTold, after_more, given_awaited, of_rows, same_state}
+use Rattle.vdcp_laws.proofs.Frames.{items_with_frame, left_with_frame}
 use Rattle.vdcp_laws.proofs.Killed.{again_noted}
 use Rattle.vdcp_laws.proofs.Running.{last_more}
 
@@ -366,9 +369,22 @@ its_server : (plan : Plan) (e on : Ends) → GoesOnGiven plan e on → (port_now
 its_server plan e on (as_kept so) = same_server plan e on so
 its_server plan e on (as_given so) = same_server plan (with_command plan e) on so
 
+-- a frame passes before it goes on
+passes : (plan : Plan) (e on : Ends) → GoesOn plan e on → GoesOn plan (with_down frame e) (with_down frame on)
+passes plan e _ as_noted = as_noted
+passes plan e _ (as_announced h a) = as_announced h a
+
 connects : (plan : Plan) (port found : ClockedPort) (asked : List Command) (e on : Ends) → AreJoined plan port asked e
     → GoesOn plan e on → Finds (port_now on) found → AreJoined plan port asked (connected_anew plan found on)
-connects plan port _ asked e on j so safe.the_same = went_on j (resumed so)
+connects plan port _ asked e on j so (safe.the_same zero) = went_on j (resumed so)
+connects plan port _ asked e on j so (safe.the_same (suc frames)) =
+    let later : Ends = with_down frame on in
+    subst (AreJoined plan port asked)
+    (ap₂ (λ (p : ClockedPort) (aired : List Item). record (connected_anew plan p on) { aired_before = aired })
+    (ap (λ (s : Service). after_frames frames s.port) (left_with_frame (server_new on) on.downs))
+    (ap (λ (items : List Item). on.aired_before ++ items) (items_with_frame (server_new on) on.downs)))
+    (connects plan port (after_frames frames (port_now later)) asked (with_down frame e) later (went_on j passed) (passes plan e on so)
+    (safe.the_same frames))
 connects plan port _ asked e on j so safe.a_new_one = went_on j (restarted so)
 
 joins : (plan : Plan) (port found : ClockedPort) (asked : List Command) (e on : Ends) → AreJoined plan port asked e

@@ -29,7 +29,8 @@ use Rattle.vdcp_world.specs.LateLine.LateChannel.{LateChannel, after_late_event,
 use Rattle.vdcp_world.specs.LateLine.LateEvent.{LateEvent}
 use Rattle.vdcp_world.specs.LateLine.LateEvent as event
 use Rattle.vdcp_laws.specs.Below.{Answered, Completed, Spelt}
-use Rattle.vdcp_laws.proofs.Bytes.{completes, fits_rest, front_all, front_of, nothing_unfinished, spelt, spelt_both}
+use Rattle.vdcp_laws.specs.AsNew.{messages_in}
+use Rattle.vdcp_laws.proofs.Bytes.{completes, fits_rest, front_all, front_of, nothing_unfinished, spells_all, spelt, spelt_both}
 use Rattle.vdcp_laws.proofs.Commands.{hears_comes}
 
 -- An end that hears at once: of the messages that were sent to it some came whole, and it holds what came of the next one;
@@ -44,6 +45,8 @@ pub record Takes (sent came : List ℕ) (at : Held) (queue : List (List ℕ)) : 
   pub at_is : at ≡ holds held
   pub unfinished : IsUnfinished held
   pub queue_is : queue ≡ map spelling left
+  pub behind : List ℕ
+  pub sent_on : sent ≡ came ++ behind
 
 -- a piece more came: it completes these messages
 pub record TakesOn (sent came piece : List ℕ) (at : Held) (queue : List (List ℕ)) : Type 0 where
@@ -90,6 +93,8 @@ takes_on law reads sent came at queue w piece rest is =
         at_is = ap (λ (h : Held). held_after h piece) w.at_is ∙ r.1;
         unfinished = f.unfinished;
         queue_is = refl;
+        behind = rest;
+        sent_on = is ∙ sym (append_assoc came piece rest);
       };
     }
 
@@ -107,6 +112,8 @@ sends_on more sent came at queue w fits =
       at_is = w.at_is;
       unfinished = w.unfinished;
       queue_is = ap (λ (q : List (List ℕ)). q ++ map spelling more) w.queue_is ∙ sym (map-append spelling w.left more);
+      behind = w.behind ++ spelt more;
+      sent_on = ap (λ (l : List ℕ). l ++ spelt more) w.sent_on ∙ append_assoc came w.behind (spelt more);
     }
 
 -- a silence changes nothing
@@ -126,7 +133,39 @@ nothing_taken law = record {
   at_is = refl;
   unfinished = nothing_unfinished law;
   queue_is = refl;
+  behind = [];
+  sent_on = refl;
 }
+
+-- The messages that are whole among what was sent, and among what came.
+
+pub whole : (law : Spelt) (reads : Completed) (ms : List Content) (held : List ℕ) → All Fits ms → IsUnfinished held
+    → (messages_in (spelt ms ++ held) ≡ ms) × (held_after (holds []) (spelt ms ++ held) ≡ holds held)
+whole law reads ms held fits u =
+    let spells = spells_all law ms fits in (reads.messages ms (spelt ms) held spells u, reads.held ms (spelt ms) held spells u)
+
+module _ (law : Spelt) (reads : Completed) (sent came : List ℕ) (at : Held) (queue : List (List ℕ)) (w : Takes sent came at queue) where
+  pub whole_came : (messages_in came ≡ w.done) × (held_after (holds []) came ≡ at)
+  whole_came =
+      let r = whole law reads w.done w.held (front_all Fits w.done w.left w.fits) w.unfinished in
+      (ap messages_in w.came_is ∙ r.0, ap (held_after (holds [])) w.came_is ∙ r.1 ∙ sym w.at_is)
+
+  pub whole_sent : (messages_in sent ≡ w.done ++ w.left) × (held_after (holds []) sent ≡ holds [])
+  whole_sent =
+      let all : sent ≡ spelt (w.done ++ w.left) ++ [] = w.sent_is ∙ sym (append-nil (spelt (w.done ++ w.left))) in
+      let r = whole law reads (w.done ++ w.left) [] w.fits (nothing_unfinished law) in
+      (ap messages_in all ∙ r.0, ap (held_after (holds [])) all ∙ r.1)
+
+  pub whole_came_on : (piece : List ℕ) → messages_in (came ++ piece) ≡ messages_in came ++ completed at piece
+  whole_came_on piece =
+      reads.pieces (holds []) came piece ∙ ap (λ (h : Held). messages_in came ++ completed h piece) whole_came.1
+
+  pub whole_sent_on : (more : List Content) → All Fits more → messages_in (sent ++ spelt more) ≡ messages_in sent ++ more
+  whole_sent_on more fits =
+      reads.pieces (holds []) sent (spelt more)
+      ∙ ap (λ (h : Held). messages_in sent ++ completed h (spelt more)) whole_sent.1
+      ∙ ap (λ (l : List Content). messages_in sent ++ l) (ap messages_in (sym (append-nil (spelt more)))
+      ∙ (whole law reads more [] fits (nothing_unfinished law)).0)
 
 -- The commands as messages, and the answers.
 

@@ -31,12 +31,11 @@ use Rattle.vdcp_laws.specs.Servers as servers
 use Rattle.vdcp_laws.specs.Servers.{IsServed, ServesOn}
 use Rattle.vdcp_laws.specs.TwoEnds.{Ends, aired_now, port_now, server_new, server_now}
 use Rattle.vdcp_laws.specs.Untorn.{AreUntorn, IsRead, at_once_for, server_at_silences}
-use Rattle.vdcp_laws.proofs.Bytes.{front_all, front_of, spells_all, spelt, spelt_both}
-use Rattle.vdcp_laws.proofs.Carrying.{none_before}
+use Rattle.vdcp_laws.proofs.Bytes.{front_all, front_of, none_before, spells_all, spelt, spelt_both}
 use Rattle.vdcp_laws.proofs.CutShort.{EarHoldsNone, HoldsNone, IsLeft, Reader, answer_left, broken_left, ended_left, front_upto, is_left, none_after, none_then}
 use Rattle.vdcp_laws.proofs.Leading.{came_sent}
 use Rattle.vdcp_laws.proofs.Untorn as untorn
-use Rattle.vdcp_laws.proofs.Untorn.{all_downs, begun_same, completes_same, items_both, nothing_read, octets_of, untorn_front}
+use Rattle.vdcp_laws.proofs.Untorn.{all_downs, begun_same, completes_same, items_both, items_on, nothing_read, octets_of, untorn_front}
 
 -- vdcp_frame::laws, and those of untorn turns
 pub record Laws : Type 0 where
@@ -44,16 +43,11 @@ pub record Laws : Type 0 where
   pub same : untorn.Laws
 
 -- the items of turns, and of what counts of the last one
-items_on : (law : Laws) (s : Service) (xs ys : List Turn)
-    → items_in (hook_steps s (xs ++ ys)) ≡ items_in (hook_steps s xs) ++ items_in (hook_steps (left_by s xs) ys)
-items_on law s xs ys =
-    ap items_in (law.same.hooks s xs ys) ∙ items_both (hook_steps s xs) (hook_steps (left_by s xs) ys)
-
 items_left : (law : Laws) (s : Service) (turns last : List Turn) (steps : List HookStep)
     → items_in (hook_steps (left_by s turns) last) ≡ items_in steps
     → items_in (hook_steps s (turns ++ last)) ≡ items_in (hook_steps s turns ++ steps)
 items_left law s turns last steps is =
-    items_on law s turns last ∙ ap (λ (l : List Item). items_in (hook_steps s turns) ++ l) is
+    items_on law.same.hooks s turns last ∙ ap (λ (l : List Item). items_in (hook_steps s turns) ++ l) is
     ∙ sym (items_both (hook_steps s turns) steps)
 
 -- ---- at once
@@ -98,7 +92,7 @@ prompt_on {does = does} {can = can} {hooks = hooks} law e {server' = server'} no
     let aired : List Item = items_in (hook_steps (server_new e) e.downs) in
     let all : aired_now (record e { downs = e.downs ++ turns }) ≡ aired_now e ++ items_in steps =
     ap (λ (l : List Item). e.aired_before ++ l)
-    (items_on law (server_new e) e.downs turns ∙ ap (λ (l : List Item). aired ++ l) (items_left law now s.turns end s.last cut.items_are))
+    (items_on law.same.hooks (server_new e) e.downs turns ∙ ap (λ (l : List Item). aired ++ l) (items_left law now s.turns end s.last cut.items_are))
     ∙ sym (append_assoc e.aired_before aired (items_in steps)) in
     record {
       below = acts_of now s.turns ++ s.done;
@@ -252,7 +246,7 @@ untorn_on {does = does} {can = can} {hooks = hooks} law e before {server' = serv
     sym (ap (λ (l : List Turn). items_in (hook_steps (server_new e) l)) downs
     ∙ (begun_same law.same e.port before (untorn_front [] before turns all)).items) in
     let items : e.aired_before ++ items_in (hook_steps begin (before ++ turns)) ≡ aired_now e ++ items_in steps =
-    ap (λ (l : List Item). e.aired_before ++ l) (items_on law begin before turns
+    ap (λ (l : List Item). e.aired_before ++ l) (items_on law.same.hooks begin before turns
     ∙ ap₂ (λ (k l : List Item). k ++ l) first (items_left law now s.turns end s.last cut.items_are))
     ∙ sym (append_assoc e.aired_before aired (items_in steps)) in
     record {

@@ -1,7 +1,7 @@
 -- What a session does over a connection leads both ends on.
-use Rattle.std.proofs.Common.{ℕ, ◌≡◌, inl, inr, Bool, All, List, [], ◌++◌, refl, sym, ap, subst, ◌∙◌, append_assoc, append-nil}
+use Rattle.std.proofs.Common.{arith, ℕ, ◌≡◌, inl, inr, Bool, false, All, List, [], ◌++◌, refl, sym, ap, subst, ◌∙◌, append_assoc, append-nil}
 use Rattle.std.proofs.lemmas.List.Elements.{All-nil, All-weaker}
-use Rattle.std.specs.Prelude.{◌≢◌, Option, None, Some, Result, Err}
+use Rattle.std.specs.Prelude.{◌≢◌, Bool, Option, None, Some, Result, Ok, Err}
 use Rattle.vdcp_value.specs.declared.part.Item.{Item}
 use Rattle.vdcp_words.specs.declared.command.Command.{Command}
 use Rattle.vdcp_words.specs.declared.command.Command.TheVariants as command
@@ -10,12 +10,13 @@ use Rattle.vdcp_auto.specs.Plan.{Plan}
 use Rattle.vdcp_auto.specs.State.{Stage, Ready, Awaiting, Ended, State}
 use Rattle.vdcp_auto.specs.Turn.{awaited, awaited_in}
 use Rattle.vdcp_auto.specs.declared.exchange.Exchange.{Exchange}
-use Rattle.vdcp_auto.specs.declared.phase.Mode.TheVariants.{Confirming}
+use Rattle.vdcp_auto.specs.declared.phase.Mode.{Mode}
+use Rattle.vdcp_auto.specs.declared.phase.Mode.TheVariants.{Plain, Confirming}
 use Rattle.vdcp_auto.specs.declared.phase.Phase.TheVariants as phase
 use Rattle.vdcp_wire.specs.Acts.{Act}
 use Rattle.vdcp_drive.specs.Auto.{AreMade, Auto, Event, after}
 use Rattle.vdcp_drive.specs.Hearing.{at_once}
-use Rattle.vdcp_drive.specs.Leaves.{HasRun, steps_in}
+use Rattle.vdcp_drive.specs.Leaves.{HasRun, IsRun, steps_in}
 use Rattle.vdcp_drive.specs.Reading.{Held}
 use Rattle.vdcp_drive.specs.Steps.{Step, World, steps_of}
 use Rattle.vdcp_drive.specs.Traces.{acts_in, came_in, commands_kept, kept_in, sent_in}
@@ -24,11 +25,12 @@ use Rattle.vdcp_drive.specs.declared.hooks.BrokenOff.{BrokenOff}
 use Rattle.vdcp_drive.specs.declared.hooks.BrokenOff.TheVariants as fault
 use Rattle.vdcp_drive.specs.declared.hooks.Next.TheVariants as next
 use Rattle.vdcp_drive.specs.declared.line.Ran.{Ran}
+use Rattle.vdcp_drive.specs.declared.line.Ran.TheVariants as ran
 use Rattle.vdcp_journal_file.specs.Recording.{Recording}
 use Rattle.vdcp_laws.specs.Carried.{AreCarried, driver_of}
 use Rattle.vdcp_laws.specs.EndsHeadline.{EndsHeadline}
 use Rattle.vdcp_laws.specs.OneConnection.{ends_by}
-use Rattle.vdcp_laws.specs.Sessions.{acts_ended, acts_held, acts_tried, ends_asked, ends_ended, ends_held, ends_tried, log_ended, log_held, log_tried, start_at, state_ended, state_tried, steps_asked, steps_first}
+use Rattle.vdcp_laws.specs.Sessions.{acts_ended, acts_held, acts_tried, ends_asked, ends_ended, ends_held, ends_left, ends_left_by, ends_tried, log_ended, log_held, log_tried, start_at, state_ended, state_tried, steps_asked, steps_first}
 use Rattle.vdcp_laws.specs.TwoEnds.{AreJoined, AreLed, CanJoin, Ends, aired_now, asked_first, bytes_in, log_now, sent_down}
 use Rattle.vdcp_laws.proofs.Asked.{IsAskedBy, Steps, asked_side, ear_of_run, ending, part_of_run}
 use Rattle.vdcp_laws.proofs.Asks.{MayAsk, opens, probes, waits}
@@ -38,9 +40,12 @@ use Rattle.vdcp_laws.proofs.Headline as headline
 use Rattle.vdcp_laws.proofs.Joining.{sent_more}
 use Rattle.vdcp_laws.proofs.OneRun.{stays}
 use Rattle.vdcp_laws.proofs.Servers.{ServedSo}
+use Rattle.vdcp_laws.proofs.Tallied.{Answers, RowsSo, answered_in, answers_both, answers_by, free_side, none_answered}
+use Rattle.vdcp_laws.proofs.Unanswered.{asked_calm, asker_free, asker_ready, calm_asked, calm_by, ended_free}
 use Rattle.vdcp_run.specs.Asking.{AreAsked, Asker, HasAsked, Inquiring, IsAsked, Start, asker_of, asking, holding, line_of, opening, probing}
-use Rattle.vdcp_run.specs.Ends.{Reports}
-use Rattle.vdcp_run.specs.Session.{HasEnded, HasHeld, HasTried, LeavesBefore, Onset, held, none, onset_of, played, unbegun}
+use Rattle.vdcp_run.specs.Ends.{Reports, line_end_of}
+use Rattle.vdcp_run.specs.Run.{IsAtRest}
+use Rattle.vdcp_run.specs.Session.{HasEnded, HasHeld, HasTried, LeavesBefore, Onset, held, none, onset_of, played, signs_by, unbegun}
 use Rattle.vdcp_run.specs.declared.run_end.LineEnd.{LineEnd}
 use Rattle.vdcp_run.specs.declared.run_end.LineEnd.TheVariants as line_end
 use Rattle.vdcp_run.specs.declared.run_end.RunEnd.{RunEnd}
@@ -69,6 +74,7 @@ pub record Laws {W : Type 0} (does : Act → W → W → Type 0) : Type 0 where
       → (h : HasRun (asking does asker.plan) at_once asker.plan unit count a a' old new answer)
       → AreAsked start (commands_kept (kept_in (steps_in h.run)))
   pub steps : Steps
+  pub rows : RowsSo
 
 -- these ends, with the automation as it is at a stretch's onset
 abbrev pub as_of : State → Held → Ends → Ends
@@ -76,17 +82,17 @@ as_of state ear e = record e { automation = record e.automation { held = ear; st
 
 -- What was asked is asked by these acts; and all of it went out, if the list is begun.
 asked_by : {W : Type 0} {does : Act → W → W → Type 0} (law : Laws does) (settings : RunSettings) (is_held : Bool) (start : Start)
-    (e : Ends) (ear ear' : Held) (wire wire' : W) (left : ℕ) (line : Option LineEnd) (asker : Option Asker)
+    (e : Ends) (ear ear' : Held) (wire wire' : W) (left : ℕ) (signs signs' : Signs) (line : Option LineEnd) (asker : Option Asker)
     → asker_of settings.ask is_held start ≡ asker
-    → (h : HasAsked asker does at_once settings ear ear' wire wire' left line)
-    → (let steps : List Step = steps_asked does settings ear ear' wire wire' left line asker h in
+    → (h : HasAsked asker does at_once settings ear ear' wire wire' left signs signs' line)
+    → (let steps : List Step = steps_asked does settings ear ear' wire wire' left signs signs' line asker h in
     (a : IsAskedBy start.plan settings.unit (as_of start.state ear e) (commands_kept (kept_in steps)) ear' (acts_in steps))
     × (line ≡ None → a.unsent ≡ []))
-asked_by law settings is_held start e ear ear' wire wire' left line None is h = (
+asked_by law settings is_held start e ear ear' wire wire' left signs signs' line None is h = (
   record { may = All-nil (MayAsk start.plan start.state.stage); ear = h.0; unsent = []; part = refl },
   λ begun. refl,
 )
-asked_by law settings is_held start e ear ear' wire wire' left line (Some asker) is h =
+asked_by law settings is_held start e ear ear' wire wire' left signs signs' line (Some asker) is h =
     let runs = h.comes.runs in
     let unit : ℕ = settings.unit in
     let a : Auto Held = record { ear = ear; state = asker.state } in
@@ -118,70 +124,115 @@ asking_side plan unit e cs ear list ready a =
     (sent_more unit e cs ∙ ap (λ (l : List ℕ). sent_down unit e ++ l) a.part
     ∙ sym (append_assoc (sent_down unit e) (sent_in list) a.unsent))))
 
--- All of it went out that was asked, and then these acts lead on.
-pub asked_on : {W : Type 0} {does : Act → W → W → Type 0} (law : Laws does) (settings : RunSettings) (is_held : Bool) (start : Start)
-    (e last : Ends) (ear ear' : Held) (wire wire' : W) (left : ℕ) (more : List Act) → awaited start.plan start.state ≡ None
-    → (asked : HasAsked (asker_of settings.ask is_held start) does at_once settings ear ear' wire wire' left None)
-    → (let steps : List Step = steps_asked does settings ear ear' wire wire' left None (asker_of settings.ask is_held start) asked in
+-- each question was answered
+asked_answers : {W : Type 0} {does : Act → W → W → Type 0} (law : Laws does) (settings : RunSettings) (is_held : Bool) (start : Start)
+    (e : Ends) (ear ear' : Held) (wire wire' : W) (left : ℕ) (signs signs' : Signs) (line : Option LineEnd) (asker : Option Asker)
+    → (is : asker_of settings.ask is_held start ≡ asker)
+    → (h : HasAsked asker does at_once settings ear ear' wire wire' left signs signs' line) → signs'.unanswered ≡ false
+    → (let steps : List Step = steps_asked does settings ear ear' wire wire' left signs signs' line asker h in
     let first : Ends = as_of start.state ear e in
-    let now : Ends = ends_asked steps ear' first in
-    Side start.plan settings.unit (AreLed start.plan settings.unit) now (sent_down settings.unit now) more last
-    → Side start.plan settings.unit (AreLed start.plan settings.unit) first (sent_down settings.unit first) (acts_in steps ++ more) last)
-asked_on {W} {does} law settings is_held start e last ear ear' wire wire' left more ready asked s =
-    let plan : Plan = start.plan in
+    (signs.unanswered ≡ false) × Answers settings.unit first (ends_asked steps ear' first) (acts_in steps))
+asked_answers {W} {does} law settings is_held start e ear ear' wire wire' left signs signs' line None is h calm = (
+  ap (λ (s : Signs). s.unanswered) (sym h.3) ∙ calm,
+  record { commands = []; sent_is = refl; ups_is = refl; ear_is = h.0; few = omega arith },
+)
+asked_answers {W} {does} law settings is_held start e ear ear' wire wire' left signs signs' line (Some asker) is h calm =
+    let runs = h.comes.runs in
     let unit : ℕ = settings.unit in
-    let steps : List Step = steps_asked does settings ear ear' wire wire' left None (asker_of settings.ask is_held start) asked in
-    let list : List Act = acts_in steps in
-    let cs : List Command = commands_kept (kept_in steps) in
-    let first : Ends = as_of start.state ear e in
-    let now : Ends = ends_asked steps ear' first in
-    let a = asked_by law settings is_held start e ear ear' wire wire' left None (asker_of settings.ask is_held start) refl asked in
-    let sent : sent_down unit now ≡ sent_down unit first ++ sent_in list =
-    sent_more unit first cs ∙ ap (λ (l : List ℕ). sent_down unit first ++ l)
-    (a.0.part ∙ ap (λ (l : List ℕ). sent_in list ++ l) (a.1 refl) ∙ append-nil (sent_in list)) in
-    asked_side plan unit first cs ear' list more last ready a.0
-    (subst (λ (l : List ℕ). Side plan unit (AreLed plan unit) now l more last) sent s)
+    let a : Auto Held = record { ear = ear; state = asker.state } in
+    let steps : List Step = steps_in runs.run in
+    let asked = asked_by law settings is_held start e ear ear' wire wire' left signs signs' line (Some asker) is h in
+    let quiet = ap (λ (s : Signs). s.unanswered) (sym h.signs_are) ∙ calm in
+    let c = calm_asked does asker.plan steps _ _ runs.happened (asked_calm h.answer h.last.signs quiet) in (
+      c.1,
+      record {
+        commands = commands_kept (kept_in steps);
+        sent_is = refl;
+        ups_is = refl;
+        ear_is = asked.0.ear;
+        few = answered_in law.rows law.steps asker.plan unit settings.listens a h.comes.auto h.answer runs.run
+            (asker_ready settings.ask is_held start asker is)
+            (asker_free asker unit settings.listens a h.comes.auto _ _ h.answer runs quiet) c.0;
+      },
+    )
+
+-- A stretch: what was to be asked was, and the list is begun.
+module _ {W : Type 0} {does : Act → W → W → Type 0} (law : Laws does) (settings : RunSettings) (is_held : Bool) (start : Start)
+    (e : Ends) (ear ear' : Held) (wire wire' : W) (left : ℕ) (signs signs' : Signs)
+    (asked : HasAsked (asker_of settings.ask is_held start) does at_once settings ear ear' wire wire' left signs signs' None) where
+  abbrev plan : Plan
+  plan = start.plan
+
+  abbrev unit : ℕ
+  unit = settings.unit
+
+  abbrev steps : List Step
+  steps = steps_asked does settings ear ear' wire wire' left signs signs' None (asker_of settings.ask is_held start) asked
+
+  abbrev first : Ends
+  first = as_of start.state ear e
+
+  abbrev now : Ends
+  now = ends_asked steps ear' first
+
+  -- these acts lead on
+  abbrev Leads : Ends → List Act → Ends → Type 0
+  Leads from list last = Side plan unit (AreLed plan unit) from (sent_down unit from) list last
+
+  -- all of it went out that was asked
+  pub asked_on : (last : Ends) (more : List Act) → awaited plan start.state ≡ None → Leads now more last
+      → Leads first (acts_in steps ++ more) last
+  asked_on last more ready s =
+      let list : List Act = acts_in steps in
+      let a = asked_by law settings is_held start e ear ear' wire wire' left signs signs' None (asker_of settings.ask is_held start)
+      refl asked in
+      let sent : sent_down unit now ≡ sent_down unit first ++ sent_in list =
+      sent_more unit first (commands_kept (kept_in steps)) ∙ ap (λ (l : List ℕ). sent_down unit first ++ l)
+      (a.0.part ∙ ap (λ (l : List ℕ). sent_in list ++ l) (a.1 refl) ∙ append-nil (sent_in list)) in
+      asked_side plan unit first (commands_kept (kept_in steps)) ear' list more last ready a.0
+      (subst (λ (l : List ℕ). Side plan unit (AreLed plan unit) now l more last) sent s)
+
+  -- then these events happened
+  pub stretch_on : (last : Ends) (events : List Event) (more : List Act) → awaited plan start.state ≡ None
+      → AreMade at_once plan unit (driver_of now.automation) events → Leads (ends_by plan unit now events) more last
+      → Leads first ((acts_in steps ++ acts_in (steps_of at_once plan unit (driver_of now.automation) events)) ++ more) last
+  stretch_on last events more ready made s =
+      let done : List Act = acts_in (steps_of at_once plan unit (driver_of now.automation) events) in
+      subst (λ (l : List Act). Leads first l last) (sym (append_assoc (acts_in steps) done more))
+      (asked_on last (done ++ more) ready
+      (events_side plan unit (AreLed plan unit) (leads_on plan unit) more last events now made s))
+
+  -- each command was answered
+  stretch_answers : (auto : Auto Held) (answer : Result Ran BrokenOff)
+      → (run : IsRun at_once plan unit left (record { ear = ear'; state = start.state }) auto answer)
+      → awaited plan start.state ≡ None → awaited plan auto.state ≡ None
+      → (signs_by (kept_in (steps_in run)) signs').unanswered ≡ false
+      → (signs.unanswered ≡ false)
+      × Answers unit first (ends_by plan unit now run.events) (acts_in steps ++ acts_in (steps_in run))
+  stretch_answers auto answer run ready free calm =
+      let c = calm_by (kept_in (steps_in run)) signs' calm in
+      let a = asked_answers law settings is_held start e ear ear' wire wire' left signs signs' None
+      (asker_of settings.ask is_held start) refl asked c.1 in (
+        a.0,
+        answers_both unit first now (ends_by plan unit now run.events) (acts_in steps) (acts_in (steps_in run)) a.1
+            (answers_by law.rows law.steps plan unit left now auto answer run ready free c.0),
+      )
 
 -- ---- while PLAYs were held
 
--- what was to be asked was, these events happened, and then these acts lead on
-pub stretch_on : {W : Type 0} {does : Act → W → W → Type 0} (law : Laws does) (settings : RunSettings) (is_held : Bool) (start : Start)
-    (e last : Ends) (ear ear' : Held) (wire wire' : W) (left : ℕ) (events : List Event) (more : List Act)
-    → awaited start.plan start.state ≡ None
-    → (asked : HasAsked (asker_of settings.ask is_held start) does at_once settings ear ear' wire wire' left None)
-    → (let steps : List Step = steps_asked does settings ear ear' wire wire' left None (asker_of settings.ask is_held start) asked in
-    let first : Ends = as_of start.state ear e in
-    let now : Ends = ends_asked steps ear' first in
-    let then : Ends = ends_by start.plan settings.unit now events in
-    let done : List Act = acts_in (steps_of at_once start.plan settings.unit (driver_of now.automation) events) in
-    AreMade at_once start.plan settings.unit (driver_of now.automation) events
-    → Side start.plan settings.unit (AreLed start.plan settings.unit) then (sent_down settings.unit then) more last
-    → Side start.plan settings.unit (AreLed start.plan settings.unit) first (sent_down settings.unit first)
-    ((acts_in steps ++ done) ++ more) last)
-stretch_on {W} {does} law settings is_held start e last ear ear' wire wire' left events more ready asked made s =
-    let plan : Plan = start.plan in
-    let unit : ℕ = settings.unit in
-    let steps : List Step = steps_asked does settings ear ear' wire wire' left None (asker_of settings.ask is_held start) asked in
-    let first : Ends = as_of start.state ear e in
-    let now : Ends = ends_asked steps ear' first in
-    let done : List Act = acts_in (steps_of at_once plan unit (driver_of now.automation) events) in
-    subst (λ (l : List Act). Side plan unit (AreLed plan unit) first (sent_down unit first) l last)
-    (sym (append_assoc (acts_in steps) done more))
-    (asked_on law settings is_held start e last ear ear' wire wire' left (done ++ more) ready asked
-    (events_side plan unit (AreLed plan unit) (leads_on plan unit) more last events now made s))
-
 -- nothing is awaited where the line is left
-left_ready : (plan : Plan) (stage : Stage) → LeavesBefore Confirming stage next.Leave → awaited_in plan stage ≡ None
-left_ready plan (Ready p) before = refl
-left_ready plan (Awaiting p) (inl event) = absurd event
-left_ready plan (Awaiting p) (inr to_play) = cc to_play
-left_ready plan (Ended outcome) before = refl
+left_ready : (mode : Mode) (plan : Plan) (stage : Stage) → LeavesBefore mode stage next.Leave → awaited_in plan stage ≡ None
+left_ready mode plan (Ready p) before = refl
+left_ready Plain plan (Awaiting p) (inl event) = absurd event
+left_ready Confirming plan (Awaiting p) (inl event) = absurd event
+left_ready mode plan (Awaiting p) (inr to_play) = cc to_play
+left_ready mode plan (Ended outcome) before = refl
 
 -- the plan and the first event stay
 pub start_held : {W F : Type 0} {does : Act → W → W → Type 0} {safe : F → Option (List ℕ)} {settings : RunSettings}
     {z x : Onset Held W F} → HasHeld does safe at_once settings z x → record x.start { state = z.start.state } ≡ z.start
 start_held none = refl
-start_held (held is_held ear wire count asks auto left runs is keep written turns later) = start_held later
+start_held (held is_held ear wire count signs asks auto left runs is keep written turns later) = start_held later
 
 -- where all that leaves both ends, and what it leads on to
 record HeldOn {W F : Type 0} {does : Act → W → W → Type 0} {safe : F → Option (List ℕ)} {settings : RunSettings}
@@ -194,6 +245,7 @@ record HeldOn {W F : Type 0} {does : Act → W → W → Type 0} {safe : F → O
       → Side x.start.plan settings.unit (AreLed x.start.plan settings.unit) e (sent_down settings.unit e) (acts_held h ++ more) last
   log_is : log_now (ends_held h e) ≡ log_now e ++ log_held h
   aired_is : (downs : List Turn) → aired_now (record (ends_held h e) { downs = downs }) ≡ aired_now (record e { downs = downs })
+  answers : z.signs.unanswered ≡ false → (x.signs.unanswered ≡ false) × Answers settings.unit e (ends_held h e) (acts_held h)
 
 held_on : {W F : Type 0} {does : Act → W → W → Type 0} {safe : F → Option (List ℕ)} (law : Laws does) (settings : RunSettings)
     {z x : Onset Held W F} (h : HasHeld does safe at_once settings z x) (e : Ends) → awaited x.start.plan x.start.state ≡ None
@@ -204,12 +256,13 @@ held_on law settings {z} none e ready = record {
   side = λ more last s. s;
   log_is = sym (append-nil (log_now e));
   aired_is = λ downs. refl;
+  answers = λ calm. (calm, none_answered settings.unit _);
 }
-held_on {W} {F} {does} law settings {z} {x} (held is_held ear wire count asks auto left runs is keep written turns later) e ready =
+held_on {W} {F} {does} law settings {z} {x} (held is_held ear wire count signs asks auto left runs is keep written turns later) e ready =
     let plan : Plan = x.start.plan in
     let unit : ℕ = settings.unit in
     let first : Ends = as_of x.start.state x.ear e in
-    let steps : List Step = steps_first does settings is_held x ear wire count None asks in
+    let steps : List Step = steps_first does settings is_held x ear wire count signs None asks in
     let now : Ends = ends_asked steps ear first in
     let events : List Event = runs.run.events in
     let then : Ends = ends_by plan unit now events in
@@ -222,7 +275,7 @@ held_on {W} {F} {does} law settings {z} {x} (held is_held ear wire count asks au
     ∙ ap (λ (l : List Step). done ++ acts_in l) hooks.1 ∙ append-nil done in
     let same : as_of auto.state auto.ear then ≡ then =
     ap (λ (a : Auto Held). as_of a.state a.ear then) (hooks.0 ∙ sym (driver_so plan unit now events)) in
-    let r : HeldOn later then = subst (HeldOn later) same (held_on law settings later then (left_ready plan auto.state.stage (inr is))) in
+    let r : HeldOn later then = subst (HeldOn later) same (held_on law settings later then (left_ready Confirming plan auto.state.stage (inr is))) in
     record {
       there = r.there;
       ready = r.ready;
@@ -230,21 +283,43 @@ held_on {W} {F} {does} law settings {z} {x} (held is_held ear wire count asks au
           subst (λ (l : List Act). Side plan unit (AreLed plan unit) first (sent_down unit first) l last)
           (ap (λ (l : List Act). (acts_in steps ++ l) ++ (acts_held later ++ more)) (sym acts_are)
           ∙ sym (append_assoc (acts_in steps ++ run) (acts_held later) more))
-          (stretch_on law (record settings { listens = x.turns }) is_held x.start e last x.ear ear x.world.wire wire count events
-          (acts_held later ++ more) ready asks runs.run.made (r.side more last s));
+          (stretch_on law (record settings { listens = x.turns }) is_held x.start e x.ear ear x.world.wire wire count x.signs signs
+          asks last events (acts_held later ++ more) ready runs.run.made (r.side more last s));
       log_is = r.log_is ∙ ap (λ (l : List Exchange). l ++ log_held later) (log_so plan unit now events)
           ∙ append_assoc (log_now first) _ (log_held later);
       aired_is = λ downs. r.aired_is downs
           ∙ stays (λ p l i. aired_now (record e { port = p; aired_before = i; downs = downs })) plan unit now events;
+      answers = λ calm.
+          let behind = r.answers calm in
+          let a = stretch_answers law (record settings { listens = x.turns }) is_held x.start e x.ear ear x.world.wire wire count
+          x.signs signs asks auto (Err fault.Left) runs.run ready (left_ready Confirming plan auto.state.stage (inr is)) behind.0 in
+          (a.0, answers_both unit first then (ends_held later then) (acts_in steps ++ run) (acts_held later) a.1 behind.1);
     }
 
 -- ---- in the last stretch
+
+-- nor where it is at rest
+rests_by : (plan : Plan) (unit count : ℕ) (unplayed : Bool) (reported kept : ℕ) (a a' : Auto Held) (answer : Result Ran BrokenOff)
+    → (run : IsRun at_once plan unit count a a' answer)
+    → (answer ≡ Err fault.Left → LeavesBefore plan.mode a'.state.stage next.Leave)
+    → IsAtRest (line_end_of answer unplayed reported kept) → awaited plan a'.state ≡ None
+rests_by plan unit count unplayed reported kept a a' answer run leaves rest = by answer refl rest where
+  by : (r : Result Ran BrokenOff) → answer ≡ r → IsAtRest (line_end_of r unplayed reported kept) → awaited plan a'.state ≡ None
+  by (Err fault.Left) is rest = left_ready plan.mode plan a'.state.stage (leaves is)
+  by (Ok ran.Ended) is rest =
+      ended_free plan unit count run.events (after at_once plan unit a run.events) a' answer run.more run.ending is
+  by _ is rest = absurd rest
 
 -- where it leaves both ends, and what the headline is then
 record EndedOn {W F : Type 0} {does : Act → W → W → Type 0} {safe : F → Option (List ℕ)} {settings : RunSettings}
     {x : Onset Held W F} {last : W} {end : RunEnd} (port : ClockedPort) (h : HasEnded does safe at_once settings x last end)
     (plan : Plan) (e : Ends) : Type 0 where
   side : Side plan settings.unit (AreLed plan settings.unit) e (sent_down settings.unit e) (acts_ended h) (ends_ended h e)
+  rests : IsAtRest end.line → awaited plan (state_ended h) ≡ None
+  left_side : awaited plan (state_ended h) ≡ None
+      → Side plan settings.unit (AreLed plan settings.unit) e (sent_down settings.unit e) (acts_ended h) (ends_left_by h e)
+  answers : end.signs.unanswered ≡ false → awaited plan (state_ended h) ≡ None
+      → (x.signs.unanswered ≡ false) × Answers settings.unit e (ends_left_by h e) (acts_ended h)
   headline : (asked : List Command) (downs : List Turn) → CanJoin plan port asked
       → AreJoined plan port asked (record (ends_ended h e) { downs = downs })
       → EndsHeadline plan port.clips (state_ended h) (log_now e ++ log_ended h) (aired_now (record e { downs = downs }))
@@ -254,24 +329,40 @@ ended_on : {W F : Type 0} {does : Act → W → W → Type 0} {safe : F → Opti
     → awaited x.start.plan x.start.state ≡ None
     → (h : HasEnded does safe at_once (record settings { unit = port.state.unit }) x last end)
     → EndedOn port h x.start.plan (as_of x.start.state x.ear e)
-ended_on {W} {F} {does} law headlines settings port x last end e ready (played is_held ear wire left asks plays) =
+ended_on {W} {F} {does} law headlines settings port x last end e ready (played is_held ear wire left signs asks plays) =
     let plan : Plan = x.start.plan in
     let unit : ℕ = port.state.unit in
     let first : Ends = as_of x.start.state x.ear e in
-    let now : Ends = ends_asked (steps_first does (record settings { unit = unit }) is_held x ear wire left None asks) ear first in record {
-      side = asked_on law (record settings { unit = unit; listens = x.turns }) is_held x.start e _ x.ear ear x.world.wire wire left
-          (acts_in (steps_in plays.runs.run)) ready asks
+    let now : Ends = ends_asked (steps_first does (record settings { unit = unit }) is_held x ear wire left signs None asks) ear first in
+    record {
+      side = asked_on law (record settings { unit = unit; listens = x.turns }) is_held x.start e x.ear ear x.world.wire wire left
+          x.signs signs asks _ (acts_in (steps_in plays.runs.run)) ready
           (side_of plan unit left (AreLed plan unit) (leads_on plan unit) now plays.ran plays.auto plays.runs.run);
+      rests = λ rest. rests_by plan unit left _ _ plays.kept _ plays.auto plays.ran plays.runs.run plays.left_before
+          (subst IsAtRest plays.line_is rest);
+      left_side = λ free. asked_on law (record settings { unit = unit; listens = x.turns }) is_held x.start e x.ear ear x.world.wire
+          wire left x.signs signs asks _ (acts_in (steps_in plays.runs.run)) ready
+          (free_side law.rows law.steps plan unit left _ plays.auto plays.ran plays.runs.run ready free now refl);
+      answers = λ calm free. stretch_answers law (record settings { unit = unit; listens = x.turns }) is_held x.start e x.ear ear
+          x.world.wire wire left x.signs signs asks plays.auto plays.ran plays.runs.run ready free
+          (ap (λ (s : Signs). s.unanswered) (sym plays.signs_are) ∙ calm);
       headline = λ asked downs can j. of_joined headlines plan port asked now left plays.ran plays.auto downs can plays.runs.run j;
     }
-ended_on {W} {F} {does} law headlines settings port x last end e ready (unbegun is_held ear left line asks is reports) =
+ended_on {W} {F} {does} law headlines settings port x last end e ready (unbegun is_held ear left signs line asks is reports) =
     let plan : Plan = x.start.plan in
     let unit : ℕ = port.state.unit in
     let first : Ends = as_of x.start.state x.ear e in
-    let steps : List Step = steps_first does (record settings { unit = unit }) is_held x ear last left (Some line) asks in record {
-      side = asking_side plan unit first (commands_kept (kept_in steps)) ear (acts_in steps) ready
-          (asked_by law (record settings { unit = unit; listens = x.turns }) is_held x.start e x.ear ear x.world.wire last left (Some line)
-          (asker_of settings.ask is_held x.start) refl asks).0;
+    let steps : List Step = steps_first does (record settings { unit = unit }) is_held x ear last left signs (Some line) asks in
+    let side = asking_side plan unit first (commands_kept (kept_in steps)) ear (acts_in steps) ready
+    (asked_by law (record settings { unit = unit; listens = x.turns }) is_held x.start e x.ear ear x.world.wire last left x.signs signs
+    (Some line) (asker_of settings.ask is_held x.start) refl asks).0 in
+    record {
+      side = side;
+      rests = λ rest. ready;
+      left_side = λ free. side;
+      answers = λ calm free. asked_answers law (record settings { unit = unit; listens = x.turns }) is_held x.start e x.ear ear
+          x.world.wire last left x.signs signs (Some line) (asker_of settings.ask is_held x.start) refl asks
+          (ap (λ (s : Signs). s.unanswered) (sym is.1) ∙ calm);
       headline = λ asked downs can j.
           subst (λ (l : List Exchange). EndsHeadline plan port.clips x.start.state l (aired_now (record first { downs = downs })))
           (sym (append-nil (log_now first)))
@@ -281,8 +372,8 @@ ended_on {W} {F} {does} law headlines settings port x last end e ready (unbegun 
 ended_reports : {W F : Type 0} {does : Act → W → W → Type 0} {safe : F → Option (List ℕ)} {settings : RunSettings}
     (x : Onset Held W F) (last : W) (end : RunEnd) → (h : HasEnded does safe at_once settings x last end)
     → Reports x.start.from (state_ended h) end
-ended_reports x last end (played is_held ear wire left asks plays) = plays.reports
-ended_reports x last end (unbegun is_held ear left line asks is reports) = reports
+ended_reports x last end (played is_held ear wire left signs asks plays) = plays.reports
+ended_reports x last end (unbegun is_held ear left signs line asks is reports) = reports
 
 -- ---- all of it
 
@@ -318,6 +409,25 @@ module _ {W F : Type 0} {does : Act → W → W → Type 0} {safe : F → Option
       let then : Ends = ends_ended tried.ended (ends_held tried.held e) in
       led_by plan port.state.unit e (acts_tried tried) then turns below aired (before.side (acts_ended tried.ended) then since.side)
       served c
+
+  pub tried_rests : IsAtRest end.line → awaited plan (state_tried tried) ≡ None
+  tried_rests = since.rests
+
+  -- if it awaits nothing then, without the next command
+  pub tried_left : (turns : List Turn) (below : List Act) (aired : List Item) → awaited plan (state_tried tried) ≡ None
+      → ServedSo e turns below aired → AreCarried port.state.unit e (acts_tried tried) below
+      → AreLed plan port.state.unit e (ends_left tried e (e.downs ++ turns))
+  tried_left turns below aired free served c =
+      let last : Ends = ends_left_by tried.ended (ends_held tried.held e) in
+      led_by plan port.state.unit e (acts_tried tried) last turns below aired
+      (before.side (acts_ended tried.ended) last (since.left_side free)) served c
+
+  pub tried_answers : end.signs.unanswered ≡ false → awaited plan (state_tried tried) ≡ None
+      → Answers port.state.unit e (ends_left_by tried.ended (ends_held tried.held e)) (acts_tried tried)
+  tried_answers calm free =
+      let a = since.answers calm free in
+      answers_both port.state.unit e (ends_held tried.held e) (ends_left_by tried.ended (ends_held tried.held e))
+      (acts_held tried.held) (acts_ended tried.ended) (before.answers a.0).1 a.1
 
   pub tried_headline : (asked : List Command) (downs : List Turn) → CanJoin plan port asked
       → AreJoined plan port asked (ends_tried tried e downs)

@@ -55,4 +55,4 @@ never_silent law plan unit count e answer a' turns below aired run all served c 
     (λ now autos a front quiet j. absurd (never_quiet a (among (came_in autos) (came_in front.0) a
     (subst (All IsPiece) (sym (came_of_run law plan unit count (driver_of e.automation) a' answer run)
     ∙ next_in list autos front.0 a front.1) all)) quiet)) served.whole served.answers
-    (served.carried unit list c)
+    (served.carried unit e list c)

@@ -28,6 +28,9 @@ use Rattle.vdcp_laws.proofs.Bytes.{front_all, nothing_unfinished}
 use Rattle.vdcp_laws.proofs.Carrying.{sent_both}
 use Rattle.vdcp_laws.proofs.Leading.{ServersGoOn, IsMomentOf, turns_whole}
 
+abbrev pub HooksGoOn : Type 0
+HooksGoOn = (s : Service) (xs ys : List Turn) → hook_steps s (xs ++ ys) ≡ hook_steps s xs ++ hook_steps (left_by s xs) ys
+
 -- the laws below: of vdcp_frame written_is_read, and of vdcp_drive servers_go_on
 pub record Laws : Type 0 where
   pub spelt : Spelt
@@ -36,13 +39,17 @@ pub record Laws : Type 0 where
       → (messages_of bytes ≡ ms) × (end_of bytes ≡ clean)
   pub left : (s : Service) (xs ys : List Turn) → left_by s (xs ++ ys) ≡ left_by (left_by s xs) ys
   pub acts : (s : Service) (xs ys : List Turn) → acts_of s (xs ++ ys) ≡ acts_of s xs ++ acts_of (left_by s xs) ys
-  pub hooks : (s : Service) (xs ys : List Turn) → hook_steps s (xs ++ ys) ≡ hook_steps s xs ++ hook_steps (left_by s xs) ys
+  pub hooks : HooksGoOn
 
 pub items_both : (xs ys : List HookStep) → items_in (xs ++ ys) ≡ items_in xs ++ items_in ys
 items_both [] ys = refl
 items_both (asked due ∷ xs) ys = items_both xs ys
 items_both (lent look ∷ xs) ys = ap (λ (l : List Item). option_to_list look.aired ++ l) (items_both xs ys)
     ∙ sym (append_assoc (option_to_list look.aired) (items_in xs) (items_in ys))
+
+pub items_on : (law : HooksGoOn) (s : Service) (xs ys : List Turn)
+    → items_in (hook_steps s (xs ++ ys)) ≡ items_in (hook_steps s xs) ++ items_in (hook_steps (left_by s xs) ys)
+items_on law s xs ys = ap items_in (law s xs ys) ∙ items_both (hook_steps s xs) (hook_steps (left_by s xs) ys)
 
 pub at_once_both : (xs ys : List Turn) → at_once_for (xs ++ ys) ≡ at_once_for xs ++ at_once_for ys
 at_once_both [] ys = refl
@@ -65,8 +72,7 @@ turn_on law s t what later one more =
     let all : at_once_for (what ∷ later) ≡ us ++ at_once_for later = at_once_both (what ∷ []) later in record {
       acts = ap (acts_of t) all ∙ law.acts t us (at_once_for later) ∙ ap₂ (λ (l m : List Act). l ++ m) one.acts more.acts
           ∙ sym (law.acts s (what ∷ []) later);
-      items = ap (λ (l : List Turn). items_in (hook_steps t l)) all ∙ ap items_in (law.hooks t us (at_once_for later))
-          ∙ items_both (hook_steps t us) (hook_steps (left_by t us) (at_once_for later))
+      items = ap (λ (l : List Turn). items_in (hook_steps t l)) all ∙ items_on law.hooks t us (at_once_for later)
           ∙ ap₂ (λ (l m : List Item). l ++ m) one.items more.items
           ∙ sym (items_both (hook_steps s (what ∷ [])) (hook_steps (serves what s) later));
       port = ap (λ (l : List Turn). (left_by t l).port) all

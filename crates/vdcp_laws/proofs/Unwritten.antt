@@ -1,17 +1,14 @@
 -- What ended the last exchange waits for a later row. A killed run goes on as if that hadn't been heard.
-use Rattle.std.proofs.Common.{arith, ℕ, ◌≡◌, Bool, true, false, List, [], ◌∷◌, ◌++◌, map, refl, sym, ap, subst, ◌∙◌, append_assoc, append-nil}
+use Rattle.std.proofs.Common.{ℕ, ◌≡◌, Bool, true, false, List, [], ◌∷◌, ◌++◌, map, refl, sym, ap, subst, ◌∙◌, append_assoc, append-nil}
 use Rattle.std.specs.Option.{option_map_or, option_to_list}
 use Rattle.std.specs.Prelude.{Option, None, Some}
 use Rattle.vdcp_words.specs.declared.command.Command.{Command}
 use Rattle.vdcp_auto.specs.Plan.{Plan}
-use Rattle.vdcp_auto.specs.State.{Stage, Ready, Awaiting, Ended, State}
-use Rattle.vdcp_auto.specs.Turn as turns
-use Rattle.vdcp_auto.specs.Turn.{awaited, awaited_in, came_to, ended_by, ended_in, exchange_of, given, outcome_of, ticked, transition_of, unanswered_after}
+use Rattle.vdcp_auto.specs.State.{State}
+use Rattle.vdcp_auto.specs.Turn.{awaited, ended_by, ended_in, exchange_of, given, outcome_of, ticked}
 use Rattle.vdcp_auto.specs.declared.exchange.Exchange.{Exchange}
 use Rattle.vdcp_auto.specs.declared.exchange.Heard.{Heard}
 use Rattle.vdcp_auto.specs.declared.phase.Mode.{Mode}
-use Rattle.vdcp_auto.specs.declared.phase.Transition.{Transition}
-use Rattle.vdcp_auto.specs.declared.phase.Transition.TheVariants.{Goes}
 use Rattle.vdcp_wire.specs.Acts.{Act, brings}
 use Rattle.vdcp_wire.specs.Wires.{Arrival}
 use Rattle.vdcp_drive.specs.Auto.{AreMade, Auto, Event, arrives, calls, ended}
@@ -31,27 +28,11 @@ use Rattle.vdcp_laws.specs.Carried.{MayGive, driver_of, next}
 use Rattle.vdcp_laws.specs.OneConnection.{ends_by, hears_in, heeds_in}
 use Rattle.vdcp_laws.specs.TwoEnds.{Ends, note_for, with_command}
 use Rattle.vdcp_laws.proofs.Carrying.{first_acts, round_so}
+use Rattle.vdcp_laws.proofs.Commands.{awaits_none_in, exchange_is}
 use Rattle.vdcp_laws.proofs.Noted.{ends_in, moved, round_rows}
 use Rattle.vdcp_laws.proofs.Same.{listens_so}
 
 -- An arrival ends one exchange at most.
-
-awaits_none : (plan : Plan) (transition : Transition) (n : ℕ) (s : State)
-    → awaited plan (turns.state_after transition n s) ≡ None
-awaits_none plan (Goes p) n s = refl
-awaits_none plan transition n s = refl
-
-awaits_none_in : (plan : Plan) (stage : Stage) (e : Exchange) (s : State) → awaited_in plan stage ≡ Some e.command
-    → awaited plan (ended_in plan stage e s) ≡ None
-awaits_none_in plan (Ready p) e s h = cc
-awaits_none_in plan (Awaiting p) e s h =
-    awaits_none plan (transition_of plan s p e) (unanswered_after plan.mode e s.unanswered) s
-awaits_none_in plan (Ended outcome) e s h = cc
-
-command_is : (mode : Mode) (h : Option Heard) (c : Option Command) (e : Exchange) → exchange_of mode h c ≡ Some e
-    → c ≡ Some e.command
-command_is mode h None e is = cc
-command_is mode h (Some c) e is = grind arith
 
 ends_none : (mode : Mode) (h : Option Heard) (c : Option Command) → c ≡ None → exchange_of mode h c ≡ None
 ends_none mode h None is = refl
@@ -78,7 +59,7 @@ one_first : (plan : Plan) (h : Option Heard) (hs : List (Option Heard)) (s : Sta
 one_first plan h hs s None is later = subst AtMostOne (sym (ended_so plan h hs s None is)) later
 one_first plan h hs s (Some e) is later = subst AtMostOne (sym (ended_so plan h hs s (Some e) is
     ∙ ap (λ (l : List Exchange). e ∷ l) (ended_none plan hs (ended_in plan s.stage e s)
-    (awaits_none_in plan s.stage e s (command_is plan.mode h (awaited plan s) e is))))) (one e)
+    (awaits_none_in plan s.stage e s (exchange_is plan.mode h (awaited plan s) e is))))) (one e)
 
 ended_once : (plan : Plan) (hs : List (Option Heard)) (s : State) → AtMostOne (ended plan hs s)
 ended_once plan [] s = none

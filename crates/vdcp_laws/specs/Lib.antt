@@ -15,3 +15,5 @@ pub mod AsrunLaw
 pub mod LossyEvents
 pub mod Sessions
 pub mod Servers
+pub mod AsNew
+pub mod Stays

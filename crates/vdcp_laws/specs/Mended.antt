@@ -3,7 +3,7 @@ use Rattle.std.specs.Prelude.{ℕ, ◌≡◌, ◌⊎◌, List, [], ◌∷◌, �
 use Rattle.vdcp_value.specs.declared.part.Item.{Item}
 use Rattle.vdcp_words.specs.declared.command.Command.{Command}
 use Rattle.vdcp_words.specs.declared.command.Command.TheVariants as command
-use Rattle.vdcp_port.specs.Clock.{ClockedPort}
+use Rattle.vdcp_port.specs.Clock.{ClockedPort, after_frames}
 use Rattle.vdcp_auto.specs.Plan.{Plan}
 use Rattle.vdcp_auto.specs.State.{State}
 use Rattle.vdcp_auto.specs.Turn.{awaited, given, outcome_of, start}
@@ -64,9 +64,9 @@ pub record IsSession (plan : Plan) (port : ClockedPort) (asked : List Command) (
   pub thinned : IsThinned e.notes (notes_in (rows ++ rows_left waits))
   pub unseen : seen_before waits ≡ None
 
--- what a new connection finds at a server whose port was left so: that port, or one that was made anew
+-- what a new connection finds at a server whose port was left so: that port, after the frames since, or one that was made anew
 pub data Finds (left : ClockedPort) : ClockedPort → Type 0 where
-  the_same : Finds left left
+  the_same : (frames : ℕ) → Finds left (after_frames frames left)
   a_new_one : Finds left (made_anew left)
 
 -- the controller of these rows, once what is open there has timed out

@@ -26,16 +26,16 @@ pub data Counts (s : Service) (done : List Act) : List Act → Type 0 where
   unanswered : done ≡ brings silence ∷ sends [] ∷ [] → Counts s done (fails ∷ [])
 
 -- It made these turns, as one has them that hears at once; this is what its wire did, and this has gone to air.
-pub data IsServed {W H : Type 0} (does : Act → W → W → Type 0) (can : Bool) (hooks : HookStep → H → H → Type 0) (e : Ends) :
+pub data IsServed {W H : Type 0} (does : Act → W → W → Type 0) (can : Bool) (hooks : HookStep → H → H → Type 0) : Ends →
     List Turn → List Act → List Item → Type 0 where
   -- it hears at once
-  prompt : {count : ℕ} {server server' : Serving W} {h h' : H} {result : Result TurnsEnd DriveFault}
+  prompt : {e : Ends} {count : ℕ} {server server' : Serving W} {h h' : H} {result : Result TurnsEnd DriveFault}
       → (s : HasServed does can (λ steps. Chain hooks steps h h') count (server_now e) server server' result)
       → (last : List Act) → Counts (left_by (server_now e) s.turns) s.done last
       → IsServed does can hooks e (all_turns s.turns last) (acts_of (server_now e) s.turns ++ s.done)
       (aired_now (record e { downs = e.downs ++ all_turns s.turns last }))
   -- It hears at silences, as before these ends; no burst has a fault, and each silence comes after whole commands.
-  untorn : {count : ℕ} {server server' : Serving W} {h h' : H} {result : Result TurnsEnd DriveFault} → (before : List Turn)
+  untorn : {e : Ends} {count : ℕ} {server server' : Serving W} {h h' : H} {result : Result TurnsEnd DriveFault} → (before : List Turn)
       → e.downs ≡ at_once_for before
       → (s : HasServed does can (λ steps. Chain hooks steps h h') count (server_at_silences e.port before) server server' result)
       → (last : List Act) → Counts (left_by (server_at_silences e.port before) s.turns) s.done last
@@ -43,6 +43,10 @@ pub data IsServed {W H : Type 0} (does : Act → W → W → Type 0) (can : Bool
       → IsServed does can hooks e (at_once_for (all_turns s.turns last))
       (acts_of (server_at_silences e.port before) s.turns ++ s.done)
       (e.aired_before ++ items_in (hook_steps (begins AtSilences e.port) (before ++ all_turns s.turns last)))
+  -- It went on from other ends, whose server was as that of these, as over a connection of which nothing was on its way.
+  went_on : {e other : Ends} {turns : List Turn} {below : List Act} (since : List Item) → server_now e ≡ server_now other
+      → IsServed does can hooks other turns below (aired_now other ++ since)
+      → IsServed does can hooks e turns below (aired_now e ++ since)
 
 -- What a server did from these ends on: its wire, its hooks, and the turns that this was. They leave the port that it leaves,
 -- and what went to air in them is what its hooks were lent.

@@ -26,6 +26,7 @@ use Rattle.vdcp_run.specs.Asking.{Asker, HasAsked, Start, asker_of}
 use Rattle.vdcp_run.specs.Session.{AsksFirst, HasEnded, HasHeld, HasTried, Onset, held, none, played, unbegun}
 use Rattle.vdcp_run.specs.declared.run_end.LineEnd.{LineEnd}
 use Rattle.vdcp_run.specs.declared.run_end.RunEnd.{RunEnd}
+use Rattle.vdcp_run.specs.declared.run_end.Signs.{Signs}
 use Rattle.vdcp_run.specs.declared.settings.RunSettings.{RunSettings}
 
 -- what begins with these ends
@@ -35,16 +36,17 @@ start_at plan from e = record { plan = plan; from = from; state = e.automation.s
 -- ---- while it asked
 
 abbrev pub steps_asked : {W : Type 0} (does : Act → W → W → Type 0) (settings : RunSettings) (ear ear' : Held) (wire wire' : W)
-    (left : ℕ) (line : Option LineEnd) (asker : Option Asker)
-    → HasAsked asker does at_once settings ear ear' wire wire' left line → List Step
-steps_asked does settings ear ear' wire wire' left line None h = []
-steps_asked does settings ear ear' wire wire' left line (Some asker) h = steps_in h.comes.runs.run
+    (left : ℕ) (signs signs' : Signs) (line : Option LineEnd) (asker : Option Asker)
+    → HasAsked asker does at_once settings ear ear' wire wire' left signs signs' line → List Step
+steps_asked does settings ear ear' wire wire' left signs signs' line None h = []
+steps_asked does settings ear ear' wire wire' left signs signs' line (Some asker) h = steps_in h.comes.runs.run
 
 abbrev pub steps_first : {W F : Type 0} (does : Act → W → W → Type 0) (settings : RunSettings) (is_held : Bool)
-    (x : Onset Held W F) (ear : Held) (wire : W) (left : ℕ) (line : Option LineEnd)
-    → AsksFirst does at_once settings is_held x ear wire left line → List Step
-steps_first does settings is_held x ear wire left line h =
-    steps_asked does (record settings { listens = x.turns }) x.ear ear x.world.wire wire left line (asker_of settings.ask is_held x.start) h
+    (x : Onset Held W F) (ear : Held) (wire : W) (left : ℕ) (signs : Signs) (line : Option LineEnd)
+    → AsksFirst does at_once settings is_held x ear wire left signs line → List Step
+steps_first does settings is_held x ear wire left signs line h =
+    steps_asked does (record settings { listens = x.turns }) x.ear ear x.world.wire wire left x.signs signs line
+    (asker_of settings.ask is_held x.start) h
 
 -- where these steps, which left this ear, leave the ends
 abbrev pub ends_asked : List Step → Held → Ends → Ends
@@ -56,51 +58,59 @@ ends_asked steps ear e = asked_first (commands_kept (kept_in steps)) ear (bytes_
 abbrev pub acts_held : {W F : Type 0} {does : Act → W → W → Type 0} {safe : F → Option (List ℕ)} {settings : RunSettings}
     {z x : Onset Held W F} → HasHeld does safe at_once settings z x → List Act
 acts_held none = []
-acts_held {does} {settings} {x} (held is_held ear wire count asks auto left runs is keep written turns later) =
-    (acts_in (steps_first does settings is_held x ear wire count None asks) ++ acts_in (steps_in runs.run)) ++ acts_held later
+acts_held {does} {settings} {x} (held is_held ear wire count signs asks auto left runs is keep written turns later) =
+    (acts_in (steps_first does settings is_held x ear wire count signs None asks) ++ acts_in (steps_in runs.run)) ++ acts_held later
 
 -- the exchanges that ended
 abbrev pub log_held : {W F : Type 0} {does : Act → W → W → Type 0} {safe : F → Option (List ℕ)} {settings : RunSettings}
     {z x : Onset Held W F} → HasHeld does safe at_once settings z x → List Exchange
 log_held none = []
-log_held {settings} {x} (held is_held ear wire count asks auto left runs is keep written turns later) =
+log_held {settings} {x} (held is_held ear wire count signs asks auto left runs is keep written turns later) =
     log_of at_once x.start.plan settings.unit (record { ear = ear; state = x.start.state }) runs.run.events ++ log_held later
 
 -- where this leaves the ends
 abbrev pub ends_held : {W F : Type 0} {does : Act → W → W → Type 0} {safe : F → Option (List ℕ)} {settings : RunSettings}
     {z x : Onset Held W F} → HasHeld does safe at_once settings z x → Ends → Ends
 ends_held none e = e
-ends_held {does} {settings} {x} (held is_held ear wire count asks auto left runs is keep written turns later) e =
+ends_held {does} {settings} {x} (held is_held ear wire count signs asks auto left runs is keep written turns later) e =
     ends_held later (ends_by x.start.plan settings.unit
-    (ends_asked (steps_first does settings is_held x ear wire count None asks) ear e) runs.run.events)
+    (ends_asked (steps_first does settings is_held x ear wire count signs None asks) ear e) runs.run.events)
 
 -- ---- in the last stretch
 
 abbrev pub acts_ended : {W F : Type 0} {does : Act → W → W → Type 0} {safe : F → Option (List ℕ)} {settings : RunSettings}
     {x : Onset Held W F} {last : W} {end : RunEnd} → HasEnded does safe at_once settings x last end → List Act
-acts_ended {does} {settings} {x} (played is_held ear wire left asks plays) =
-    acts_in (steps_first does settings is_held x ear wire left None asks) ++ acts_in (steps_in plays.runs.run)
-acts_ended {does} {settings} {x} {last} (unbegun is_held ear left line asks is reports) =
-    acts_in (steps_first does settings is_held x ear last left (Some line) asks)
+acts_ended {does} {settings} {x} (played is_held ear wire left signs asks plays) =
+    acts_in (steps_first does settings is_held x ear wire left signs None asks) ++ acts_in (steps_in plays.runs.run)
+acts_ended {does} {settings} {x} {last} (unbegun is_held ear left signs line asks is reports) =
+    acts_in (steps_first does settings is_held x ear last left signs (Some line) asks)
 
 abbrev pub state_ended : {W F : Type 0} {does : Act → W → W → Type 0} {safe : F → Option (List ℕ)} {settings : RunSettings}
     {x : Onset Held W F} {last : W} {end : RunEnd} → HasEnded does safe at_once settings x last end → State
-state_ended (played is_held ear wire left asks plays) = plays.auto.state
-state_ended {x} (unbegun is_held ear left line asks is reports) = x.start.state
+state_ended (played is_held ear wire left signs asks plays) = plays.auto.state
+state_ended {x} (unbegun is_held ear left signs line asks is reports) = x.start.state
 
 abbrev pub log_ended : {W F : Type 0} {does : Act → W → W → Type 0} {safe : F → Option (List ℕ)} {settings : RunSettings}
     {x : Onset Held W F} {last : W} {end : RunEnd} → HasEnded does safe at_once settings x last end → List Exchange
-log_ended {settings} {x} (played is_held ear wire left asks plays) =
+log_ended {settings} {x} (played is_held ear wire left signs asks plays) =
     log_of at_once x.start.plan settings.unit (record { ear = ear; state = x.start.state }) plays.runs.run.events
-log_ended (unbegun is_held ear left line asks is reports) = []
+log_ended (unbegun is_held ear left signs line asks is reports) = []
 
 abbrev pub ends_ended : {W F : Type 0} {does : Act → W → W → Type 0} {safe : F → Option (List ℕ)} {settings : RunSettings}
     {x : Onset Held W F} {last : W} {end : RunEnd} → HasEnded does safe at_once settings x last end → Ends → Ends
-ends_ended {does} {settings} {x} (played is_held ear wire left asks plays) e =
+ends_ended {does} {settings} {x} (played is_held ear wire left signs asks plays) e =
     with_command x.start.plan (ends_by x.start.plan settings.unit
-    (ends_asked (steps_first does settings is_held x ear wire left None asks) ear e) plays.runs.run.events)
-ends_ended {does} {settings} {x} {last} (unbegun is_held ear left line asks is reports) e =
-    ends_asked (steps_first does settings is_held x ear last left (Some line) asks) ear e
+    (ends_asked (steps_first does settings is_held x ear wire left signs None asks) ear e) plays.runs.run.events)
+ends_ended {does} {settings} {x} {last} (unbegun is_held ear left signs line asks is reports) e =
+    ends_asked (steps_first does settings is_held x ear last left signs (Some line) asks) ear e
+
+-- the same without the next command, as if nothing is awaited then
+abbrev pub ends_left_by : {W F : Type 0} {does : Act → W → W → Type 0} {safe : F → Option (List ℕ)} {settings : RunSettings}
+    {x : Onset Held W F} {last : W} {end : RunEnd} → HasEnded does safe at_once settings x last end → Ends → Ends
+ends_left_by {does} {settings} {x} (played is_held ear wire left signs asks plays) e = ends_by x.start.plan settings.unit
+    (ends_asked (steps_first does settings is_held x ear wire left signs None asks) ear e) plays.runs.run.events
+ends_left_by {does} {settings} {x} {last} (unbegun is_held ear left signs line asks is reports) e =
+    ends_asked (steps_first does settings is_held x ear last left signs (Some line) asks) ear e
 
 -- ---- in all
 
@@ -124,6 +134,11 @@ abbrev pub ends_tried : {W F : Type 0} {does : Act → W → W → Type 0} {safe
     {x : Onset Held W F} {last : W} {end : RunEnd} → HasTried does safe at_once settings x last end → Ends → List Turn → Ends
 ends_tried tried e downs = record (ends_ended tried.ended (ends_held tried.held e)) { downs = downs }
 
+-- and if it awaits nothing then
+abbrev pub ends_left : {W F : Type 0} {does : Act → W → W → Type 0} {safe : F → Option (List ℕ)} {settings : RunSettings}
+    {x : Onset Held W F} {last : W} {end : RunEnd} → HasTried does safe at_once settings x last end → Ends → List Turn → Ends
+ends_left tried e downs = record (ends_left_by tried.ended (ends_held tried.held e)) { downs = downs }
+
 -- ---- up to a kill
 
 -- what was to be asked beside these ends was, and the list is begun
@@ -134,13 +149,15 @@ pub record AsksAt {W : Type 0} (does : Act → W → W → Type 0) (plan : Plan)
   pub wire : W
   pub wire' : W
   pub left : ℕ
+  pub signs : Signs
+  pub signs' : Signs
   pub asked : HasAsked (asker_of settings.ask is_held (start_at plan from e)) does at_once (record settings { unit = unit })
-      e.automation.held ear wire wire' left None
+      e.automation.held ear wire wire' left signs signs' None
 
 abbrev pub questions_at : {W : Type 0} {does : Act → W → W → Type 0} {plan : Plan} {from unit : ℕ} {e : Ends}
     → AsksAt does plan from unit e → List Step
 questions_at {does} {plan} {from} {unit} {e} a = steps_asked does (record a.settings { unit = unit }) e.automation.held a.ear a.wire
-    a.wire' a.left None (asker_of a.settings.ask a.is_held (start_at plan from e)) a.asked
+    a.wire' a.left a.signs a.signs' None (asker_of a.settings.ask a.is_held (start_at plan from e)) a.asked
 
 abbrev pub asked_at : {W : Type 0} {does : Act → W → W → Type 0} {plan : Plan} {from unit : ℕ} {e : Ends}
     → AsksAt does plan from unit e → Ends

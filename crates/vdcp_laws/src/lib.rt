@@ -7,6 +7,7 @@ mod killed_runs;
 mod lossy_lines;
 mod serve_calls;
 mod sessions;
+mod stays;
 mod two_ends;
 
 pub use asrun_lists::{
@@ -21,9 +22,11 @@ pub use serve_calls::what_is_left_is_served;
 pub use sessions::{
     a_killed_session_is_safe, a_session_keeps_the_headline, sessions_keep_the_headline,
 };
+pub use stays::a_kept_port_goes_on;
 pub use two_ends::{
     a_carried_run_keeps_the_headline, a_journal_makes_the_automation, a_kill_loses_what_came_since,
-    ends_in_time_are_a_channel, nothing_airs_after_a_complete_end,
-    several_runs_air_each_event_once, two_ends_are_a_late_channel, two_ends_keep_the_headline,
-    untorn_turns_are_at_once, what_is_never_silent_is_in_time,
+    an_answered_connection_is_as_new, ends_in_time_are_a_channel,
+    nothing_airs_after_a_complete_end, several_runs_air_each_event_once,
+    two_ends_are_a_late_channel, two_ends_keep_the_headline, untorn_turns_are_at_once,
+    what_is_never_silent_is_in_time,
 };

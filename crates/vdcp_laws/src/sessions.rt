@@ -1,5 +1,5 @@
 //! The laws of what `vdcp run` does over a connection, from its first question to its last byte, and over the next one.
-ghost use Rattle.std.specs.Prelude.{ℕ, ◌≡◌, ◌∷◌, ◌++◌, [], List, None, Option};
+ghost use Rattle.std.specs.Prelude.{ℕ, ◌≡◌, ◌∷◌, ◌++◌, [], false, List, None, Option};
 ghost use Rattle.vdcp_value.specs.declared.clip_id.ClipId.{ClipId};
 ghost use Rattle.vdcp_value.specs.declared.part.Item.{Item};
 ghost use Rattle.vdcp_value.specs.declared.rate.Rate.{Rate};
@@ -26,17 +26,18 @@ ghost use Rattle.vdcp_journal_file.specs.Recorded.{WaitsSince};
 ghost use Rattle.vdcp_journal_file.specs.Recording.{Recording, rows_left};
 ghost use Rattle.vdcp_journal_file.specs.declared.pending.Pending.{Pending};
 ghost use Rattle.vdcp_list.specs.Asrun.{asrun_text};
+ghost use Rattle.vdcp_laws.specs.AsNew.{AreAnswered};
 ghost use Rattle.vdcp_laws.specs.AsrunLaw.{IsOfAired};
 ghost use Rattle.vdcp_laws.specs.Carried.{AreCarried, MayGive, driver_of};
 ghost use Rattle.vdcp_laws.specs.EndsHeadline.{EndsHeadline};
 ghost use Rattle.vdcp_laws.specs.Mended.{AreOfJoined, Finds, IsSession, anew, state_in};
 ghost use Rattle.vdcp_laws.specs.OneConnection.{ends_by};
 ghost use Rattle.vdcp_laws.specs.Servers.{IsServed};
-ghost use Rattle.vdcp_laws.specs.Sessions.{AsksAt, IsHeldOn, acts_tried, asked_at, ends_tried, log_tried, questions_at, start_at, state_tried};
-ghost use Rattle.vdcp_laws.specs.TwoEnds.{AreJoined, CanJoin, Ends, asked_first, bytes_in, connected_anew, log_now, new_ends, port_now};
+ghost use Rattle.vdcp_laws.specs.Sessions.{AsksAt, IsHeldOn, acts_tried, asked_at, ends_left, ends_tried, log_tried, questions_at, start_at, state_tried};
+ghost use Rattle.vdcp_laws.specs.TwoEnds.{AreJoined, CanJoin, Ends, aired_now, asked_first, bytes_in, connected_anew, log_now, new_ends, port_now};
 ghost use Rattle.vdcp_run.specs.Asking.{AreAsked, Start, over};
 ghost use Rattle.vdcp_run.specs.Ends.{Reports};
-ghost use Rattle.vdcp_run.specs.Run.{reported_text};
+ghost use Rattle.vdcp_run.specs.Run.{IsAtRest, reported_text};
 ghost use Rattle.vdcp_run.specs.Session.{HasTried, TriesOver, onset_of, signs_at_first};
 ghost use Rattle.vdcp_run.specs.declared.run_end.RunEnd.{RunEnd};
 ghost use Rattle.vdcp_run.specs.declared.run_end.Signs.{Signs};
@@ -45,6 +46,7 @@ ghost use Rattle.vdcp_run.specs.declared.settings.RunSettings.{RunSettings};
 use crate::killed_runs::a_mended_journal_is_gone_on_with;
 use crate::two_ends::{
     a_journal_makes_the_automation, two_ends_are_a_late_channel, untorn_turns_are_at_once,
+    what_is_below,
 };
 use vdcp_drive::{AtOnce, Hearing, ServerHooks};
 use vdcp_journal_file::Disk;
@@ -74,6 +76,29 @@ pub fn a_session_keeps_the_headline<C: Catalogue, A: Wire, D: Disk, B: Wire, H: 
         IsServed B.does H.can_act H.does e turns below aired →
         AreCarried port.state.unit e (acts_tried tried) below →
         AreJoined plan port asked (ends_tried tried e (e.downs ++ turns)) }
+    // A session that leaves its line at rest, with each command answered, leaves nothing on its way.
+    ensures answered { (plan : Plan) (from : ℕ) (settings : RunSettings) (port : ClockedPort) (asked : List Command) (e : Ends)
+        (wire last : A) (recorder : Option (Recording D)) (count : ℕ) (signs : Signs) (end : RunEnd) (turns : List Turn)
+        (below : List Act) (aired : List Item) →
+        CanJoin plan port asked → AreJoined plan port asked e → AreAnswered e → awaited plan e.automation.state ≡ None →
+        (tried : HasTried A.does D.safe at_once (record settings { unit = port.state.unit })
+        (onset_of (start_at plan from e) e.automation.held (over wire recorder) count signs) last end) →
+        end.signs.unanswered ≡ false → IsAtRest end.line →
+        IsServed B.does H.can_act H.does e turns below aired →
+        AreCarried port.state.unit e (acts_tried tried) below → let now : Ends = ends_left tried e (e.downs ++ turns) in
+        AreJoined plan port asked now × AreAnswered now }
+    // If nothing is on its way, the headline holds of the next one over the same wire, of whatever list, and of what airs then.
+    ensures follows { (plan next : Plan) (from : ℕ) (settings : RunSettings) (port : ClockedPort) (asked : List Command) (e : Ends)
+        (wire last : A) (recorder : Option (Recording D)) (count : ℕ) (signs : Signs) (end : RunEnd) (turns : List Turn)
+        (below : List Act) (since : List Item) →
+        CanJoin plan port asked → AreJoined plan port asked e → AreAnswered e →
+        let now : ClockedPort = port_now e in let new : Ends = new_ends now [] in CanJoin next now [] →
+        (tried : HasTried A.does D.safe at_once (record settings { unit = now.state.unit })
+        (onset_of (start_at next from new) (holds []) (over wire recorder) count signs) last end) →
+        IsServed B.does H.can_act H.does e turns below (aired_now e ++ since) →
+        AreCarried now.state.unit e (acts_tried tried) below →
+        EndsHeadline next now.clips (state_tried tried) (log_tried tried) since
+        × AreJoined next now [] (ends_tried tried new turns) }
     // What it reports is that of the headline.
     ensures reported { (plan : Plan) (from : ℕ) (settings : RunSettings) (e : Ends) (wire last : A) (recorder : Option (Recording D))
         (count : ℕ) (signs : Signs) (end : RunEnd) → (tried : HasTried A.does D.safe at_once settings
@@ -90,6 +115,7 @@ pub fn a_session_keeps_the_headline<C: Catalogue, A: Wire, D: Disk, B: Wire, H: 
         HasTried A.does D.safe at_once (record settings { hearing = Hearing.AtOnce })
         (onset_of start (holds []) (over wire recorder) settings.listens signs_at_first) last end }
 {
+    what_is_below();
     two_ends_are_a_late_channel();
     vdcp_world::laws::a_late_line_keeps_the_headline();
     untorn_turns_are_at_once();
@@ -99,11 +125,9 @@ pub fn a_session_keeps_the_headline<C: Catalogue, A: Wire, D: Disk, B: Wire, H: 
     vdcp_run::laws::only_questions_are_asked::<AtOnce, A>();
 }
 
-/// A session that is killed after any number of held PLAYs (`IsHeldOn`) and whatever events of its run since, with its
-/// next command kept or not, leaves a journal whose rows are safe of joined ends, with the server's port as its turns left
-/// it, and all that aired, whether its recorder wrote none of what waits for a later row, the first of it or all. So the
-/// journal is gone on with (`a_mended_journal_is_gone_on_with`), which begins the next session
-/// (`sessions_keep_the_headline`). What was heard last may be lost. As long as nothing was kept, the journal is as it was.
+/// A session that is killed at any moment, whatever its recorder had written by then, leaves a journal whose rows are safe of
+/// joined ends, with the server's port and all that aired. So the journal is gone on with
+/// (`a_mended_journal_is_gone_on_with`).
 pub fn a_killed_session_is_safe<C: Catalogue, A: Wire, B: Wire, H: ServerHooks<C>>()
     ensures safe { (plan : Plan) (from : ℕ) (port : ClockedPort) (asked : List Command) (e on last : Ends)
         (events : List Event) (rows : List Kept) (so_far out since : List Act) (turns : List Turn) (below : List Act)
@@ -144,9 +168,8 @@ pub fn a_killed_session_is_safe<C: Catalogue, A: Wire, B: Wire, H: ServerHooks<C
     a_journal_makes_the_automation();
 }
 
-/// The headline holds over a kill, of which `a_killed_session_is_safe` says what it leaves: what aired before it and what
-/// airs since, in a session that goes on from the journal over a new connection to the server or to one that was started
-/// anew, are together a beginning of the playlist, of which what is reported then lacks one at most.
+/// The headline holds over a kill: what aired before it, and what airs since in the session that goes on, are together a
+/// beginning of the playlist, and the report lacks one event at most.
 pub fn sessions_keep_the_headline<C: Catalogue, A: Wire, D: Disk, B: Wire, H: ServerHooks<C>>()
     ensures { (plan : Plan) (from : ℕ) (settings : RunSettings) (port now found : ClockedPort) (asked : List Command)
         (journal : List Row) (time : Moment) (wire last : A) (recorder : Option (Recording D)) (count : ℕ) (signs : Signs)

@@ -1,5 +1,5 @@
 //! The laws of both ends over two streams of bytes that keep order, one connection after another.
-ghost use Rattle.std.specs.Prelude.{ℕ, Bool, ◌≡◌, ◌≤◌, ◌<◌, ◌+◌, ◌++◌, [], false, All, AllPairs, IfSome, List, length, IsTrue, Option, None, Some, Result, map};
+ghost use Rattle.std.specs.Prelude.{ℕ, Bool, ◌≡◌, ◌≤◌, ◌<◌, ◌+◌, ◌++◌, [], drop, false, All, AllPairs, IfSome, List, length, IsTrue, Option, None, Some, Result, map};
 ghost use Rattle.vdcp_value.specs.declared.part.Item.{Item};
 ghost use Rattle.vdcp_words.specs.declared.command.Command.{Command};
 ghost use Rattle.vdcp_world.specs.AnyPort.{CanRun};
@@ -15,6 +15,7 @@ ghost use Rattle.vdcp_auto.specs.State.{State};
 ghost use Rattle.vdcp_auto.specs.Turn.{ended_by, given, outcome_of, start};
 ghost use Rattle.vdcp_auto.specs.declared.exchange.Heard.{Heard};
 ghost use Rattle.vdcp_auto.specs.declared.outcome.Outcome.{Outcome};
+ghost use Rattle.vdcp_auto.specs.declared.phase.Mode.TheVariants.{Confirming};
 ghost use Rattle.vdcp_journal.specs.Airings.{settled_in};
 ghost use Rattle.vdcp_journal.specs.Resume.{AreTold, after_rows, log_of};
 ghost use Rattle.vdcp_journal.specs.Thinned.{AreThinned, notes_in};
@@ -32,6 +33,7 @@ ghost use Rattle.vdcp_drive.specs.declared.line.Ran.{Ran};
 ghost use Rattle.vdcp_drive.specs.Serving.{acts_of, begins, items_in, left_by, hook_steps};
 ghost use Rattle.vdcp_drive.specs.Turns.{Turn};
 ghost use Rattle.vdcp_world.specs.LateLine.LateHeadline.{is_late_complete};
+ghost use Rattle.vdcp_laws.specs.AsNew.{AreAnswered, IsAsNew};
 ghost use Rattle.vdcp_laws.specs.Automation.{new_prompt};
 ghost use Rattle.vdcp_laws.specs.Announced.{Announces, played_notes};
 ghost use Rattle.vdcp_laws.specs.Below.{Laws};
@@ -68,8 +70,8 @@ pub fn two_ends_keep_the_headline()
     vdcp_world::laws::a_late_line_keeps_the_headline();
 }
 
-/// A server that hears at silences does what one does that hears at once and at which a frame passes after each silence,
-/// if each burst is read without a fault and each silence comes after whole commands.
+/// A server that hears at silences does what one does that hears at once, with a frame after each silence, if no burst has a
+/// fault and each silence comes after whole commands.
 pub fn untorn_turns_are_at_once()
     ensures acts { (port : ClockedPort) (turns : List Turn) → AreUntorn [] turns →
         acts_of (begins Hearing.AtOnce port) (at_once_for turns) ≡ acts_of (begins Hearing.AtSilences port) turns }
@@ -119,6 +121,21 @@ pub fn nothing_airs_after_a_complete_end()
     vdcp_world::laws::a_late_line_keeps_the_headline();
 }
 
+/// Once as many messages were heard over a connection as commands were sent, both ends are as over a new one (`as_new`), and
+/// the next run may begin there (`begins`, `carried`).
+pub fn an_answered_connection_is_as_new()
+    ensures as_new { (plan : Plan) (port : ClockedPort) (asked : List Command) (e : Ends) → CanJoin plan port asked →
+        AreJoined plan port asked e → AreAnswered e → IsAsNew e }
+    ensures begins { (plan : Plan) (port : ClockedPort) (asked : List Command) (e : Ends) (first : ℕ) →
+        CanJoin plan port asked → AreJoined plan port asked e →
+        (plan.mode ≡ Confirming → (port_now e).state.cued ≡ empty) →
+        CanJoin (record plan { list = drop first plan.list }) (port_now e) [] }
+    ensures carried { (e : Ends) (autos below : List Act) → IsAsNew e → let now : ClockedPort = port_now e in
+        AreCarried now.state.unit e autos below → AreCarried now.state.unit (new_ends now []) autos below }
+{
+    what_is_below();
+}
+
 /// Several runs of a list, each begun behind all that aired before it, air each event once at most and in order; if none
 /// was left out, a beginning of the list. A run aired as many as its journal settles, also as a kill left that, if it
 /// shows that no event more may have aired (`next`), and in any case one more at most (`most`).
@@ -143,18 +160,18 @@ pub fn several_runs_air_each_event_once()
 }
 
 /// A new automation and a server in time, of which nothing awaited times out before all that was sent has come, are a
-/// channel that loses nothing, and so keep its headline, whatever state the port was in. If nothing was cued at first, a
-/// playable list that isn't stopped airs whole (`plays`: `docs/PROOFS.md` has the number of exchanges), and without a take
-/// no clip is cut short (`uncut`).
+/// channel that loses nothing, and so keep its headline, whatever state the port was in. A playable list that isn't stopped
+/// airs whole (`plays`: `docs/PROOFS.md` has the number of exchanges), and without a take no clip is cut short (`uncut`), also
+/// behind an event that was left out while it was cued.
 pub fn ends_in_time_are_a_channel()
     ensures channel { (plan : Plan) (port : ClockedPort) (e : Ends) → CanRun plan port → AreNewInTime plan port e →
         AreChannel plan port e }
     ensures ended { (plan : Plan) (port : ClockedPort) (e : Ends) → CanRun plan port → AreNewInTime plan port e →
         IfSome (outcome_of e.automation.state.stage) (Means port.clips plan (aired_now e) (log_now e)) }
-    ensures plays { (plan : Plan) (port : ClockedPort) (e : Ends) → CanRun plan port → port.state.cued ≡ empty →
+    ensures plays { (plan : Plan) (port : ClockedPort) (e : Ends) → CanRun plan port →
         AreNewInTime plan port e → All (λ item. IsTrue (is_playable port.clips item)) plan.list →
-        All IsNoStopNote e.notes → PlaysOn plan e.automation.state (aired_now e) (log_now e) }
-    ensures uncut { (plan : Plan) (port : ClockedPort) (e e' : Ends) → CanRun plan port → port.state.cued ≡ empty →
+        All IsNoStopNote e.notes → PlaysOn plan e.automation.state (aired_now e) (log_now e) 0 }
+    ensures uncut { (plan : Plan) (port : ClockedPort) (e e' : Ends) → CanRun plan port →
         AreNewInTime plan port e → (step : Step plan port.state.unit e e') → IsInTime step →
         All IsNoTakeNote e.notes → ¬ CutsShort e e' }
 {

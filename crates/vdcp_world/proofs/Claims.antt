@@ -159,7 +159,7 @@ module _ (mode : Mode) (T : Telling) (p : PortState) (aired : List Item) where
       nothing r e = cc
   told_none _ = tt
 
-  told_quiet : (stage : Stage) (h : Option Heard) → IsQuiet mode h → ToldOf mode T p aired stage h
+  pub told_quiet : (stage : Stage) (h : Option Heard) → IsQuiet mode h → ToldOf mode T p aired stage h
   told_quiet (Awaiting q) h quiet = λ r e honest. absurd (by mode r (subst (IsQuiet mode) e quiet) honest)
     where
       by : (mode : Mode) (r : Reply) → IsQuiet mode (Some (heard.Reply r)) → (mode ≡ Confirming → is_receipt r ≡ false)

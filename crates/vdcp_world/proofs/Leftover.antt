@@ -51,14 +51,14 @@ use Rattle.vdcp_world.proofs.PhaseTable.{is_asked}
 use Rattle.vdcp_world.proofs.Reached.{make_stays}
 
 -- the port with nothing in its cued slot
-abbrev emptied_state : PortState → PortState
+abbrev pub emptied_state : PortState → PortState
 emptied_state p = record p { cued = empty }
 
-abbrev emptied : ClockedPort → ClockedPort
+abbrev pub emptied : ClockedPort → ClockedPort
 emptied p = record p { state = emptied_state p.state; counts = record { cue = 0; playing = p.counts.playing } }
 
 -- no cue was answered yet: the slot doesn't matter to what may be sent
-abbrev Early : Phase → Type 0
+abbrev pub Early : Phase → Type 0
 Early phase.Open = Unit {0}
 Early phase.Select = Unit {0}
 Early (phase.Exists k) = Unit {0}
@@ -67,13 +67,13 @@ Early phase.Halt = Unit {0}
 Early phase.HaltClose = Unit {0}
 Early _ = ⊥
 
-abbrev EarlyAt : Stage → Type 0
+abbrev pub EarlyAt : Stage → Type 0
 EarlyAt (Ready q) = Early q
 EarlyAt (Awaiting q) = Early q
 EarlyAt (Ended outcome) = Unit {0}
 
 -- another channel whose port has the slot empty; or a cue has gone there, and they are the same
-abbrev IsBeside : Channel → Channel → Type 0
+abbrev pub IsBeside : Channel → Channel → Type 0
 IsBeside c d = (d ≡ c) ⊎ ((d ≡ record c { port = emptied c.port }) × EarlyAt c.state.stage)
 
 -- ---- the port
@@ -354,7 +354,7 @@ module _ (below : Below) (c : Channel) (plain : c.plan.mode ≡ Plain) (some : 0
       (sym plain) (inr (refl, early))
   early_event _ = inr (refl, early)
 
-beside_event : Below → (c d : Channel) → c.plan.mode ≡ Plain → 0 < length c.plan.list → IsKept d → IsBeside c d → (e : Event)
+pub beside_event : Below → (c d : Channel) → c.plan.mode ≡ Plain → 0 < length c.plan.list → IsKept d → IsBeside c d → (e : Event)
     → IsBeside (after_event c e) (after_event d e)
 beside_event below c d plain some k (inl same) e = inl (ap (λ (x : Channel). after_event x e) same)
 beside_event below c d plain some k (inr (same, early)) e =
@@ -399,39 +399,55 @@ reached_from plan port es can numbered nothing = record {
   led = refl;
 }
 
+-- it begins with the slot empty
+pub emptied_can : (plan : Plan) (port : ClockedPort) → CanRun plan port → CanRun plan (emptied port)
+emptied_can plan port can =
+    let start = can.can_start in record {
+      can_start = record {
+        some = start.some;
+        few = start.few;
+        unit_fits = start.unit_fits;
+        port_fits = start.port_fits;
+        of_bytes = start.of_bytes;
+        nothing_cued = λ _. refl;
+        asked = start.asked;
+        answered = start.answered;
+      };
+      numbered = can.numbered;
+      cued = inl refl;
+    }
+
+pub emptied_reached : (plan : Plan) (port : ClockedPort) (es : List Event) → CanRun plan port
+    → IsReached (after_events (channel_to plan (emptied port)) es)
+emptied_reached plan port es can = reached_from plan (emptied port) es (emptied_can plan port can).can_start can.numbered refl
+
+pub beside_new : Below → (plan : Plan) (port : ClockedPort) (es : List Event) → CanRun plan port → plan.mode ≡ Plain
+    → 0 < length plan.list
+    → IsBeside (after_events (channel_to plan port) es) (after_events (channel_to plan (emptied port)) es)
+beside_new below plan port es can plain some =
+    let start = can.can_start in
+    beside_events below (channel_to plan port) (channel_to plan (emptied port)) es plain some
+    (kept_new plan (emptied port) start.unit_fits start.port_fits start.of_bytes can.numbered refl) (inr (refl, tt))
+
+-- what holds from a port with nothing cued, and of the other channel, holds of a run from any port
+pub from_any : {A : Type 0} (plan : Plan) (port : ClockedPort) → CanRun plan port → (port.state.cued ≡ empty → A)
+    → (plan.mode ≡ Plain → 0 < length plan.list → A) → A
+from_any {A} plan port can nothing beside = by can.cued
+  where
+    something : (mode : Mode) → plan.mode ≡ mode → 0 < length plan.list → A
+    something Confirming confirms some = nothing (can.can_start.nothing_cued confirms)
+    something Plain plain some = beside plain some
+
+    by : (port.state.cued ≡ empty) ⊎ (0 < length plan.list) → A
+    by (inl none) = nothing none
+    by (inr some) = something plan.mode refl some
+
 pub any_port : Below → ((plan : Plan) (state : State) (log : List Exchange) → Reached plan state log → IsLawful plan state log)
     → (plan : Plan) (port : ClockedPort) (es : List Event) → CanRun plan port
     → Headline (after_events (channel_to plan port) es)
-any_port below lawful plan port es can = by can.cued
+any_port below lawful plan port es can =
+    from_any plan port can (λ nothing. keeps _ (reached_from plan port es can.can_start can.numbered nothing))
+    (λ plain some. headline_beside _ _ (beside_new below plan port es can plain some) (keeps _ (emptied_reached plan port es can)))
   where
-    start : CanStart plan port [] []
-    start = can.can_start
-
     keeps : (c : Channel) → IsReached c → Headline c
     keeps c r = headline c (reached_kept below c r) (lawful c.plan c.state c.log (controller_reached c r))
-
-    nothing_there : port.state.cued ≡ empty → Headline (after_events (channel_to plan port) es)
-    nothing_there nothing = keeps _ (reached_from plan port es start can.numbered nothing)
-
-    something_there : (mode : Mode) → plan.mode ≡ mode → 0 < length plan.list
-        → Headline (after_events (channel_to plan port) es)
-    something_there Confirming confirms some = nothing_there (start.nothing_cued confirms)
-    something_there Plain plain some =
-        let other : Channel = channel_to plan (emptied port) in
-        headline_beside (after_events (channel_to plan port) es) (after_events other es)
-        (beside_events below (channel_to plan port) other es plain some
-        (kept_new plan (emptied port) start.unit_fits start.port_fits start.of_bytes can.numbered refl) (inr (refl, tt)))
-        (keeps (after_events other es) (reached_from plan (emptied port) es (record {
-          some = start.some;
-          few = start.few;
-          unit_fits = start.unit_fits;
-          port_fits = start.port_fits;
-          of_bytes = start.of_bytes;
-          nothing_cued = λ _. refl;
-          asked = start.asked;
-          answered = start.answered;
-        }) can.numbered refl))
-
-    by : (port.state.cued ≡ empty) ⊎ (0 < length plan.list) → Headline (after_events (channel_to plan port) es)
-    by (inl nothing) = nothing_there nothing
-    by (inr some) = something_there plan.mode refl some

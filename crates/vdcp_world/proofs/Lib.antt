@@ -21,7 +21,10 @@ pub mod AtEndProof
 pub mod Opened
 pub mod InStepProof
 pub mod InTime
+pub mod Losses
+pub mod Owed
 pub mod Leftover
+mod AnyPort
 pub mod NoCutProof
 pub mod ScriptLemmas
 pub mod LateLine

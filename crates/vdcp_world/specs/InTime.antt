@@ -50,10 +50,10 @@ abbrev pub exchanges_for : Mode → ℕ → ℕ
 exchanges_for Plain events = 5 * events + 4
 exchanges_for Confirming events = 6 * events + 5
 
--- The exchanges are as many as the list takes, and one for each state that says *not yet*, at most; if they are as many, the
--- whole list went to air and is reported; and the controller never ends in another way.
-pub record PlaysOn (plan : Plan) (state : State) (aired : List Item) (log : List Exchange) : Type 0 where
-  pub few : length log ≤ exchanges_for plan.mode (length plan.list) + not_yets log
-  pub done : exchanges_for plan.mode (length plan.list) + not_yets log ≤ length log
+-- The exchanges are as many as the list takes, one more for each state that says *not yet*, and two for each loss, at most; if
+-- they are as many, the whole list went to air and is reported; and the controller never ends in another way.
+pub record PlaysOn (plan : Plan) (state : State) (aired : List Item) (log : List Exchange) (losses : ℕ) : Type 0 where
+  pub few : length log ≤ exchanges_for plan.mode (length plan.list) + not_yets log + 2 * losses
+  pub done : exchanges_for plan.mode (length plan.list) + not_yets log + 2 * losses ≤ length log
       → (outcome_of state.stage ≡ Some Done) × (aired ≡ plan.list) × (state.settled ≡ length plan.list)
   pub ended : IfSome (outcome_of state.stage) (λ outcome. outcome ≡ Done)

@@ -9,6 +9,7 @@ pub mod AnyPort
 pub mod AtEnd
 pub mod InStep
 pub mod InTime
+pub mod Losses
 pub mod NoCut
 pub mod LateLine
 pub mod Below

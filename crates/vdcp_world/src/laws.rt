@@ -21,7 +21,8 @@ ghost use Rattle.vdcp_world.specs.LateLine.Joined.{late_of};
 ghost use Rattle.vdcp_world.specs.LateLine.LateChannel.{CanStart, LateChannel, IsLateReached, after_late_events, late_make_of, new_late_channel};
 ghost use Rattle.vdcp_world.specs.LateLine.LateEvent.{LateEvent};
 ghost use Rattle.vdcp_world.specs.LateLine.LateHeadline.{LateHeadline};
-ghost use Rattle.vdcp_world.specs.NoCut.{NoCut};
+ghost use Rattle.vdcp_world.specs.Losses.{IsGivenUp, losing, losses};
+ghost use Rattle.vdcp_world.specs.NoCut.{CutsUnasked, NoCut};
 ghost use Rattle.vdcp_world.specs.declared.event.Event.{Event};
 
 /// Whatever events led here from a new channel, the headline holds: what went to air is a beginning of the playlist, each
@@ -55,15 +56,31 @@ pub fn good_rounds_bring_the_rest_to_air()
     crates_below();
 }
 
-/// Where nothing was lost, copied, damaged or forged, at most one way has something; and if nothing was cued at first, a
-/// playable list that isn't stopped has aired whole after as many exchanges as `PlaysOn` says.
+/// Where nothing was lost, copied, damaged or forged, at most one way has something, and a playable list that isn't stopped
+/// has aired whole after as many exchanges as `PlaysOn` says.
 pub fn what_loses_nothing_plays_the_list()
     ensures line { (plan : Plan) (port : ClockedPort) (events : List Event) → All LosesNone events →
         HasOneWay (after_events (channel_to plan port) events) }
     ensures plays { (plan : Plan) (port : ClockedPort) (events : List Event) → CanRun plan port →
-        port.state.cued ≡ empty → All LosesNone events → All IsNoStop events →
+        All LosesNone events → All IsNoStop events →
         All (λ item. IsTrue (is_playable port.clips item)) plan.list →
-        (c : Channel) → c ≡ after_events (channel_to plan port) events → PlaysOn plan c.state c.aired c.log }
+        (c : Channel) → c ≡ after_events (channel_to plan port) events → PlaysOn plan c.state c.aired c.log 0 }
+{
+    crates_below();
+}
+
+/// Where anything is lost, copied, damaged or forged, a playable list that isn't stopped comes to Done, unless it is given up:
+/// `limit` exchanges in a row (in confirm mode, requests) are unanswered, or in confirm mode an event's cue is lost `limit`
+/// times. An exchange that shows a loss takes two more at most.
+pub fn what_loses_little_plays_the_list()
+    ensures plays { (plan : Plan) (port : ClockedPort) (events : List Event) → CanRun plan port → All IsNoStop events →
+        All (λ item. IsTrue (is_playable port.clips item)) plan.list →
+        (c : Channel) → c ≡ after_events (channel_to plan port) events → ¬ IsGivenUp plan c.log →
+        PlaysOn plan c.state c.aired c.log (losses plan.mode c.log) }
+    // Each event that loses anything makes one exchange show a loss, at most.
+    ensures losses { (plan : Plan) (port : ClockedPort) (events : List Event) → CanRun plan port → All IsNoStop events →
+        All (λ item. IsTrue (is_playable port.clips item)) plan.list →
+        losses plan.mode (after_events (channel_to plan port) events).log ≤ losing events }
 {
     crates_below();
 }
@@ -77,13 +94,17 @@ pub fn an_end_leaves_the_port_at_rest()
 
 /// A PLAY cuts short a clip that is on air only if the operator took since the PLAY that aired the clip went out last.
 pub fn no_cut_without_a_take()
-    ensures { (c : Channel) → IsReached c → NoCut c }
+    ensures reached { (c : Channel) → IsReached c → NoCut c }
+    // From any port on it does so only if the operator took.
+    ensures any_port { (plan : Plan) (port : ClockedPort) (events : List Event) (e : Event) → CanRun plan port →
+        ¬ CutsUnasked (channel_to plan port) events e }
 {
     crates_below();
 }
 
 /// The headline also holds on a line that keeps order, however late, with ends that are restarted. There a stale or forged
-/// answer may end a run Denied, Strange(k), Foreign(k) or Refused(k).
+/// answer may end a run Denied, Strange(k), Foreign(k) or Refused(k). A run that isn't stopped has ended after as many
+/// exchanges as `most_exchanges` says.
 pub fn a_late_line_keeps_the_headline()
     ensures { (c : LateChannel) → IsLateReached c → LateHeadline c }
 {

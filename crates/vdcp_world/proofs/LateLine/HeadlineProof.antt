@@ -5,6 +5,7 @@ use Rattle.std.specs.Prelude.{Some, IsTrue, IfSome, slice_get}
 use Rattle.vdcp_value.specs.declared.clip_id.ClipId.{ClipId}
 use Rattle.vdcp_value.specs.declared.part.Item.{Item}
 use Rattle.vdcp_value.specs.declared.timecode.Timecode.{Timecode}
+use Rattle.vdcp_auto.specs.Course.{Reached}
 use Rattle.vdcp_auto.specs.Endings.{IsRefused}
 use Rattle.vdcp_auto.specs.Law.{IsLawful}
 use Rattle.vdcp_auto.specs.Plan.{Plan}
@@ -24,6 +25,7 @@ use Rattle.vdcp_world.proofs.LateLine.Places.{At}
 use Rattle.vdcp_world.proofs.PhaseTable.{Near}
 use Rattle.vdcp_world.proofs.Exchanges.{taken}
 use Rattle.vdcp_world.proofs.HeadlineProof.{begins, reports, unknown_at}
+use Rattle.vdcp_world.proofs.Losses.{comes_to_end}
 
 -- what an end says of the clips that went to air
 abbrev pub EndHolds : Mode → List Item → List (ClipId × Timecode) → List Item → ℕ → Outcome → Type 0
@@ -99,8 +101,8 @@ module _ (c : LateChannel) where
       at.aired_is ∙ ap (λ (n : ℕ). take n c.plan.list) (sym at.settled_is)
   complete_at _ h = tt
 
-  pub headline : AirsIn c → IsLawful c.plan c.state c.log → LateHeadline c
-  headline a l = record {
+  pub headline : AirsIn c → Reached c.plan c.state c.log → IsLawful c.plan c.state c.log → LateHeadline c
+  headline a r l = record {
     beginning = begins c.plan.list c.aired c.state.settled a.near;
     reported = reports c.plan.list c.aired c.state.settled a.near;
     exact = a.exact;
@@ -110,4 +112,5 @@ module _ (c : LateChannel) where
     may_await = l.may_await;
     ended = means_at c.state.stage refl a.end_holds l;
     complete = complete_at c.state.stage a.end_holds;
+    to_end = comes_to_end c.plan c.state c.log r;
   }

@@ -1,11 +1,13 @@
 -- The headline of a line that keeps order: what holds of every channel that events have led to, however late the
 -- answers came, and whichever end was started anew.
+use Rattle.std.specs.List.{list_any}
 use Rattle.std.specs.Prelude.{ℕ, ◌+◌, ◌≡◌, ◌≤◌, Bool, true, false, None, IfSome, IsTrue, List, ◌++◌, length, take}
 use Rattle.vdcp_value.specs.declared.clip_id.ClipId.{ClipId}
 use Rattle.vdcp_value.specs.declared.part.Item.{Item}
 use Rattle.vdcp_value.specs.declared.timecode.Timecode.{Timecode}
 use Rattle.vdcp_auto.specs.Course.{logged}
 use Rattle.vdcp_auto.specs.Endings.{IsLost, IsRefused}
+use Rattle.vdcp_auto.specs.Log.{is_stop}
 use Rattle.vdcp_auto.specs.Plan.{Plan}
 use Rattle.vdcp_auto.specs.RuleBook.{May, KeepsRules}
 use Rattle.vdcp_auto.specs.Settled.{may_have_aired, settled}
@@ -17,6 +19,7 @@ use Rattle.vdcp_auto.specs.declared.phase.Mode.{Mode}
 use Rattle.vdcp_auto.specs.declared.phase.Mode.TheVariants.{Plain, Confirming}
 use Rattle.vdcp_world.specs.Headline.{IsUnknownAt, AreReported}
 use Rattle.vdcp_world.specs.LateLine.LateChannel.{LateChannel}
+use Rattle.vdcp_world.specs.Losses.{ComesToEnd}
 
 -- in confirm mode the log shows why the event at this place was refused, and the report is complete
 abbrev pub IsLateRefused : Mode → Plan → List Item → List Exchange → ℕ → Type 0
@@ -69,3 +72,5 @@ pub record LateHeadline (c : LateChannel) : Type 0 where
   pub ended : IfSome (outcome_of c.state.stage) (LateMeans c.port.clips c.plan c.aired c.log)
   pub complete : IfSome (outcome_of c.state.stage) (λ outcome. IsTrue (is_late_complete c.plan.mode outcome)
       → c.aired ≡ reported_of c)
+  -- and if it isn't stopped it comes to an end
+  pub to_end : list_any is_stop c.log ≡ false → ComesToEnd c.plan c.state c.log

@@ -21,6 +21,7 @@ use Rattle.vdcp_laws.proofs.sessions.a_killed_session_is_safe.Goals as goal
 laws : (g : Over) → goal.After-a_journal_makes_the_automation g → Laws
 laws g c = record {
   goes_on = c.servers_go_on.ensures.acts;
+  hooks = c.servers_go_on.ensures.hooks;
   answered = c.what_goes_out_is_answered.ensures;
   acts = c.untorn_turns_are_at_once.ensures.acts;
   items = c.untorn_turns_are_at_once.ensures.items;
@@ -29,6 +30,7 @@ laws g c = record {
 tried_laws : (g : Over) → goal.After-a_journal_makes_the_automation g → session.Laws g.A.Wire.does
 tried_laws g c = record {
   asks = c.only_questions_are_asked.ensures;
+  rows = c.steps_are_exchanges.ensures.rows;
   steps = record { bytes = c.steps_are_exchanges.ensures.bytes; came = c.steps_are_exchanges.ensures.came };
 }
 
@@ -81,8 +83,9 @@ returns-clause-safe g c plan from port asked e on last events rows so_far out si
       joined = led_on plan unit (new_ends port asked) e _ begins.joined
           (led_by plan unit e all last turns below aired
           (h.side (questions ++ (done ++ out)) last
-          (asked_on (tried_laws g c) (record asks.settings { unit = unit }) asks.is_held (start_at plan from on) on last
-          on.automation.held asks.ear asks.wire asks.wire' asks.left (done ++ out) h.ready asks.asked then.0)) so
+          (asked_on (tried_laws g c) (record asks.settings { unit = unit }) asks.is_held (start_at plan from on) on
+          on.automation.held asks.ear asks.wire asks.wire' asks.left asks.signs asks.signs' asks.asked last (done ++ out) h.ready
+          then.0)) so
           (carried_before unit e all carried since
           (acts ∙ append_assoc so_far questions (done ++ (out ++ since))
           ∙ ap (λ (l : List Act). so_far ++ l) (sym (append_assoc questions (done ++ out) since

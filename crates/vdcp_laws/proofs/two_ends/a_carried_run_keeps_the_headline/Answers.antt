@@ -15,6 +15,7 @@ use Rattle.vdcp_laws.proofs.two_ends.a_carried_run_keeps_the_headline.Goals as g
 laws : (g : Over) → goal.After-what_goes_out_is_answered g → Laws
 laws g c = record {
   goes_on = c.servers_go_on.ensures.acts;
+  hooks = c.servers_go_on.ensures.hooks;
   answered = c.what_goes_out_is_answered.ensures;
   acts = c.untorn_turns_are_at_once.ensures.acts;
   items = c.untorn_turns_are_at_once.ensures.items;

@@ -8,6 +8,6 @@ returns c =
       line = c.what_loses_nothing_plays_the_list.ensures.line;
       plays = c.what_loses_nothing_plays_the_list.ensures.plays;
       headline = c.any_port_keeps_the_headline.ensures;
-      no_cut = c.no_cut_without_a_take.ensures;
+      uncut = c.no_cut_without_a_take.ensures.any_port;
     } in
     record { channel = are_channel law; ended = are_ended law; plays = are_playing law; uncut = cuts_none law }
