@@ -2,20 +2,7 @@
 """The files over which tools/measure/bench counts: the same bytes on each machine, for any number of rows."""
 
 from hashlib import sha256
-from random import Random
-
-
-class Dice:
-    """Throws that are the same in each version of Python, which promises this of random() alone."""
-
-    def __init__(self, seed):
-        self.throw = Random(seed).random
-
-    def below(self, limit):
-        return int(self.throw() * limit)
-
-    def one_of(self, choices):
-        return choices[self.below(len(choices))]
+from itertools import cycle
 
 
 def id_of(number):
@@ -32,19 +19,19 @@ def time_of(frames):
     return f"{seconds // 3600:02d}:{seconds // 60 % 60:02d}:{seconds % 60:02d}:{frames % 25:02d}"
 
 
+def any_of(number, limit):
+    """A number below the limit, in no order that can be seen."""
+    return number * 7919 % 104729 % limit
+
+
 def lists(rows):
     """A catalogue in no order, and lists of its clips: whole ones, whole ones and parts, parts of a single frame."""
-    dice = Dice(1)
-    lengths = [1 + dice.below(3000) for _ in range(rows)]
-    order = sorted((dice.throw(), number) for number in range(rows))
-    played = [dice.below(rows) for _ in range(rows)]
-    parts = []
-    for number in played:
-        start = dice.below(lengths[number])
-        duration = 1 + dice.below(lengths[number] - start)
-        parts.append(f"{time_of(start)},{time_of(duration)}" if dice.throw() < 0.5 else ",")
+    lengths = [1 + any_of(number, 3000) for number in range(rows)]
+    played = [any_of(number + 7, rows) for number in range(rows)]
+    starts = [any_of(place, lengths[number]) for place, number in enumerate(played)]
+    parts = [f"{time_of(start)},{time_of(1 + any_of(start, lengths[number] - start))}" if start % 2 else "," for start, number in zip(starts, played)]
     return {
-        "catalogue.csv": [f"{id_of(number)},{time_of(lengths[number])}" for _, number in order],
+        "catalogue.csv": [f"{id_of(number)},{time_of(lengths[number])}" for number in sorted(range(rows), key=lambda it: any_of(it, 104729))],
         "list.csv": [id_of(number) for number in played],
         "parts.csv": [f"{id_of(number)},{part}" for number, part in zip(played, parts)],
         "frames.csv": [f"{id_of(number)},{time_of(0)},{time_of(1)}" for number in played],
@@ -68,20 +55,16 @@ EVENTS_OF = {"round": 3, "good": 6, "frame": 1}
 
 
 def script(rows, mishaps):
-    """Good rounds, a mishap after every few of them: ten events for each row of the list that it plays."""
-    dice, lines, left = Dice(2), [], rows * 10
-    while True:
-        chosen = [f"good={1 + dice.below(6)}"]
-        if dice.throw() < 0.3:
-            damage = dice.one_of(DAMAGED) if dice.throw() < 0.8 else bytes(dice.below(256) for _ in range(1 + dice.below(20))).hex()
-            chosen = dice.one_of(mishaps).format(damage).split()
-        for entry in chosen:
+    """Good rounds, a mishap after some of them: ten events for each row of the list that it plays."""
+    lines, left, damaged = [], rows * 10, cycle(DAMAGED)
+    for mishap in cycle(mishaps):
+        for entry in ["good=3", "good=4", "good=6", *mishap.format(next(damaged)).split()]:
             name, _, number = entry.partition("=")
-            events = EVENTS_OF[name] * int(number or 1) if name in EVENTS_OF else 1
-            if events > left:
-                return lines + ["timeout"] * left
-            left -= events
+            left -= EVENTS_OF[name] * int(number or 1) if name in EVENTS_OF else 1
+            if left < 0:
+                return lines
             lines.append(entry.replace("=", " "))
+    return lines
 
 
 # What bursts are made of, in digits, with the lines that show it; and what ends one, the number of bytes up to there being {}.
@@ -95,10 +78,10 @@ ENDS = (("", "clean"),) * 5 + (("ff", "fault bad-start {}"), ("0201", "fault bad
 
 def vectors(rows):
     """Bursts of up to four messages, half of which end badly; one of a thousand is longer than what is read of a burst."""
-    dice, lines = Dice(3), []
+    lines = []
     for number in range(rows):
-        made = [dice.one_of(MESSAGES) for _ in range(dice.below(5))]
-        last, how = dice.one_of(ENDS)
+        made = [MESSAGES[any_of(5 * number + k, len(MESSAGES))] for k in range(any_of(number, 5))]
+        last, how = ENDS[any_of(number + 3, len(ENDS))]
         digits = "".join(part for part, _ in made) + last
         told = [line for _, line in made] + [how.format(len(digits) // 2)]
         if number % 1000 == 500:

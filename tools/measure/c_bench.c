@@ -32,7 +32,7 @@ static size_t frame(uint8_t *o, unsigned data) {
 /* Bursts of all kinds of messages, some damaged or cut; or of the largest messages. */
 static uint8_t bytes[1 << 20];
 static size_t ends[1 << 19], bursts;
-static size_t make(int largest) {
+static void make(int largest) {
     size_t n = 0;
     for (bursts = 0; n + 6000 < sizeof bytes; ends[bursts++] = n) {
         size_t begun = n;
@@ -49,7 +49,6 @@ static size_t make(int largest) {
         if (any() % 16 == 0) bytes[begun + any() % (n - begun)] ^= (uint8_t)(1u << any() % 8);
         if (any() % 16 == 0 && n - begun > 1) n--;
     }
-    return n;
 }
 
 /* Reads all bursts, in pieces of so many bytes at most. */
@@ -67,73 +66,51 @@ static double reading(size_t most) {
         }
         if (vdcp_reader_silence(&reader) == VDCP_NULL) return -1;
     }
-    return now() - begun;
+    return (now() - begun) / (double)at;
 }
 
 static vdcp_clip clips[10000];
 static vdcp_item list[1];
 
 /* Cues and statuses at a port of so many clips, of which the last is asked for and cued. */
-static double exchanges(size_t count, unsigned turns) {
+static double exchanges(size_t count) {
     static vdcp_server port;
-    static vdcp_message open = {3, 3, 0, 0x01, 2, {1, 1}}, choose = {3, 2, 0, 0x22, 1, {1}}, cue = {3, 2, 0, 0x24, 8, {0}}, status = {3, 3, 0, 0x05, 1, {1}};
+    static vdcp_message asked[] = {{3, 3, 0, 0x01, 2, {1, 1}}, {3, 2, 0, 0x22, 1, {1}}, {3, 2, 0, 0x24, 8, {0}}, {3, 3, 0, 0x05, 1, {1}}};
     static vdcp_airing aired;
     uint8_t out[21];
     size_t written;
+    unsigned turns = 2 * (count > 1000 ? 200 : 2000);
     int32_t code = vdcp_server_new(&port, clips, count, 0, 1, 1, VDCP_25);
-    double begun;
-    memcpy(cue.data, clips[count - 1].id, 8);
-    code |= vdcp_server_answer(&port, clips, count, &open, out, sizeof out, &written, &aired);
-    code |= vdcp_server_answer(&port, clips, count, &choose, out, sizeof out, &written, &aired);
-    begun = now();
-    for (unsigned k = 0; k < turns; k++) {
-        code |= vdcp_server_answer(&port, clips, count, &cue, out, sizeof out, &written, &aired);
-        code |= vdcp_server_answer(&port, clips, count, &status, out, sizeof out, &written, &aired);
+    double begun = now();
+    memcpy(asked[2].data, clips[count - 1].id, 8);
+    for (unsigned k = 0; k < turns + 2; k++) {
+        if (k == 2) begun = now();
+        code |= vdcp_server_answer(&port, clips, count, &asked[k < 2 ? k : 2 + k % 2], out, sizeof out, &written, &aired);
     }
-    return code || out[0] != 2 ? -1 : (now() - begun) / (2.0 * turns);
+    return code || out[0] != 2 ? -1 : (now() - begun) / turns;
 }
 
-static double turns_of_controller(unsigned turns) {
+static double turns_of_controller(size_t turns) {
     static vdcp_controller controller;
-    static vdcp_message granted = {3, 3, 0, 0x81, 1, {1}}, selected = {1, 0, 0, 0, 0, {0}}, present = {3, 3, 0, 0x96, 1, {1}}, cueing = {3, 3, 0, 0x85, 2, {1, 2}};
-    const vdcp_message *answers[] = {&granted, &selected, &present, &selected};
+    static vdcp_message answers[] = {{3, 3, 0, 0x81, 1, {1}}, {1, 0, 0, 0, 0, {0}}, {3, 3, 0, 0x96, 1, {1}}, {1, 0, 0, 0, 0, {0}}, {3, 3, 0, 0x85, 2, {1, 2}}};
     static vdcp_command command;
     int32_t code = vdcp_controller_new(&controller, VDCP_PLAIN, 1, 3);
-    for (int k = 0; k < 4; k++) {
-        code |= vdcp_controller_tick(&controller, list, 1, &command) != VDCP_GIVEN;
-        code |= vdcp_controller_hear(&controller, list, 1, answers[k], 0);
-    }
     double begun = now();
-    for (unsigned k = 0; k < turns; k++) {
+    for (size_t k = 0; k < turns + 4; k++) {
+        if (k == 4) begun = now();
         code |= vdcp_controller_tick(&controller, list, 1, &command) != VDCP_GIVEN;
-        code |= vdcp_controller_hear(&controller, list, 1, &cueing, 0);
+        code |= vdcp_controller_hear(&controller, list, 1, &answers[k < 4 ? k : 4], 0);
     }
-    return code || command.word != VDCP_STATUS ? -1 : (now() - begun) / turns;
+    return code || command.word != VDCP_STATUS ? -1 : (now() - begun) / (double)turns;
 }
 
-/* The least of so many runs, each of the call with this number; negative if one went wrong. */
-#define LEAST(rounds, call)                                     \
-    do {                                                        \
-        double t;                                               \
-        least = 1e300;                                          \
-        for (int k = 0; k < rounds; k++)                        \
-            if ((t = call) < least) least = t;                  \
-        failed |= least < 0;                                    \
-    } while (0)
-
 int main(int argc, char **argv) {
-    static const struct { const char *name; int largest; size_t most; } rows[] = {
-        {"mixed bursts", 0, 1 << 20}, {"largest messages", 1, 1 << 20}, {"mixed, by sevens", 0, 7}, {"mixed, byte by byte", 0, 1},
+    static const struct { const char *name; double (*run)(size_t); size_t of; } rows[] = {
+        {"mixed bursts", reading, 1 << 20}, {"mixed, by sevens", reading, 7}, {"mixed, byte by byte", reading, 1}, {"largest messages", reading, 1 << 20},
+        {"port, 10 clips, an answer", exchanges, 10}, {"port, 100 clips, an answer", exchanges, 100}, {"port, 1000 clips, an answer", exchanges, 1000},
+        {"port, 10000 clips, an answer", exchanges, 10000}, {"controller, an exchange", turns_of_controller, 20000},
     };
     int rounds = argc > 1 ? atoi(argv[1]) : 20, failed = 0;
-    double least;
-    for (size_t i = 0; i < sizeof rows / sizeof *rows; i++) {
-        if (argc > 2 && strcmp(argv[2], rows[i].name)) continue;
-        size_t n = make(rows[i].largest);
-        LEAST(rounds, reading(rows[i].most));
-        printf("| %s | %.2f |\n", rows[i].name, least / (double)n);
-    }
-    if (argc > 2) return failed;
     for (size_t k = 0; k < 10000; k++) {
         char id[9];
         snprintf(id, sizeof id, "CLIP%04u", (unsigned)k);
@@ -141,11 +118,14 @@ int main(int argc, char **argv) {
         clips[k].length[1] = 0x10;
     }
     memcpy(list[0].id, "CLIP0001", 8);
-    for (size_t count = 10; count <= 10000; count *= 10) {
-        LEAST(rounds, exchanges(count, count > 1000 ? 200 : 2000));
-        printf("| port, %zu clips, an answer | %.0f |\n", count, least);
+    for (size_t i = 0; i < sizeof rows / sizeof *rows; i++) {
+        double least = 1e300, t;
+        if (argc > 2 && strcmp(argv[2], rows[i].name)) continue;
+        make(!strncmp(rows[i].name, "largest", 7));
+        for (int k = 0; k < rounds; k++)
+            if ((t = rows[i].run(rows[i].of)) < least) least = t;
+        failed |= least < 0;
+        printf("| %s | %.*f |\n", rows[i].name, rows[i].run == reading ? 2 : 0, least);
     }
-    LEAST(rounds, turns_of_controller(20000));
-    printf("| controller, an exchange | %.0f |\n", least);
     return failed;
 }

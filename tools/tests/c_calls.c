@@ -13,22 +13,18 @@ static void fail(int line) {
 
 enum { EVENTS = 2, CLIPS = 3 };
 
-static vdcp_item item_of(const char *id, uint8_t seconds) {
-    vdcp_item it;
-    memset(&it, 0, sizeof it);
-    memcpy(it.id, id, 8);
-    it.duration[1] = seconds;
-    it.has_part = seconds > 0;
-    return it;
-}
-
-static vdcp_clip clip_of(const char *id, uint8_t seconds) {
-    vdcp_clip it;
-    memset(&it, 0, sizeof it);
-    memcpy(it.id, id, 8);
-    it.length[1] = seconds;
-    return it;
-}
+/* An item or a clip: an ID, and a time of so many seconds. */
+#define MADE(type, name, time, set) \
+    static type name(const char *id, uint8_t seconds) { \
+        type it; \
+        memset(&it, 0, sizeof it); \
+        memcpy(it.id, id, 8); \
+        it.time[1] = seconds; \
+        set; \
+        return it; \
+    }
+MADE(vdcp_item, item_of, duration, it.has_part = seconds > 0)
+MADE(vdcp_clip, clip_of, length, (void)0)
 
 /* Plays the list through a port, over bytes that a reader takes one by one. */
 static void play(uint8_t mode) {

@@ -1,5 +1,5 @@
 #!/usr/bin/env python3
-"""line.py library | scripts PROGRAM FOLDER | late | random PROGRAM FOLDER COUNT | refused PROGRAM FOLDER | excluded | dice COUNT |
+"""line.py library | scripts PROGRAM FOLDER | late | any_scripts PROGRAM FOLDER COUNT | refused PROGRAM FOLDER | excluded | dice COUNT |
 hand | read [FOLDER] | record: opens docs/line.html in headless Chromium from the disk, and fails if it doesn't do what the
 manual says of `vdcp sim`, or what it says of itself. With FOLDER `read` leaves pictures there. `record` prints what js/line/recorded.json
 has to be."""
@@ -196,7 +196,7 @@ def in_parts(page, script, rows, most=50):
     return [it for k in range(0, len(rows), most) for it in page.execute_script(script, rows[k : k + most])]
 
 
-def random_scripts(page, program, folder, count):
+def any_scripts(page, program, folder, count):
     opens(page)
     runs = [random_run(seed) for seed in range(int(count))]
     with concurrent.futures.ThreadPoolExecutor(4) as pool:
@@ -402,88 +402,47 @@ def record(page):
     print(json.dumps(page.execute_script("return line.record()"), ensure_ascii=False, separators=(",", ":")))
 
 
-LIBRARY = """
-const done = arguments[arguments.length - 1];
+# What the library for JavaScript answers to each, in turn. (Of docs/PROTOCOL.md: what the port answers, the checksums by its rule, and the controller's table.)
+LIBRARY = r"""
+thrown(() => v.Message.ack()) ==> Error  vdcp: await load() comes first
+v.load().then(() => 'loaded') ==> loaded
+var port = new v.Port([{id: 'CLIP0002', length: '00:00:00:02'}, {id: 'CLIP0001', length: '00:00:10:00'}], {cueFrames: 2}), reader = new v.Reader(); port.state ==> 1
+[...reader.feed(bytes('0204300101')), ...reader.feed(bytes('01cd'))].map(it => hex(port.answer(it).bytes)).join() ==> 02033081014e
+reader.silence() ==> clean
+reader.feed([2, 2]); `${reader.held} ${hex(port.silence(reader.silence()))}` ==> 2 0580
+JSON.stringify(new v.Reader().feed(bytes('ff'))) ==> [{"kind":"bad-start","place":1}]
+var asks = text => port.answer(v.Message.ofBytes(v.Command.ofText(text).toBytes())), says = text => hex(asks(text).bytes); says('select 01') ==> 04
+says('cue CLIP0002') ==> 04
+JSON.stringify([port.frame(), port.copy().frame(), port.frame(), port.cued]) ==> [{"cued":false,"ended":false},{"cued":true,"ended":false},{"cued":true,"ended":false},{"id":"CLIP0002","left":0}]
+`${asks('play').aired.id} ${port.playing.left} ${port.state} ${port.access}` ==> CLIP0002 2 4 selected
+port.finishClip(), says('cue CLIP0001'), port.finishCue(); `${port.playing} ${port.cued.left} ${port.state}` ==> null 0 128
+port.restart(); `${port.access} ${port.cued} ${port.state}` ==> closed null 1
+var controller = new v.Controller(['CLIP0001', {id: 'CLIP0002', start: '00:00:00:00', duration: '00:00:00:01'}], {limit: 2}); `${controller.tick()} ${controller.tick()} ${controller.phase} ${controller.awaiting}` ==> open 01 01 null open true
+controller.hear(v.Message.ofBytes(bytes('02033081014e'))); `${controller.tick()} ${controller.phase}` ==> select 01 select
+var before = controller.copy(); controller.timeout(), controller.tick(), controller.timeout(); `${controller.outcome} ${controller.phase} ${controller.settled} ${before.outcome} ${before.unanswered}` ==> lost null 0 null 0
+before.stop(), before.timeout(); `${before.wishes.stop} ${before.tick()}` ==> true stop
+before.forget(); var judge = new v.Judge(['CLIP0001']); `${judge.allows(v.Command.ofText('play'))} ${judge.allows(v.Command.ofText('open 01 01'))} ${judge.settled}` ==> false true 0
+judge.add(v.Command.ofText('open 01 01'), v.Message.ofBytes(bytes('02033081014e'))); `${judge.allows(v.Command.ofText('select 01'))} ${judge.copy().allows(v.Command.ofText('play'))}` ==> true false
+`${v.Reply.ofMessage(v.Message.ofBytes(bytes('02043085010446')))} ${v.meaning(v.Message.nak(1))} ${v.meaning(v.Message.ofBytes(bytes('02021002ee')))}` ==> state 04 nak 01 null
+`${hex(v.idBytes('NEWS'))} ${v.idText(v.idBytes('0x0000000000000001'))} ${hex(v.timeBytes('01:02:03:04'))} ${v.timeText(bytes('04030201'), true)}` ==> 4e45575320202020 0x0000000000000001 04030201 01:02:03;04
+[() => v.Command.ofText('flick'), () => v.idBytes(' X'), () => v.timeBytes('1:00')].map(thrown).join('; ') ==> VdcpError 102 no command or reply; VdcpError 102 no command or reply; VdcpError 103 a number out of its range
+[() => new v.Port([], {unit: 16}), () => new v.Controller([], {limit: 0}), () => v.Command.ofText('play').toBytes(16)].map(thrown).every(it => it === 'VdcpError 103 a number out of its range') ==> true
+thrown(() => new v.Port([{id: 'A', length: '00:00:01:00'}, {id: 'A', length: '00:00:01:00'}])) ==> VdcpError 105 clips out of order
+thrown(() => v.Message.ofBytes(bytes('0404'))) ==> VdcpError 101 no message
+// more than the module's own memory holds
+var many = new v.Controller(Array(200000).fill({id: v.idBytes('NEWS')})); `${many.tick()} ${many.awaiting}` ==> open 01 01 true
+"""
+ASKS = """
+const [address, rows, done] = arguments;
 (async () => {
-  const v = await import(arguments[0]);
+  const v = await import(address), got = [];
   const bytes = text => Uint8Array.from(text.match(/../g), it => parseInt(it, 16)), hex = it => Array.from(it, b => b.toString(16).padStart(2, '0')).join('');
   const thrown = f => { try { f(); return 'nothing'; } catch (error) { return `${error.name} ${error.code ?? ''} ${error.message}`; } };
-  const early = thrown(() => v.Message.ack());
-  await v.load();
-  const got = {early};
-  const port = new v.Port([{id: 'CLIP0002', length: '00:00:00:02'}, {id: 'CLIP0001', length: '00:00:10:00'}], {cueFrames: 2});
-  const reader = new v.Reader();
-  const feed = reader.feed(bytes('0204300101'));
-  const messages = [...feed, ...reader.feed(bytes('01cd'))];
-  got.opened = messages.map(it => hex(port.answer(it).bytes)).join();
-  got.silence = reader.silence();
-  reader.feed([2, 2]);
-  got.cut = `${reader.held} ${hex(port.silence(reader.silence()))}`;
-  got.fault = JSON.stringify(new v.Reader().feed(bytes('ff')));
-  const says = text => hex(port.answer(v.Message.ofBytes(v.Command.ofText(text).toBytes())).bytes);
-  got.select = says('select 01');
-  got.cue = says('cue CLIP0002');
-  got.frames = JSON.stringify([port.frame(), port.copy().frame(), port.frame(), port.cued]);
-  const aired = port.answer(v.Message.ofBytes(v.Command.ofText('play').toBytes())).aired;
-  got.aired = `${aired.id} ${port.playing.left} ${port.state} ${port.access}`;
-  port.finishClip();
-  says('cue CLIP0001');
-  port.finishCue();
-  got.finished = `${port.playing} ${port.cued.left} ${port.state}`;
-  port.restart();
-  got.restarted = `${port.access} ${port.cued} ${port.state}`;
-  const controller = new v.Controller(['CLIP0001', {id: 'CLIP0002', start: '00:00:00:00', duration: '00:00:00:01'}], {limit: 2});
-  got.tick = `${controller.tick()} ${controller.tick()} ${controller.phase} ${controller.awaiting}`;
-  controller.hear(v.Message.ofBytes(bytes('02033081014e')));
-  got.heard = `${controller.tick()} ${controller.phase}`;
-  const before = controller.copy();
-  controller.timeout(); controller.tick(); controller.timeout();
-  got.lost = `${controller.outcome} ${controller.phase} ${controller.settled} ${before.outcome} ${before.unanswered}`;
-  before.stop(); before.timeout();
-  got.stop = `${before.wishes.stop} ${before.tick()}`;
-  before.forget();
-  const judge = new v.Judge(['CLIP0001']);
-  got.judge = `${judge.allows(v.Command.ofText('play'))} ${judge.allows(v.Command.ofText('open 01 01'))} ${judge.settled}`;
-  judge.add(v.Command.ofText('open 01 01'), v.Message.ofBytes(bytes('02033081014e')));
-  got.granted = `${judge.allows(v.Command.ofText('select 01'))} ${judge.copy().allows(v.Command.ofText('play'))}`;
-  got.reply = `${v.Reply.ofMessage(v.Message.ofBytes(bytes('02043085010446')))} ${v.meaning(v.Message.nak(1))} ${v.meaning(v.Message.ofBytes(bytes('02021002ee')))}`;
-  got.ids = `${hex(v.idBytes('NEWS'))} ${v.idText(v.idBytes('0x0000000000000001'))} ${hex(v.timeBytes('01:02:03:04'))} ${v.timeText(bytes('04030201'), true)}`;
-  got.refused = [() => v.Command.ofText('flick'), () => v.idBytes(' X'), () => v.timeBytes('1:00'), () => new v.Port([], {unit: 16}), () => new v.Port([{id: 'A', length: '00:00:01:00'}, {id: 'A', length: '00:00:01:00'}]),
-    () => v.Message.ofBytes(bytes('0404')), () => new v.Controller([], {limit: 0}), () => v.Command.ofText('play').toBytes(16)].map(thrown).join('; ');
-  // more than the module's own memory holds
-  const many = new v.Controller(Array(200000).fill({id: v.idBytes('NEWS')}));
-  got.many = `${many.tick()} ${many.awaiting}`;
-  got.names = Object.keys(v).sort().join(' ');
-  const own = it => Object.getOwnPropertyNames(it.prototype).filter(name => name !== 'constructor');
-  got.methods = Object.entries(v).filter(([, it]) => typeof it === 'function' && it.prototype && /^class/.test(it)).flatMap(([name, it]) => own(it).map(m => `${name}.${m}`)).sort().join(' ');
-  done(got);
-})().catch(error => done({failed: String(error.stack)}));
+  for (const row of rows) got.push(String(await eval(row)));
+  const own = it => Object.getOwnPropertyNames(it.prototype).filter(name => name !== 'constructor'), classes = Object.entries(v).filter(([, it]) => /^class/.test(it));
+  done([got, Object.keys(v), classes.flatMap(([name, it]) => own(it).map(method => [name, method]))]);
+})().catch(error => done([[String(error.stack)], [], []]));
 """
-# Of docs/PROTOCOL.md: what the port answers, the checksums by its rule, and the controller's table.
-LIBRARY_SAYS = {
-    "early": "Error  vdcp: await load() comes first",
-    "opened": "02033081014e",
-    "silence": "clean",
-    "cut": "2 0580",
-    "fault": '[{"kind":"bad-start","place":1}]',
-    "select": "04",
-    "cue": "04",
-    "frames": '[{"cued":false,"ended":false},{"cued":true,"ended":false},{"cued":true,"ended":false},{"id":"CLIP0002","left":0}]',
-    "aired": "CLIP0002 2 4 selected",
-    "finished": "null 0 128",
-    "restarted": "closed null 1",
-    "tick": "open 01 01 null open true",
-    "heard": "select 01 select",
-    "lost": "lost null 0 null 0",
-    "stop": "true stop",
-    "judge": "false true 0",
-    "granted": "true false",
-    "reply": "state 04 nak 01 null",
-    "ids": "4e45575320202020 0x0000000000000001 04030201 01:02:03;04",
-    "refused": "VdcpError 102 no command or reply; VdcpError 102 no command or reply; VdcpError 103 a number out of its range; VdcpError 103 a number out of its range; VdcpError 105 clips out of order; "
-    "VdcpError 101 no message; VdcpError 103 a number out of its range; VdcpError 103 a number out of its range",
-    "many": "open 01 01 true",
-}
 
 
 def library(page):
@@ -492,24 +451,19 @@ def library(page):
     threading.Thread(target=server.serve_forever, daemon=True).start()
     address = f"http://127.0.0.1:{server.server_port}"
     page.get(f"{address}/js/vdcp.d.ts")
-    got = page.execute_async_script(LIBRARY, f"{address}/js/vdcp.mjs")
-    must("failed" not in got, got.get("failed"))
-    for name, said in LIBRARY_SAYS.items():
-        must(got[name] == said, f"{name}: {got[name]!r}, wanted {said!r}")
+    rows = [it.split(" ==> ") for it in LIBRARY.splitlines() if " ==> " in it]
+    got, names, methods = page.execute_async_script(ASKS, f"{address}/js/vdcp.mjs", [asked for asked, _ in rows])
+    for (asked, wanted), said in zip(rows, got):
+        must(said == wanted, f"{asked}: {said!r}, wanted {wanted!r}")
+    must(len(got) == len(rows) and len(methods) > 20, f"only {len(got)} answers, {len(methods)} methods")
     # the types name what there is
     types_ = (TOP / "js/vdcp.d.ts").read_text()
-    for name in got["names"].split():
-        must(f" {name}" in types_, f"vdcp.d.ts doesn't have {name}")
-    for name in got["methods"].split():
-        owner, method = name.split(".")
-        body = types_.split(f"class {owner} ")[1].split("\n}")[0]
-        must(f" {method}(" in body or f" {method}:" in body, f"vdcp.d.ts doesn't have {name}")
+    for name, method in [*((name, None) for name in names), *methods]:
+        body = types_ if method is None else types_.split(f"class {name} ")[1].split("\n}")[0]
+        must(f" {name}" in types_ and (method is None or f" {method}(" in body or f" {method}:" in body), f"vdcp.d.ts doesn't have {name} {method}")
 
 
 what, *words = sys.argv[1:]
-opened = browser(1400, 1000)
-opened.set_script_timeout(200)
-try:
-    {"library": library, "scripts": scripts, "late": late, "random": random_scripts, "refused": refused, "excluded": excluded, "dice": dice, "hand": hand, "read": read, "record": record}[what](opened, *words)
-finally:
-    opened.quit()
+with browser(1400, 1000) as opened:
+    opened.set_script_timeout(200)
+    globals()[what](opened, *words)

@@ -5,7 +5,7 @@ page.py list URL: that of a run that began with event 28 of 40, whose first clip
 start, which a key that is asked twice begins. page.py before URL PLAYED: that of one that went on in a journal of others, of which the first
 played an event at PLAYED. page.py resumed URL PLAYED: that of one that was killed after it had played an event at PLAYED, and goes on. page.py
 lost URL SERVER JOURNAL: that of one whose server stops to answer. page.py down URL LINE: that of
-one that stays, where it leaves out the last of three events, and whose line is this process. It fails if the page doesn't show each of these, or can't be read. With a last word --picture=FILE it draws the page."""
+one that stays, where it leaves out the last of three events, and whose line is this process: it is held without one. It fails if the page doesn't show each of these, or can't be read. With a last word --picture=FILE it draws the page."""
 import os
 import re
 import signal
@@ -168,16 +168,16 @@ def skips(page):
 
 
 def leaves_out(page):
-    """The third of three events, while the second one is cued, by a second press."""
+    """The third of three events, while the second one is cued, by a second press. Then nothing would replace that one."""
     awaits(page, "that the second one is cued", next_time=begins_with("cued"))
-    must(list(skips(page)) == ["Skip, event 2"], f"what can be left out: {list(skips(page))}")
+    must(list(skips(page)) == ["Skip, event 1", "Skip, event 2"], f"what can be left out: {list(skips(page))}")
     skips(page)["Skip, event 2"].click()
-    comes(lambda: list(skips(page)) == ["Skip: once more, event 2"], lambda: f"it doesn't ask again: {list(skips(page))}")
+    comes(lambda: list(skips(page)) == ["Skip, event 1", "Skip: once more, event 2"], lambda: f"it doesn't ask again: {list(skips(page))}")
     must(column(page, 2)[2] == "", "one press leaves out an event")
     skips(page)["Skip: once more, event 2"].click()
     awaits(page, "the call", told="skip 2: made")
     comes(lambda: column(page, 2) == ["on air", "cued", "left out"], lambda: f"the event isn't left out: {column(page, 2)}")
-    must(skips(page) == {}, f"what is left out can be left out again: {list(skips(page))}")
+    must(skips(page) == {}, f"what is left out can be left out again, or all can be: {list(skips(page))}")
     can_be_read(page)
 
 
@@ -256,8 +256,14 @@ def down(page):
     awaits(page, "the first one", air_item="CLIP0001", health="runs")
     leaves_out(page)
     os.kill(int(WORDS[0]), signal.SIGTERM)
-    awaits(page, "since when it is down", health=lambda it: re.fullmatch(r"no line since ([01]\d|2[0-3]):[0-5]\d:[0-5]\d: connecting", it), air_item="CLIP0001", air_time=begins_with("for 00:00:"))
+    awaits(
+        page, "since when it is down",
+        health=lambda it: re.fullmatch(r"line down since ([01]\d|2[0-3]):[0-5]\d:[0-5]\d: tried again each second", it),
+        air_item="CLIP0001", air_time=lambda it: re.fullmatch(r"for 00:00:\d\d, until ([01]\d|2[0-3]):[0-5]\d:[0-5]\d by its length", it),
+    )  # fmt: skip
     must((class_of(page, "health"), page.find_element(By.TAG_NAME, "body").get_attribute("class")) == ("gone", "stale"), "that isn't told in red, or the rest isn't dim")
+    types(page, "h")
+    awaits(page, "a call without a line", told="hold: made", hold="Go (G)")
 
 
 opened = browser(1200, 800)

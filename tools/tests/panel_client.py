@@ -1,5 +1,6 @@
 #!/usr/bin/env python3
-"""panel_client.py ADDR state|until PATTERN|statuses|holds_on|flood|keeps TOKEN|greedy SECONDS|METHOD PATH FIELD..: asks a panel by bytes of its own."""
+"""panel_client.py ADDR state|until PATTERN|oddities|holds_on|flood|keeps TOKEN|greedy SECONDS|METHOD PATH FIELD..: asks a panel by bytes of its own.
+Of a request by METHOD it prints the status; its host is ADDR unless it has a field Host, and that is left out if it's empty."""
 import contextlib
 import re
 import resource
@@ -17,8 +18,9 @@ def connect():
     return socket.create_connection((HOST, int(PORT)), timeout=20)
 
 
-def request(line, *fields, host=NAME):
-    return "\r\n".join([f"{line} HTTP/1.1", *[f"Host: {host}"] * bool(host), *fields, "", ""]).encode()
+def request(line, *fields):
+    fields = fields if any(it.startswith("Host:") for it in fields) else (f"Host: {NAME}", *fields)
+    return "\r\n".join([f"{line} HTTP/1.1", *(it for it in fields if it != "Host:"), "", ""]).encode()
 
 
 def ask(data, step=1 << 16, until_closed=False):
@@ -42,43 +44,25 @@ def is_whole(answer):
     return size and len(body) >= int(size[1])
 
 
-def get(path, *fields, **host):
-    return ask(request(f"GET {path}", *fields, "Connection: close", **host))
+def get(path, *fields):
+    return ask(request(f"GET {path}", *fields, "Connection: close"))
 
 
 def code(answer):
     return answer[0].split()[1]
 
 
-def statuses():
-    page, no_body = get("/"), ask(request("HEAD /", "Connection: close"), until_closed=True)
+def oddities():
+    """What isn't said by METHOD, PATH and FIELDs, and what fields the page has."""
+    no_body = ask(request("HEAD /", "Connection: close"), until_closed=True)
     several = ask(request("GET /") + request("GET /state") + request("GET /none", "Connection: close"), until_closed=True)
-    rows = {
-        "page": code(page),
-        "state": code(get("/state")),
-        "head of the page": f"{code(no_body)}, {'a' if no_body[1] else 'no'} body",
-        "by localhost": code(get("/state", host=f"localhost:{PORT}")),
-        "own origin": code(get("/state", f"Origin: http://{NAME}")),
-        "page of another origin": code(get("/state", "Origin: http://example.org")),
-        "of two origins": code(get("/state", f"Origin: http://{NAME}", "Origin: http://example.org")),
-        "own target": code(get(f"http://{NAME}/state")),
-        "another target": code(get("http://example.org/state")),
-        "another host": code(get("/state", host="example.org")),
-        "no host": code(get("/state", host=None)),
-        "another path": code(get("/none")),
-        "long head": code(get("/", "X: " + "x" * 9000)),
-        "long body": code(ask(request("POST /", "Content-Length: 300") + b"x" * 300)),
-        "no request": code(ask(b"\x02\x04\x30\x01\r\n\r\n")),
-        "pipelined": " ".join(re.findall(r"HTTP/1.1 (\d+)", "".join(several))),
-        "byte by byte": code(ask(request("GET /state", "Connection: close"), 1)),
-    }
-    largest = 2**64 - 1
-    calls = ("POST /take", "POST /hold", "POST /go", "POST /skip/3", "GET /hold", "GET /go", "GET /skip/3", f"GET /skip/{largest}")
-    for line in (*calls, "GET /skip/03", "GET /skip/+3", "GET /skip/", "GET /skip", f"GET /skip/{largest + 1}", "POST /state", "PUT /"):
-        rows[line] = code(ask(request(line, "Content-Length: 0", "Connection: close")))
-    for name, it in rows.items():
-        print(name, it)
-    print(*sorted(re.findall(r"(?mi)^((?:x-|cache|content-sec|cross|referrer)\S+: .*?)\r?$", page[0])), sep="\n")
+    print("head of the page", code(no_body), "a body" if no_body[1] else "no body")
+    print("long head", code(get("/", "X: " + "x" * 9000)))
+    print("long body", code(ask(request("POST /", "Content-Length: 300") + b"x" * 300)))
+    print("no request", code(ask(b"\x02\x04\x30\x01\r\n\r\n")))
+    print("pipelined", *re.findall(r"HTTP/1.1 (\d+)", "".join(several)))
+    print("byte by byte", code(ask(request("GET /state", "Connection: close"), 1)))
+    print(*sorted(re.findall(r"(?mi)^((?:x-|cache|content-sec|cross|referrer)\S+: .*?)\r?$", get("/")[0])), sep="\n")
 
 
 def is_closed(line):
@@ -160,7 +144,7 @@ def keeps(token):
 
 def greedy(seconds):
     """Some ask as fast as they can; others ask, and never read."""
-    end, answered = time.monotonic() + seconds, 0
+    end, answered = time.monotonic() + float(seconds), 0
     deaf = [connect() for _ in range(2)]
     while time.monotonic() < end:
         for place, line in enumerate(deaf):
@@ -173,22 +157,22 @@ def greedy(seconds):
                 deaf[place] = connect()
         with contextlib.suppress(OSError, IndexError):
             answered += code(get("/state")) == "200"
-    if answered < 2 * seconds:
+    if answered < 2 * float(seconds):
         sys.exit(f"only {answered} answers in {seconds} seconds")
+
+
+def state():
+    print(get("/state")[1])
+
+
+def until(pattern):
+    while not re.search(pattern, get("/state")[1]):
+        time.sleep(0.01)
 
 
 if __name__ == "__main__":
     what, *words = sys.argv[2:]
-    if what == "greedy":
-        greedy(float(words[0]))
-    elif what == "keeps":
-        keeps(words[0])
-    elif what == "state":
-        print(get("/state")[1])
-    elif what == "until":
-        while not re.search(words[0], get("/state")[1]):
-            time.sleep(0.01)
-    elif what.isupper():
+    if what.isupper():
         print(code(ask(request(f"{what} {words[0]}", *words[1:], "Connection: close"))))
     else:
-        {"statuses": statuses, "holds_on": holds_on, "flood": flood}[what]()
+        globals()[what](*words)

@@ -24,16 +24,17 @@ def connected(address):
 
 
 def server(how, *answers):
-    """A run's commands get these answers, one after another, ANSWER~MS so many milliseconds late; after the last one it closes, or resets at
+    """A run's commands get these answers, one after another, ANSWER~MS so many milliseconds late, PIECE+PIECE in pieces; after the last one it closes, or resets at
     the next command, or babbles from that on, or drips a byte each ten milliseconds, or is mute. It prints each command that it reads."""
     line, _ = listening().accept()
     for answer in answers:
         if not (command := line.recv(512)):
             return
         print(command.hex(), flush=True)
-        digits, _, late = answer.partition("~")
-        time.sleep(int(late or 0) / 1000)
-        line.sendall(bytes.fromhex(digits))
+        for piece in answer.split("+"):
+            digits, _, late = piece.partition("~")
+            time.sleep(int(late or 0) / 1000)
+            line.sendall(bytes.fromhex(digits))
     if how == "closes":
         return
     line.recv(512, socket.MSG_PEEK)
@@ -70,7 +71,7 @@ def client(address, *words):
 class Between:
     """Carries commands to the server, and its answers to a run, after which the next one may come. plain: as they are, at the TCP port N, or one that the system
     chooses; severs: the Nth PLAY goes on, and both lines are closed, which it prints, and those after it are plain (at PORT, if it is named); cued: but first it cues
-    CLIP0001; split: each byte comes alone, and late by N milliseconds at one place after the other; twice: each answer comes twice; late: each
+    CLIP0001; deafens: the count byte of the Nth command is damaged, and what comes after it is plain; split: each byte comes alone, and late by N milliseconds at one place after the other; twice: each answer comes twice; late: each
     comes once the Nth command after it does; ahead: an ACK comes before each; trickle: a byte of junk comes every N milliseconds too; mute:
     such bytes come, and no answer; junk: bytes without end, and no answer; acks: an ACK comes every N milliseconds, and no answer; babble: from the
     Nth command on, when it prints so, a byte comes every 60 milliseconds, and no answer; until: the command of number N and all after it are
@@ -88,7 +89,7 @@ class Between:
             run.setsockopt(socket.IPPROTO_TCP, socket.TCP_NODELAY, 1)
             with contextlib.suppress(OSError), run, line or connected(address) as line:
                 self.carry(run, line)
-            if how not in ("plain", "severs"):
+            if how not in ("plain", "severs", "deafens"):
                 return
             line = None
 
@@ -126,6 +127,9 @@ class Between:
                     if self.much == 0:
                         print("babbles", flush=True)
                         self.wait, later = 0.06, [(0, b"\xff")]
+                self.count += self.how == "deafens"
+                if self.how == "deafens" and self.count == self.much:
+                    self.how, piece = "plain", piece[:1] + b"\xff" + piece[2:]
                 line.sendall(piece)
                 self.count += self.how == "severs" and piece == bytes.fromhex("02021001ef")
                 if self.how == "severs" and self.count == self.much:

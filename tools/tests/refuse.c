@@ -25,31 +25,6 @@
 #define NEXT(name) ((__typeof__(name) *)dlsym(RTLD_NEXT, #name))
 #define TELL(...) (getenv("WATCHED") ? dprintf(9, __VA_ARGS__) : 0)
 
-static void die(void) {
-    kill(getpid(), SIGKILL);
-    for (;;) pause();
-}
-
-static int is_killed(const char *how) { return getenv("KILL_HOW") && !strcmp(getenv("KILL_HOW"), how); }
-
-// Whether the program is killed after this act; it ends here if before it.
-static int is_last(void) {
-    static long acts;
-    const char *at = getenv("KILL_AT");
-    if (!at || ++acts != atol(at)) return 0;
-    if (is_killed("before")) die();
-    return 1;
-}
-
-#define ACT(type, call, ...) \
-    do { \
-        int last = is_last(); \
-        type result = NEXT(call)(__VA_ARGS__); \
-        if (last) die(); \
-        return result; \
-    } while (0)
-#define SOME(count) (last && is_killed("torn") ? (count + 1) / 2 : count)
-
 // Whether it's the turn of what is counted: 0 before, 1 if it is to be refused, 2 afterwards.
 static int turn_of(const char *variable, long *count) {
     const char *number = getenv(variable);
@@ -59,6 +34,27 @@ static int turn_of(const char *variable, long *count) {
     ++*count;
     return *count < wanted ? 0 : *count == wanted || *rest == '-' ? 1 : 2;
 }
+
+// Whether the program is killed at this act, in this way.
+static int is_killed(const char *how) { return getenv("KILL_HOW") && !strcmp(getenv("KILL_HOW"), how); }
+static void die(void) {
+    kill(getpid(), SIGKILL);
+    for (;;) pause();
+}
+static int is_last(void) {
+    static long acts;
+    int last = turn_of("KILL_AT", &acts) == 1;
+    if (last && is_killed("before")) die();
+    return last;
+}
+#define ACT(type, call, ...) \
+    do { \
+        int last = is_last(); \
+        type result = NEXT(call)(__VA_ARGS__); \
+        if (last) die(); \
+        return result; \
+    } while (0)
+#define SOME(count) (last && is_killed("torn") ? (count + 1) / 2 : count)
 
 static int refused(int error, const char *mark) {
     NEXT(write)(9, mark, strlen(mark));
@@ -70,17 +66,11 @@ static int is_refused_growth(void) {
     static long growths;
     return turn_of("REFUSED_GROWTHS", &growths) == 1 && refused(ENOMEM, "!");
 }
-
 void *malloc(size_t size) { return is_refused_growth() ? NULL : NEXT(malloc)(size); }
-
 void *realloc(void *block, size_t size) { return is_refused_growth() ? NULL : NEXT(realloc)(block, size); }
 
 static void tell_of_sending(const unsigned char *bytes, size_t count) { TELL("send %02x%02x\n", count > 3 ? bytes[2] : 0, count > 3 ? bytes[3] : 0); }
-
-static const char *last_part(const char *path) {
-    const char *last = strrchr(path, '/');
-    return last ? last + 1 : path;
-}
+static const char *last_part(const char *path) { return strrchr(path, '/') ? strrchr(path, '/') + 1 : path; }
 
 // What is open there: a path, or 'socket:[N]' and the like. (A new one each time, in the same place.)
 static const char *open_at(int file) {
@@ -118,16 +108,14 @@ ssize_t send(int socket, const void *bytes, size_t count, int flags) {
     ACT(ssize_t, send, socket, bytes, SOME(count), flags);
 }
 
-ssize_t recv(int socket, void *bytes, size_t count, int flags) { ACT(ssize_t, recv, socket, bytes, count, flags); }
-
-int connect(int socket, const struct sockaddr *to, socklen_t length) { ACT(int, connect, socket, to, length); }
-
-int ftruncate(int file, off_t size) { ACT(int, ftruncate, file, size); }
-
 ssize_t sendto(int socket, const void *bytes, size_t count, int flags, const struct sockaddr *to, socklen_t length) {
     tell_of_sending(bytes, count);
     return NEXT(sendto)(socket, bytes, count, flags, to, length);
 }
+
+ssize_t recv(int socket, void *bytes, size_t count, int flags) { ACT(ssize_t, recv, socket, bytes, count, flags); }
+int connect(int socket, const struct sockaddr *to, socklen_t length) { ACT(int, connect, socket, to, length); }
+int ftruncate(int file, off_t size) { ACT(int, ftruncate, file, size); }
 
 int fsync(int file) {
     TELL("sync %s\n", last_part(open_at(file)));
@@ -142,9 +130,8 @@ int fdatasync(int file) {
 }
 
 int rename(const char *file, const char *to) {
-    const char *text = getenv("REFUSED_TEXT");
-    size_t length = text ? strlen(text) : 0;
-    if (text && strlen(to) >= length && !strcmp(to + strlen(to) - length, text)) return refused(ENOSPC, "refused\n");
+    const char *text = getenv("REFUSED_TEXT"), *end = text && strlen(to) >= strlen(text) ? to + strlen(to) - strlen(text) : NULL;
+    if (end && !strcmp(end, text)) return refused(ENOSPC, "refused\n");
     TELL("rename %s %s\n", last_part(file), last_part(to));
     return NEXT(rename)(file, to);
 }
