@@ -377,7 +377,7 @@ fn with_run(mut runs: Vec<RunAirings>, run: RunAirings) -> Result<Vec<RunAirings
     }
 }
 
-// What plays on behind a run ends as the runs behind it show.
+// Gives the last airing of each run the end that only the rows of later runs show.
 fn with_ends(alloc: Global, mut runs: Vec<RunAirings>) -> Result<Vec<RunAirings>, Refusal>
     ensures ended { (items : List Item) (heading : Heading) (all : List Run) → EachShowsAlone items heading all runs.items
         → IfOk result (λ ended. RunsShow items heading all ended.items) }

@@ -15,7 +15,7 @@ pub(crate) enum Skipped {
     Refused,
     /// It may have aired, in the first run or before that.
     Unsure,
-    /// The operator began the second run behind it.
+    /// An operator left it out, or began the next run with a later event.
     ByHand,
 }
 
@@ -67,7 +67,7 @@ pub(crate) fn why_skipped(unsure: Option<usize>, outcome: Option<Outcome>) -> Sk
     }
 }
 
-/// The reasons of so many events in a row: the first one has `first`, and all others were left out by hand.
+/// Why each of so many events in a row was left out: the first one for this reason, the others by hand.
 pub(crate) fn reasons(
     alloc: Global,
     count: usize,
