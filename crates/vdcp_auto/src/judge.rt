@@ -41,8 +41,8 @@ pub struct Ruling {
     pub settles: bool,
 }
 
-/// Holds an automation's exchanges against the rule book, one after another, as `add` takes them. The log in a clause
-/// is any that the judge was given so from its first exchange on.
+/// Compares an automation's exchanges with the rule book, one after another, as `add` takes them. In a clause the log is
+/// what this judge was given since it was made.
 #[derive(Drop)]
 pub struct Judge<S: Source> {
     source: S,

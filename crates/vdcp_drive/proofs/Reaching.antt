@@ -39,6 +39,7 @@ run_reached : {E : Type 0} (fold : Fold E) (plan : Plan) (unit : ℕ) (a : Auto 
 run_reached fold plan unit a [] log h = subst (Reached plan a.state) (sym (append-nil log)) h
 run_reached fold plan unit a (calls call.Take ∷ later) log h = run_reached fold plan unit (heeds call.Take a) later log (called h Take)
 run_reached fold plan unit a (calls call.Stop ∷ later) log h = run_reached fold plan unit (heeds call.Stop a) later log (called h Stop)
+run_reached fold plan unit a (calls (call.List l) ∷ later) log h = run_reached fold plan unit a later log h
 run_reached fold plan unit a (arrives what ∷ later) log h =
     let hs : List (Option Heard) = inputs fold unit what a.ear in
     simp append_assoc at (run_reached fold plan unit (listens fold plan unit what (gives a)) later

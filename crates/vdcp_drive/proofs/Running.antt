@@ -136,6 +136,7 @@ turn_called rules fold plan unit a c w k k₁ k₂ going asked kept = record {
   still : (c : Call) → IsNone (outcome_of (called c a.state).stage)
   still call.Take = subst (λ (o : Option Outcome). IsNone o) (sym going) refl
   still call.Stop = subst (λ (o : Option Outcome). IsNone o) (sym going) refl
+  still (call.List l) = subst (λ (o : Option Outcome). IsNone o) (sym going) refl
 
 -- or isn't kept
 pub turn_missed : {E W J : Type 0} (rules : Rules W J) (fold : Fold E) (plan : Plan) (unit : ℕ) (a : Auto E) (c : Call)

@@ -153,6 +153,7 @@ ended_exchanged (e ∷ log) = end_exchanged e.heard (ended_notes log) (ended_exc
 call_awaits : {E : Type 0} (plan : Plan) (c : Call) (a : Auto E) → awaited plan (heeds c a).state ≡ awaited plan a.state
 call_awaits plan call.Take a = refl
 call_awaits plan call.Stop a = refl
+call_awaits plan (call.List l) a = refl
 
 -- The rows of a run, after the command that was awaited before it, are those of the exchanges that ended in it, and of
 -- the command that is awaited behind it; and its calls.

@@ -57,10 +57,11 @@ arrivals [] = []
 arrivals (arrives what ∷ later) = what ∷ arrivals later
 arrivals (calls c ∷ later) = arrivals later
 
--- a call
+-- a call; one on the list leaves the controller as it is
 abbrev pub called : Call → State → State
 called call.Take state = taken state
 called call.Stop state = stopped state
+called (call.List c) state = state
 
 abbrev pub heeds : {E : Type 0} → Call → Auto E → Auto E
 heeds c a = record { ear = a.ear; state = called c a.state }

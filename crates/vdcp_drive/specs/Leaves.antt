@@ -35,12 +35,6 @@ pub data HasSendBroken {W : Type 0} (does : Act → W → W → Type 0) (first :
       → command_bytes unit c ≡ front ++ rest → Chain does (dropping first ++ sends front ∷ []) wire wire'
       → HasSendBroken does first plan unit state state' wire wire'
 
-abbrev pub HasSent : {W E : Type 0} → (Act → W → W → Type 0) → Bool → Plan → ℕ → State → State → W → W
-    → Result Bool E → Type 0
-HasSent does first plan unit state state' wire wire' (Ok is_sent) = (is_sent ≡ is_some (given plan state))
-    × (state' ≡ ticked state) × Chain does (sending first unit (given plan state)) wire wire'
-HasSent does first plan unit state state' wire wire' (Err e) = HasSendBroken does first plan unit state state' wire wire'
-
 -- the command that is given couldn't be kept
 abbrev pub Misses : {J : Type 0} → (Kept → J → J → Type 0) → Option Command → J → J → Type 0
 Misses loses None old new = ⊥

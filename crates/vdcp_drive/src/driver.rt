@@ -1,16 +1,16 @@
 //! The automation's end: it sends commands, and hears what comes for them.
-ghost use Rattle.std.specs.Prelude.{◌≡◌, ◌≢◌, ◌≤◌, ◌<◌, ◌∷◌, [], take, true, false, if◌then◌else◌, OnErr, OnOk, IsErr, IsFalse, IsTrue, Some, Err, Ok};
+ghost use Rattle.std.specs.Prelude.{◌≡◌, ◌≢◌, ◌≤◌, ◌<◌, ◌∷◌, [], take, true, false, if◌then◌else◌, OnErr, OnOk, IsFalse, IsTrue, Some, Err, Ok};
 ghost use Rattle.vdcp_frame.specs.Message.{AreOctets};
 ghost use Rattle.vdcp_auto.specs.Plan.{plan_of};
 ghost use Rattle.vdcp_auto.specs.Turn as turns;
 ghost use Rattle.vdcp_drive.specs.Auto.{called, ended, receives};
-ghost use Rattle.vdcp_drive.specs.Leaves.{HasKeptAndSent, HasListened, HasRun, HasSent, HearsPiece, Notes, RunLeaves};
+ghost use Rattle.vdcp_drive.specs.Leaves.{HasKeptAndSent, HasListened, HasRun, HearsPiece, Notes, RunLeaves};
 ghost use Rattle.vdcp_drive.specs.Lines.{is_broken, ran_of, ran_unless_ended};
 ghost use Rattle.vdcp_drive.specs.Steps.{Chain, ended_notes};
 
 use crate::ear::Ear;
-use crate::hooks::{BrokenOff, Call, Hooks, KeepFault, Next, Unhooked};
-use crate::line::{DriveFault, Line, Ran};
+use crate::hooks::{BrokenOff, Call, Hooks, KeepFault, Next};
+use crate::line::{Line, Ran};
 use std::marker::Model;
 use vdcp_auto::{Controller, Heard, Source};
 use vdcp_wire::{Came, PIECE, Wire, WireFault};
@@ -55,37 +55,6 @@ impl<S: Source, E: Ear, W: Wire> Driver<S, E, W> {
         ensures { result.now ≡ self.now.controller }
     {
         &self.controller
-    }
-
-    /// Sends the next command, and says whether there was one: none while an answer is awaited and after the end.
-    pub fn send(&mut self) -> Result<bool, DriveFault>
-        ensures sends { W.failures self.old.wire ≡ 0 → HasSent W.does E.fold.drops
-            (plan_of S.items self.old.controller) self.old.unit
-            self.old.controller.state self.new.controller.state self.old.wire self.new.wire result }
-        ensures controller { self.new.controller ≡ record self.old.controller { state = self.new.controller.state } }
-        ensures keeps { self.new ≡ record self.old { controller = self.new.controller; wire = self.new.wire } }
-        ensures works { OnOk result (W.failures self.new.wire ≡ 0) }
-        ensures device { OnErr result (W.failures self.new.wire ≡ 1) }
-        ensures stays { W.failures self.old.wire ≡ 1 → IsErr result × (self.new ≡ self.old) }
-    {
-        if self.failed {
-            return Err(DriveFault::Device);
-        }
-        match send_next(
-            &mut self.controller,
-            self.unit,
-            &self.ear,
-            &mut self.wire,
-            &mut Unhooked,
-        ) {
-            Ok(is_sent) => Ok(is_sent),
-            Err(BrokenOff::Device) => {
-                self.failed = true;
-                Err(DriveFault::Device)
-            }
-            Err(BrokenOff::Unkept) => unreachable!(),
-            Err(BrokenOff::Left) => unreachable!(),
-        }
     }
 
     /// Runs an automation until the controller has ended, the other end has closed or this many turns were made. At
@@ -178,6 +147,7 @@ fn give<S: Source>(controller: &mut Controller<S>, call: Call)
     match call {
         Call::Take => controller.take(),
         Call::Stop => controller.stop(),
+        Call::List(_) => {}
     }
 }
 

@@ -1,13 +1,15 @@
 //! What takes part in an automation's run beside its wire: it keeps exchanges, makes calls and looks on.
 use thiserror::Error;
-use vdcp_auto::{Controller, Heard, Source};
+use vdcp_auto::{Controller, Heard, ListCall, Source};
 use vdcp_words::Command;
 
-/// An operator's call, as `Controller::take` and `Controller::stop` have it.
+/// An operator's call. `Take` and `Stop` are given to the controller once they are kept; one on the list is only kept, and
+/// the hooks heed it.
 #[derive(Clone, Copy, Debug, PartialEq, Eq)]
 pub enum Call {
     Take,
     Stop,
+    List(ListCall),
 }
 
 /// What an automation does next.

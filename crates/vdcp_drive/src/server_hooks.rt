@@ -16,7 +16,7 @@ pub enum Due {
     GiveUp,
 }
 
-/// What a turn of a server was.
+/// What a server did in a turn.
 #[derive(Clone, Copy, Debug, PartialEq, Eq)]
 pub enum Turned {
     Listen(Came),
