@@ -1,24 +1,22 @@
 -- A PLAY that the rows announce comes next, and the state that is added before it lets it go out.
-use Rattle.std.proofs.Common.{◌≡◌, ℕ, Bool, true, false, not, ◌||◌, ◌&&◌, Option, None, Some, refl, sym, ap, ap₂, bit_and, ◌∙◌}
+use Rattle.std.proofs.Common.{◌≡◌, ℕ, Bool, true, false, not, ◌||◌, ◌&&◌, None, Some, refl, sym, ap, ap₂, bit_and, ◌∙◌}
 use Rattle.std.proofs.lemmas.Nat.{and_assoc}
 use Rattle.std.specs.Int.Bits.{and_zero_r}
 use Rattle.std.specs.Prelude.{◌==◌, IsTrue, if◌then◌else◌}
 use Rattle.vdcp_auto.specs.Plan.{Plan}
 use Rattle.vdcp_auto.specs.Replies.{is_done, is_empty, is_playing}
-use Rattle.vdcp_auto.specs.State.{Stage, Ready, Awaiting, Ended, State}
+use Rattle.vdcp_auto.specs.State.{Stage, Ready, Awaiting, State}
 use Rattle.vdcp_auto.specs.Table.{on_lost_cue}
 use Rattle.vdcp_auto.specs.Turn.{came_to, given, state_after, taken, ticked}
 use Rattle.vdcp_auto.specs.declared.exchange.Heard.{Heard}
 use Rattle.vdcp_auto.specs.declared.exchange.Heard.TheVariants as heard
-use Rattle.vdcp_auto.specs.declared.phase.Phase.{Phase}
 use Rattle.vdcp_auto.specs.declared.phase.Phase.TheVariants as phase
 use Rattle.vdcp_auto.specs.declared.phase.Transition.TheVariants.{Goes}
 use Rattle.vdcp_journal.proofs.StateAgain.{ended, made, state}
-use Rattle.vdcp_journal.specs.Mending.{announced_state, free_state}
+use Rattle.vdcp_journal.specs.Mending.{announced_state}
 use Rattle.vdcp_journal.specs.Thinned.{hears_done, hears_free}
 use Rattle.vdcp_journal.specs.declared.row.Note.TheVariants as note
 use Rattle.vdcp_words.specs.declared.command.Command.TheVariants as command
-use Rattle.vdcp_words.specs.declared.reply.Reply.{Reply}
 use Rattle.vdcp_words.specs.declared.reply.Reply.TheVariants as reply
 
 goes : (done plays : Bool) → done ≡ true → (done && (not plays || true)) ≡ true

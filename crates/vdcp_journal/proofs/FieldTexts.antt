@@ -9,8 +9,9 @@ use Rattle.std.specs.Prelude.{◌==◌, ◌&&◌, not, nat_le, Some, None, decim
 use Rattle.std.proofs.Common.{inl, inr}
 use Rattle.vdcp_auto.specs.declared.exchange.Heard.{Heard}
 use Rattle.vdcp_auto.specs.declared.exchange.Heard.TheVariants as heard
+use Rattle.vdcp_auto.specs.declared.list_call.ListCall.TheVariants.{Hold, Go, Skip}
 use Rattle.vdcp_auto.specs.declared.outcome.Outcome.{Outcome}
-use Rattle.vdcp_auto.specs.declared.outcome.Outcome.TheVariants.{Done, Stopped, Lost, Denied, Missing, Refused, Foreign, Strange}
+use Rattle.vdcp_auto.specs.declared.outcome.Outcome.TheVariants.{Missing, Refused, Foreign, Strange}
 use Rattle.vdcp_frame.specs.Message.{spelling}
 use Rattle.vdcp_journal.proofs.CsvRows.{ArePlain}
 use Rattle.vdcp_journal.proofs.HexTexts.{spelt_some}
@@ -148,6 +149,9 @@ pub note_plain : IdTexts → (unit : ℕ) (n : Note) → IsWritableNote n → Ar
 note_plain v unit (note.Sent c) h = (refl, (command_plain v c, (encoded (spelling (command_message unit c)), tt)))
 note_plain v unit (note.Heard (heard.Reply r)) h =
     (refl, (reply_plain v r, (encoded (spelling (reply_message unit r)), tt)))
+note_plain v unit (note.List Hold) h = (refl, (refl, (refl, tt)))
+note_plain v unit (note.List Go) h = (refl, (refl, (refl, tt)))
+note_plain v unit (note.List (Skip first end)) h = (refl, (numeral first h.0, (numeral end h.1, tt)))
 note_plain v unit (note.End outcome) h = (refl, outcome_plain outcome h)
 note_plain v unit (note.From k) h = (refl, (numeral k h, (refl, tt)))
 note_plain v unit (note.Left k) h = (refl, (numeral k h, (refl, tt)))

@@ -8,7 +8,7 @@ use Rattle.std.proofs.lemmas.List.Elements.{All-head, All-tail}
 use Rattle.std.specs.Cmp.Lexicographic.{bytes_decides, pointwise}
 use Rattle.std.specs.Prelude.{MatchResult, Result, Ok, Err, nat_eq, not}
 use Rattle.std.specs.Result.{is_err}
-use Rattle.vdcp_frame.specs.Message.{Content, ack, nak, framed, spelling}
+use Rattle.vdcp_frame.specs.Message.{Content, ack, spelling}
 
 pub are_bytes : (xs : List ℕ) → All (λ b. b < 256) xs → IsBytes xs
 are_bytes [] h i = omega arith

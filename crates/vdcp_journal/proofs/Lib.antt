@@ -18,5 +18,6 @@ mod AiringSteps
 mod RunSteps
 mod StateAgain
 mod Thinning
+mod Saying
 mod Journals
 mod Added

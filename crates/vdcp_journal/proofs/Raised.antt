@@ -4,7 +4,7 @@ use Rattle.std.specs.Option.{option_map_or}
 use Rattle.std.specs.Prelude.{if◌then◌else◌, nat_le, nat_lt}
 use Rattle.vdcp_value.specs.declared.part.Item.{Item}
 use Rattle.vdcp_words.specs.declared.reply.Reply.{Reply}
-use Rattle.vdcp_auto.specs.Course.{Call, Tick, Receive, Take, Stop, Forget}
+use Rattle.vdcp_auto.specs.Course.{Call, Tick, Receive}
 use Rattle.vdcp_auto.specs.Log.{answer_in, is_counted}
 use Rattle.vdcp_auto.specs.Plan.{Plan}
 use Rattle.vdcp_auto.specs.Replies.{is_empty, is_refusal}
@@ -13,7 +13,7 @@ use Rattle.vdcp_auto.specs.Table.{on_lost_cue, on_no_answer, on_reply}
 use Rattle.vdcp_auto.specs.Turn.{ended_by, ended_in, outcome_of, stage_after, state_after, transition_of, transition_on, unanswered_after}
 use Rattle.vdcp_auto.specs.declared.exchange.Exchange.{Exchange}
 use Rattle.vdcp_auto.specs.declared.outcome.Outcome.{Outcome}
-use Rattle.vdcp_auto.specs.declared.outcome.Outcome.TheVariants.{Done, Stopped, Lost, Denied, Missing, Refused, Foreign, Strange}
+use Rattle.vdcp_auto.specs.declared.outcome.Outcome.TheVariants.{Lost, Refused, Strange}
 use Rattle.vdcp_auto.specs.declared.phase.Mode.{Mode}
 use Rattle.vdcp_auto.specs.declared.phase.Mode.TheVariants.{Plain, Confirming}
 use Rattle.vdcp_auto.specs.declared.phase.Phase.{Phase}

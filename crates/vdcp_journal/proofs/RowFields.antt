@@ -4,7 +4,7 @@ use Rattle.csv.specs.Records.{field_at}
 use Rattle.std.specs.Prelude.{None, Option, Some, is_some, option_map, slice_get, true}
 use Rattle.vdcp_journal.specs.Journals.{HasNoNote, IsFaultOfWord, IsRowFault}
 use Rattle.vdcp_journal.specs.Rows.{Fields}
-use Rattle.vdcp_journal.specs.declared.faults.JournalRowFault.TheVariants.{Fields as Many, Time, Word, Command, Reply, Outcome, Event, Detail, Digest, Mode, Number}
+use Rattle.vdcp_journal.specs.declared.faults.JournalRowFault.TheVariants.{Fields as Many, Time, Digest, Mode, Number}
 use Rattle.vdcp_journal.specs.declared.faults.JournalRowFault.{JournalRowFault}
 
 pub row_fault : (unit : ℕ) (time word text detail : List ℕ) (fault : JournalRowFault) → IsFaultOfWord word fault

@@ -13,7 +13,7 @@ use Rattle.vdcp_auto.specs.State.{State, Ended}
 use Rattle.vdcp_auto.specs.Turn.{ended_by, outcome_of, start}
 use Rattle.vdcp_auto.specs.declared.exchange.Heard.{Heard}
 use Rattle.vdcp_auto.specs.declared.outcome.Outcome.{Outcome}
-use Rattle.vdcp_auto.specs.declared.outcome.Outcome.TheVariants.{Done, Stopped, Lost, Denied, Missing, Refused, Foreign, Strange}
+use Rattle.vdcp_auto.specs.declared.outcome.Outcome.TheVariants.{Lost}
 use Rattle.vdcp_journal.proofs.Raised.{EndedOr, called, raised, told_raised}
 use Rattle.vdcp_journal.proofs.Told.{after_more, told_more}
 use Rattle.vdcp_journal.specs.RunsSoFar.{IsMadeBy, IsCalled, IsRaised, Remembers, RunView, again_of, again_under, call_if, limit_now}

@@ -15,7 +15,7 @@ use Rattle.vdcp_auto.specs.declared.exchange.Heard.{Heard}
 use Rattle.vdcp_auto.specs.declared.phase.Mode.{Mode}
 use Rattle.vdcp_auto.specs.declared.phase.Mode.TheVariants.{Plain, Confirming}
 use Rattle.vdcp_auto.specs.declared.phase.Transition.{Transition}
-use Rattle.vdcp_auto.specs.declared.phase.Transition.TheVariants.{Goes, Settles, Retries, Ends}
+use Rattle.vdcp_auto.specs.declared.phase.Transition.TheVariants.{Goes}
 use Rattle.vdcp_journal.specs.Resume.{AreTold, Tells, after_call_if, after_rows, call_of, ended_at, exchange_with, log_from, open_after, timed_out}
 use Rattle.vdcp_journal.specs.declared.row.Note.{Note}
 use Rattle.vdcp_journal.specs.declared.row.Note.TheVariants as note
@@ -127,6 +127,7 @@ reaches_row plan note.Silence rows more s log asked r is tells told =
     reaches_came plan None rows more s log asked r is tells told
 reaches_row plan note.Take rows more s log asked r is tells told = more (taken s) log asked (called r Take) is told
 reaches_row plan note.Stop rows more s log asked r is tells told = more (stopped s) log asked (called r Stop) is told
+reaches_row plan (note.List c) rows more s log asked r is tells told = more s log asked r is told
 reaches_row plan (note.End outcome) rows more s log asked r is tells told = more s log asked r is told
 reaches_row plan (note.From k) rows more s log asked r is tells told = absurd tells
 reaches_row plan (note.Left k) rows more s log asked r is tells told = absurd tells

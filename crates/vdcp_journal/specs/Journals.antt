@@ -53,8 +53,9 @@ abbrev pub IsFaultOfWord : List ℕ → JournalRowFault → Type 0
 IsFaultOfWord word wrong.Command = word ≡ codes "sent"
 IsFaultOfWord word wrong.Reply = word ≡ codes "heard"
 IsFaultOfWord word wrong.Outcome = word ≡ codes "end"
-IsFaultOfWord word wrong.Event = (word ≡ codes "from") ⊎ (word ≡ codes "left")
-IsFaultOfWord word wrong.Detail = (word ≡ codes "silence") ⊎ ((word ≡ codes "take") ⊎ (word ≡ codes "stop"))
+IsFaultOfWord word wrong.Event = (word ≡ codes "from") ⊎ ((word ≡ codes "left") ⊎ (word ≡ codes "skip"))
+IsFaultOfWord word wrong.Detail = (word ≡ codes "silence") ⊎ ((word ≡ codes "take") ⊎ ((word ≡ codes "stop")
+    ⊎ ((word ≡ codes "hold") ⊎ (word ≡ codes "go"))))
 IsFaultOfWord word wrong.Word = (unit : ℕ) (n : Note) → slice_get (note_fields unit n) 0 ≢ Some word
 IsFaultOfWord word _ = ⊥
 

@@ -9,5 +9,6 @@ pub mod Airings
 pub mod Thinned
 pub mod Mending
 pub mod Runs
+pub mod ListCalls
 pub mod Reading
 pub mod Journals

@@ -1,8 +1,9 @@
 -- What is read of a journal's bytes.
 use Rattle.std.specs.Prelude.{ℕ, ◌<◌, ◌^◌, ◌==◌, ⊤, List, [], ◌∷◌, ◌++◌, Option, if◌then◌else◌, option_map, slice_range}
 use Rattle.vdcp_auto.specs.declared.exchange.Heard.TheVariants as heard
+use Rattle.vdcp_auto.specs.declared.list_call.ListCall.TheVariants.{Skip}
 use Rattle.vdcp_auto.specs.declared.outcome.Outcome.{Outcome}
-use Rattle.vdcp_auto.specs.declared.outcome.Outcome.TheVariants.{Done, Stopped, Lost, Denied, Missing, Refused, Foreign, Strange}
+use Rattle.vdcp_auto.specs.declared.outcome.Outcome.TheVariants.{Missing, Refused, Foreign, Strange}
 use Rattle.vdcp_journal.specs.declared.row.Heading.{Heading}
 use Rattle.vdcp_journal.specs.declared.row.Note.{Note}
 use Rattle.vdcp_journal.specs.declared.row.Note.TheVariants as note
@@ -47,6 +48,7 @@ IsWritableOutcome outcome = ⊤
 abbrev pub IsWritableNote : Note → Type 0
 IsWritableNote (note.Sent c) = IsWritableCommand c
 IsWritableNote (note.Heard (heard.Reply r)) = IsWritableReply r
+IsWritableNote (note.List (Skip first end)) = (first < 2 ^ 64) × (end < 2 ^ 64)
 IsWritableNote (note.End outcome) = IsWritableOutcome outcome
 IsWritableNote (note.From k) = k < 2 ^ 64
 IsWritableNote (note.Left k) = k < 2 ^ 64

@@ -15,13 +15,14 @@ use Rattle.vdcp_journal.specs.declared.row.Note.TheVariants as note
 use Rattle.vdcp_journal.specs.declared.row.Row.{Row}
 use Rattle.vdcp_words.specs.declared.command.Command.{Command as Asked}
 
--- the call of a controller that a note tells of; an end is no call, nor is the beginning of another run
+-- the call of a controller that a note tells of; what is said of the list is none, nor is an end or the beginning of another run
 abbrev pub call_of : Note → Option Call
 call_of (note.Sent c) = Some Tick
 call_of (note.Heard h) = Some (Receive (Some h))
 call_of note.Silence = Some (Receive None)
 call_of note.Take = Some Take
 call_of note.Stop = Some Stop
+call_of (note.List c) = None
 call_of (note.End outcome) = None
 call_of (note.From k) = None
 call_of (note.Left k) = None
@@ -44,6 +45,7 @@ Tells plan state (note.Heard h) = IsTrue (is_some (ended_by plan (Some h) state)
 Tells plan state note.Silence = IsTrue (is_some (ended_by plan None state))
 Tells plan state note.Take = outcome_of state.stage ≡ None
 Tells plan state note.Stop = outcome_of state.stage ≡ None
+Tells plan state (note.List c) = outcome_of state.stage ≡ None
 Tells plan state (note.End Lost) = ⊤
 Tells plan state (note.End outcome) = outcome_of state.stage ≡ Some outcome
 Tells plan state (note.From k) = ⊥

@@ -4,6 +4,8 @@ use Rattle.hex.specs.Hex.{encode_lower}
 use Rattle.std.specs.Prelude.{ℕ, ◌≡◌, List, [], ◌∷◌, ◌++◌, codes, decimal, map}
 use Rattle.std.specs.List.{flat_map}
 use Rattle.vdcp_auto.specs.declared.exchange.Heard.TheVariants as heard
+use Rattle.vdcp_auto.specs.declared.list_call.ListCall.{ListCall}
+use Rattle.vdcp_auto.specs.declared.list_call.ListCall.TheVariants.{Hold, Go, Skip}
 use Rattle.vdcp_auto.specs.declared.outcome.Outcome.{Outcome}
 use Rattle.vdcp_auto.specs.declared.outcome.Outcome.TheVariants.{Done, Stopped, Lost, Denied, Missing, Refused, Foreign, Strange}
 use Rattle.vdcp_auto.specs.declared.phase.Mode.{Mode}
@@ -34,6 +36,12 @@ outcome_fields (Refused k) = codes "refused" ∷ decimal k ∷ []
 outcome_fields (Foreign k) = codes "foreign" ∷ decimal k ∷ []
 outcome_fields (Strange k) = codes "strange" ∷ decimal k ∷ []
 
+-- what the operator said of the list; and the event with which what is left out begins, and the one with which the list goes on
+abbrev pub call_fields : ListCall → Fields
+call_fields Hold = codes "hold" ∷ [] ∷ [] ∷ []
+call_fields Go = codes "go" ∷ [] ∷ [] ∷ []
+call_fields (Skip first end) = codes "skip" ∷ decimal first ∷ decimal end ∷ []
+
 -- what is noted, its text for people, and its bytes on the line in lower-case hexadecimal digits
 abbrev pub note_fields : ℕ → Note → Fields
 note_fields unit (note.Sent c) = codes "sent" ∷ command_text c ∷ encode_lower (spelling (command_message unit c)) ∷ []
@@ -43,6 +51,7 @@ note_fields unit (note.Heard heard.Other) = codes "heard" ∷ codes "other" ∷ 
 note_fields unit note.Silence = codes "silence" ∷ [] ∷ [] ∷ []
 note_fields unit note.Take = codes "take" ∷ [] ∷ [] ∷ []
 note_fields unit note.Stop = codes "stop" ∷ [] ∷ [] ∷ []
+note_fields unit (note.List c) = call_fields c
 note_fields unit (note.End outcome) = codes "end" ∷ outcome_fields outcome
 note_fields unit (note.From k) = codes "from" ∷ decimal k ∷ [] ∷ []
 note_fields unit (note.Left k) = codes "left" ∷ decimal k ∷ [] ∷ []

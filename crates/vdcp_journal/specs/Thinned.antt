@@ -69,6 +69,7 @@ heard_after before (note.Heard h) = Some h
 heard_after before note.Silence = None
 heard_after before note.Take = None
 heard_after before note.Stop = None
+heard_after before (note.List c) = None
 heard_after before (note.End outcome) = None
 heard_after before (note.From k) = None
 heard_after before (note.Left k) = None

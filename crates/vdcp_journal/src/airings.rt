@@ -189,7 +189,7 @@ fn follow<S: Source>(judge: &mut Judge<S>, asked: &mut Option<Command>, note: &N
         Note::Sent(command) => *asked = Some(*command),
         Note::Heard(heard) => end(judge, asked, Some(*heard)),
         Note::Silence => end(judge, asked, None),
-        Note::Take | Note::Stop | Note::End(_) | Note::From(_) | Note::Left(_) => {}
+        _ => {}
     }
 }
 

@@ -45,9 +45,10 @@ pub enum JournalRowFault {
     Reply,
     #[error("has no outcome")]
     Outcome,
-    #[error("has no event to begin with")]
+    /// None to begin with, or none to leave out.
+    #[error("has no event")]
     Event,
-    /// Silence, take and stop have no text and no bytes.
+    /// Silence, take, stop, hold and go have no text and no bytes.
     #[error("has more than its word")]
     Detail,
     /// A heading's third field isn't 64 lower-case hexadecimal digits.

@@ -7,14 +7,15 @@ ghost use Rattle.vdcp_journal.specs.Rows.{AreBytesOf, note_fields, outcome_field
 use crate::row::Note;
 use arrayvec::{ArrayString, ArrayVec};
 use std::str;
-use vdcp_auto::{Heard, Outcome};
+use vdcp_auto::{Heard, ListCall, Outcome};
 use vdcp_words::LONGEST;
 
 // `word` is borrowed as the rest is, so that all can stand in one array.
 #[derive(Drop)]
 pub(crate) struct NoteFields<'a> {
     pub word: &'a str,
-    /// It is for people; or says how the controller ended, or which event a run begins with.
+    /// It is for people; or says how the controller ended, or is the event with which a run begins or with which what is
+    /// left out begins.
     pub text: ArrayString<64>,
     /// It is the bytes on the line, in hexadecimal digits; or the number of an event.
     pub detail: ArrayString<64>,
@@ -53,6 +54,13 @@ pub(crate) fn fields_of<'a>(
         Note::Silence => "silence",
         Note::Take => "take",
         Note::Stop => "stop",
+        Note::List(ListCall::Hold) => "hold",
+        Note::List(ListCall::Go) => "go",
+        Note::List(ListCall::Skip { first, end }) => {
+            push_number(&mut text, *first);
+            push_number(&mut detail, *end);
+            "skip"
+        }
         Note::End(outcome) => {
             show_outcome(outcome, &mut text, &mut detail);
             "end"

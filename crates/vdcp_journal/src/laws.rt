@@ -10,6 +10,7 @@ ghost use Rattle.vdcp_auto.specs.Turn.{came_to, given, outcome_of, start, taken,
 ghost use Rattle.vdcp_auto.specs.declared.exchange.Heard.{Heard};
 ghost use Rattle.vdcp_auto.specs.declared.phase.Mode.{Mode};
 ghost use Rattle.vdcp_journal.specs.Airings.{settled_in};
+ghost use Rattle.vdcp_journal.specs.ListCalls.{list_calls};
 ghost use Rattle.vdcp_journal.specs.Resume.{AreTold, MayGoOn, after_rows, log_of, timed_out};
 ghost use Rattle.vdcp_journal.specs.Reading.{AreWritable, IsWritableHeading, whole_lines};
 ghost use Rattle.vdcp_journal.specs.Rows.{journal_fields, journal_text};
@@ -37,7 +38,7 @@ pub fn what_is_told_is_lawful()
     reached_is_lawful();
 }
 
-/// A run that was lost, or that goes on, may go on as one with a greater limit: its rows tell what that one does, too.
+/// The rows of a run that was lost, or hasn't ended, are also those of a run with a greater limit: so it may go on as that.
 pub fn a_greater_limit_tells_the_same()
     ensures { (plan : Plan) (limit : ℕ) (rows : List Row) → plan.limit ≤ limit → AreTold plan start rows →
         MayGoOn (outcome_of (after_rows plan start rows).stage) →
@@ -69,13 +70,14 @@ pub fn a_cut_journal_is_a_front_of_its_rows()
     an_id_has_one_text();
 }
 
-/// Rows that leave out only what says nothing new make the same controller, and show as many events to be aired, and
-/// whether one more may have.
+/// Rows that leave out only what says nothing new make the same controller, say the same of the list, and show as many
+/// events to be aired, and whether one more may have.
 pub fn a_thinned_journal_makes_the_same()
     ensures makes { (plan : Plan) (all rows : List Row) → AreThinned all rows → AreTold plan start all →
         after_rows plan start rows ≡ after_rows plan start all }
     ensures told { (plan : Plan) (all rows : List Row) → AreThinned all rows → AreTold plan start all →
         AreTold plan start rows }
+    ensures says { (all rows : List Row) → AreThinned all rows → list_calls rows ≡ list_calls all }
     ensures counts { (mode : Mode) (all rows : List Row) → AreThinned all rows →
         settled_in mode rows ≡ settled_in mode all }
     ensures airs { (mode : Mode) (all rows : List Row) → AreThinned all rows →

@@ -39,8 +39,8 @@ fn fault_of(word: &[u8]) -> JournalRowFault
         b"sent" => JournalRowFault::Command,
         b"heard" => JournalRowFault::Reply,
         b"end" => JournalRowFault::Outcome,
-        b"from" | b"left" => JournalRowFault::Event,
-        b"silence" | b"take" | b"stop" => JournalRowFault::Detail,
+        b"from" | b"left" | b"skip" => JournalRowFault::Event,
+        b"silence" | b"take" | b"stop" | b"hold" | b"go" => JournalRowFault::Detail,
         _ => JournalRowFault::Word,
     }
 }

@@ -109,7 +109,7 @@ impl<'s, S: Source> RunSoFar<'s, S> {
         if !goes_on(&mut self.controller, note) {
             return false;
         }
-        if !matches!(note, Note::End(_)) {
+        if !matches!(note, Note::List(_) | Note::End(_)) {
             self.before = before;
             self.last = Some(*note);
         }
@@ -213,6 +213,7 @@ fn goes_on<S: Source>(controller: &mut Controller<S>, note: &Note) -> bool
             controller.stop();
             controller.outcome().is_none()
         }
+        Note::List(_) => controller.outcome().is_none(),
         // (that a run was lost is no call, and it may be gone on from)
         Note::End(Outcome::Lost) => true,
         Note::End(outcome) => controller.outcome() == Some(*outcome),
@@ -234,7 +235,7 @@ pub(crate) fn give<S: Source>(controller: &mut Controller<S>, note: &Note)
         Note::Silence => controller.timeout(),
         Note::Take => controller.take(),
         Note::Stop => controller.stop(),
-        Note::End(_) | Note::From(_) | Note::Left(_) => {}
+        Note::List(_) | Note::End(_) | Note::From(_) | Note::Left(_) => {}
     }
 }
 
@@ -243,8 +244,7 @@ fn fault_of(note: &Note) -> ResumeFault
 {
     match note {
         Note::Sent(_) => ResumeFault::Command,
-        Note::Heard(_) | Note::Silence | Note::Take | Note::Stop | Note::From(_) | Note::Left(_) =>
-            ResumeFault::Unawaited,
         Note::End(_) => ResumeFault::Outcome,
+        _ => ResumeFault::Unawaited,
     }
 }

@@ -1,6 +1,6 @@
 //! The heading, the rows and the notes of a journal.
 use crate::moment::Moment;
-use vdcp_auto::{Heard, Mode, Outcome};
+use vdcp_auto::{Heard, ListCall, Mode, Outcome};
 use vdcp_words::Command;
 
 /// What a journal belongs to: a run goes on only from one with an equal heading.
@@ -32,6 +32,8 @@ pub enum Note {
     /// The operator wanted the next event while the last one still played.
     Take,
     Stop,
+    /// What the operator said of the list.
+    List(ListCall),
     End(Outcome),
     /// A new run begins with this event of the list, counted from 0.
     From(usize),

@@ -1,10 +1,11 @@
 //! How the fields of a row are read.
 ghost use Rattle.hex.specs.Hex.{encode_lower};
 ghost use Rattle.std.specs.Prelude.{◌≡◌, ◌<◌, ◌≤◌, ◌^◌, ◌∷◌, [], ℕ, All, List, IfSome, Some, codes, decimal, length, option_copied, option_map};
+ghost use Rattle.vdcp_auto.specs.declared.list_call.ListCall.{ListCall};
 ghost use Rattle.vdcp_auto.specs.declared.outcome.Outcome.{Outcome};
 ghost use Rattle.vdcp_frame.specs.Message.{Content, Fits, content_of, spelling};
 ghost use Rattle.vdcp_journal.specs.Reading.{IsWritableNote, IsWritableOutcome};
-ghost use Rattle.vdcp_journal.specs.Rows.{note_fields, outcome_fields};
+ghost use Rattle.vdcp_journal.specs.Rows.{call_fields, note_fields, outcome_fields};
 ghost use Rattle.vdcp_auto.specs.declared.exchange.Heard.{Heard};
 ghost use Rattle.vdcp_journal.specs.declared.row.Note.TheVariants as note;
 ghost use Rattle.vdcp_journal.specs.declared.row.Note.{Note};
@@ -18,7 +19,7 @@ use crate::fields::push_hex;
 use crate::row::Note;
 use arrayvec::ArrayString;
 use std::str;
-use vdcp_auto::{Heard, Outcome};
+use vdcp_auto::{Heard, ListCall, Outcome};
 use vdcp_frame::laws::{
     a_spelling_is_its_message, no_spelling_begins_another, one_spelling, what_is_spelt_is_bytes,
 };
@@ -168,6 +169,17 @@ fn outcome_in(text: &[u8], detail: &[u8]) -> Option<Outcome>
     }
 }
 
+fn skip_in(text: &[u8], detail: &[u8]) -> Option<ListCall>
+    ensures writable { IfSome result (λ call. IsWritableNote (note.List call)) }
+    ensures found { (call : ListCall) → IsWritableNote (note.List call) →
+        call_fields call ≡ codes "skip" ∷ text.now ∷ detail.now ∷ [] → result ≡ Some call }
+{
+    match (number_in(text), number_in(detail)) {
+        (Some(first), Some(end)) => Some(ListCall::Skip { first, end }),
+        _ => None,
+    }
+}
+
 /// If no note has these fields it may give any note: the caller compares.
 pub(crate) fn note_in(unit: u8, word: &[u8], text: &[u8], detail: &[u8]) -> Option<Note>
     requires { unit ≤ 15 }
@@ -182,6 +194,9 @@ pub(crate) fn note_in(unit: u8, word: &[u8], text: &[u8], detail: &[u8]) -> Opti
         b"silence" => Some(Note::Silence),
         b"take" => Some(Note::Take),
         b"stop" => Some(Note::Stop),
+        b"hold" => Some(Note::List(ListCall::Hold)),
+        b"go" => Some(Note::List(ListCall::Go)),
+        b"skip" => skip_in(text, detail).map(Note::List),
         b"end" => outcome_in(text, detail).map(Note::End),
         b"from" => number_in(text).map(Note::From),
         b"left" => number_in(text).map(Note::Left),

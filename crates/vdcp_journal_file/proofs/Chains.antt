@@ -251,12 +251,7 @@ ended_may_hold (pending.Failed f) row h may = may
 
 seen_ended : (p : Pending) (row : Row) → seen_before (ended p row) ≡ seen_before p
 seen_ended pending.Nothing row = refl
-seen_ended (pending.End before) row = refl
-seen_ended (pending.Asked before asks) row = refl
-seen_ended (pending.Answered before asks hears) row = refl
-seen_ended (pending.Played before asks hears plays) row = refl
-seen_ended (pending.Over before asks hears plays last) row = refl
-seen_ended (pending.Failed f) row = refl
+seen_ended p row = refl
 
 held_ended : (p : Pending) (row : Row) → IsEnd row → MayHold p → held (ended p row) ≡ held p
 held_ended pending.Nothing row h may = ends_none row [] h
@@ -381,6 +376,10 @@ record Stands (notes : List Note) (before : Option Seen) : Type 0 where
   front : List Note
   is : notes ≡ front ++ notes_seen before
 
+-- what is told with what is pending, of what was noted before and then this
+abbrev Tells : Pending → List Note → List Note → Type 0
+Tells p noted told = IsThinned (notes_seen (seen_before p) ++ (notes_in (rows_left p) ++ noted)) (notes_seen (seen_before p) ++ told)
+
 -- these rows are safe in the file since, which have the commands that do more than ask for the state; with what is pending
 -- they are all that was noted, but for what says nothing new, if ends and commands alternate
 record RowsOf {F : Type 0} (safe : F → Option (List ℕ)) (notes : List Kept) (k m : Recording F) : Type 0 where
@@ -391,8 +390,7 @@ record RowsOf {F : Type 0} (safe : F → Option (List ℕ)) (notes : List Kept) 
   holds : MayHold k.pending → MayHold m.pending
   stands : Stands (notes_seen (seen_before k.pending) ++ notes_in rows) (seen_before m.pending)
   tells : Alternates (is_pending k.pending) notes
-      → IsThinned (notes_seen (seen_before k.pending) ++ (notes_in (rows_left k.pending) ++ map note_for notes))
-      (notes_seen (seen_before k.pending) ++ notes_in (rows ++ rows_left m.pending))
+      → Tells k.pending (map note_for notes) (notes_in (rows ++ rows_left m.pending))
 
 none_more : {F : Type 0} (safe : F → Option (List ℕ)) (k m : Recording F) → m ≡ k → RowsOf safe [] k m
 none_more {F} safe k m is = record {
@@ -416,12 +414,8 @@ none_more {F} safe k m is = record {
 
 -- what a command makes of what is noted, if it leads to this
 abbrev Leads : Pending → Row → Bool → Bool → Bool → List Note → List Note → Type 0
-Leads p row says plays asks more told =
-    IsThinned (notes_seen (seen_before (left_after p row plays asks))
-    ++ (notes_in (rows_left (left_after p row plays asks)) ++ more))
-    (notes_seen (seen_before (left_after p row plays asks)) ++ told)
-    → IsThinned (notes_seen (seen_before p) ++ (notes_in (rows_left p) ++ (row.note ∷ more)))
-    (notes_seen (seen_before p) ++ (notes_in (due p row says plays asks) ++ told))
+Leads p row says plays asks more told = Tells (left_after p row plays asks) more told
+    → Tells p (row.note ∷ more) (notes_in (due p row says plays asks) ++ told)
 
 -- the same was seen twice
 again_leads : (p : Pending) (row : Row) (plays : Bool) (more told : List Note) (s : Seen) → seen_before p ≡ Some s
@@ -670,11 +664,8 @@ row_more {F} safe one more k l m parts goes n r =
           r.stands);
       tells = λ alternate.
           let told : List Note = notes_in (r.rows ++ rows_left m.pending) in
-          let next : IsThinned (notes_seen (seen_before (after_row p row))
-          ++ (notes_in (rows_left (after_row p row)) ++ map note_for more))
-          (notes_seen (seen_before (after_row p row)) ++ told) =
-          subst (λ (q : Pending). IsThinned (notes_seen (seen_before q) ++ (notes_in (rows_left q) ++ map note_for more))
-          (notes_seen (seen_before q) ++ told)) left
+          let next : Tells (after_row p row) (map note_for more) told =
+          subst (λ (q : Pending). Tells q (map note_for more) told) left
           (r.tells (subst (λ (b : Bool). Alternates b more)
           (sym (ap is_pending left ∙ not_pending p row (is_announced p row.note) (asks_state row.note) refl)) (goes alternate))) in
           subst (IsThinned (notes_seen (seen_before p) ++ (notes_in (rows_left p) ++ (note_for one ∷ map note_for more))))
@@ -689,47 +680,22 @@ call_parts : (c : Call) (more : List Kept)
     → acting (commands_kept (kept.Called c ∷ more)) ≡ acting (commands_of_note (call_note c)) ++ acting (commands_kept more)
 call_parts call.Take more = refl
 call_parts call.Stop more = refl
+call_parts (call.List l) more = refl
 
 -- an end comes if none is pending
-end_tells : (p q : Pending) (heard : Option Heard) (time : Moment) (more : List Kept) (told : List Note)
-    → Alternates (is_pending p) (end_of heard ∷ more) → q ≡ ended p (record { time = time; note = end_note heard })
-    → (Alternates (is_pending q) more
-    → IsThinned (notes_seen (seen_before q) ++ (notes_in (rows_left q) ++ map note_for more))
-    (notes_seen (seen_before q) ++ told))
-    → IsThinned (notes_seen (seen_before p) ++ (notes_in (rows_left p) ++ map note_for (end_of heard ∷ more)))
-    (notes_seen (seen_before p) ++ told)
-end_tells pending.Nothing q None time more told alternate left tells =
-    subst (λ (x : Pending). IsThinned (notes_seen (seen_before x) ++ (notes_in (rows_left x) ++ map note_for more))
-    (notes_seen (seen_before x) ++ told)) left
-    (tells (subst (λ (x : Pending). Alternates (is_pending x) more) (sym left) alternate))
-end_tells pending.Nothing q (Some h) time more told alternate left tells =
-    subst (λ (x : Pending). IsThinned (notes_seen (seen_before x) ++ (notes_in (rows_left x) ++ map note_for more))
-    (notes_seen (seen_before x) ++ told)) left
-    (tells (subst (λ (x : Pending). Alternates (is_pending x) more) (sym left) alternate))
-end_tells (pending.Asked before asks) q None time more told alternate left tells =
-    subst (λ (x : Pending). IsThinned (notes_seen (seen_before x) ++ (notes_in (rows_left x) ++ map note_for more))
-    (notes_seen (seen_before x) ++ told)) left
-    (tells (subst (λ (x : Pending). Alternates (is_pending x) more) (sym left) alternate))
-end_tells (pending.Asked before asks) q (Some h) time more told alternate left tells =
-    subst (λ (x : Pending). IsThinned (notes_seen (seen_before x) ++ (notes_in (rows_left x) ++ map note_for more))
-    (notes_seen (seen_before x) ++ told)) left
-    (tells (subst (λ (x : Pending). Alternates (is_pending x) more) (sym left) alternate))
-end_tells (pending.End row) q None time more told alternate left tells = absurd alternate
-end_tells (pending.End row) q (Some h) time more told alternate left tells = absurd alternate
-end_tells (pending.Answered before asks hears) q None time more told alternate left tells = absurd alternate
-end_tells (pending.Answered before asks hears) q (Some h) time more told alternate left tells = absurd alternate
-end_tells (pending.Played before asks hears plays) q None time more told alternate left tells =
-    subst (λ (x : Pending). IsThinned (notes_seen (seen_before x) ++ (notes_in (rows_left x) ++ map note_for more))
-    (notes_seen (seen_before x) ++ told)) left
-    (tells (subst (λ (x : Pending). Alternates (is_pending x) more) (sym left) alternate))
-end_tells (pending.Played before asks hears plays) q (Some h) time more told alternate left tells =
-    subst (λ (x : Pending). IsThinned (notes_seen (seen_before x) ++ (notes_in (rows_left x) ++ map note_for more))
-    (notes_seen (seen_before x) ++ told)) left
-    (tells (subst (λ (x : Pending). Alternates (is_pending x) more) (sym left) alternate))
-end_tells (pending.Over before asks hears plays row) q None time more told alternate left tells = absurd alternate
-end_tells (pending.Over before asks hears plays row) q (Some h) time more told alternate left tells = absurd alternate
-end_tells (pending.Failed f) q None time more told alternate left tells = absurd alternate
-end_tells (pending.Failed f) q (Some h) time more told alternate left tells = absurd alternate
+end_tells : (p : Pending) (heard : Option Heard) (time : Moment) (more : List Kept) (told : List Note)
+    → Alternates (is_pending p) (end_of heard ∷ more)
+    → (Alternates (is_pending (ended p (record { time = time; note = end_note heard }))) more
+    → Tells (ended p (record { time = time; note = end_note heard })) (map note_for more) told)
+    → Tells p (map note_for (end_of heard ∷ more)) told
+end_tells pending.Nothing None time more told alternate tells = tells alternate
+end_tells pending.Nothing (Some h) time more told alternate tells = tells alternate
+end_tells (pending.Asked before asks) None time more told alternate tells = tells alternate
+end_tells (pending.Asked before asks) (Some h) time more told alternate tells = tells alternate
+end_tells (pending.Played before asks hears plays) None time more told alternate tells = tells alternate
+end_tells (pending.Played before asks hears plays) (Some h) time more told alternate tells = tells alternate
+end_tells p None time more told alternate tells = absurd alternate
+end_tells p (Some h) time more told alternate tells = absurd alternate
 
 end_more : {F : Type 0} (safe : F → Option (List ℕ)) (heard : Option Heard) (more : List Kept) (k l m : Recording F)
     → NotesEnd heard k l → RowsOf safe more l m → RowsOf safe (end_of heard ∷ more) k m
@@ -753,7 +719,9 @@ end_more {F} safe heard more k l m n r =
       stands = subst (λ (o : Option Seen). Stands (notes_seen o ++ notes_in r.rows) (seen_before m.pending))
           (ap seen_before left ∙ seen_ended k.pending row) r.stands;
       tells = λ alternate.
-          end_tells k.pending l.pending heard n.0 more (notes_in (r.rows ++ rows_left m.pending)) alternate left r.tells;
+          let told : List Note = notes_in (r.rows ++ rows_left m.pending) in
+          end_tells k.pending heard n.0 more told alternate
+          (subst (λ (q : Pending). Alternates (is_pending q) more → Tells q (map note_for more) told) left r.tells);
     }
 
 rows_of : {F : Type 0} (safe : F → Option (List ℕ)) (notes : List Kept) (k m : Recording F)
@@ -942,11 +910,7 @@ pub run_is_recorded : {E W F : Type 0} (safe : F → Option (List ℕ)) (told : 
     (notes : List Kept) → MayHold k.pending
     → KeepsRun (Notes safe) (Loses safe) told fold plan unit a a' wire wire' answer k m events notes
     → IsRecorded safe told fold plan unit a a' wire wire' answer k m events notes
-run_is_recorded safe told fold plan unit a a' wire wire' (Ok ran) k m events notes none n =
-    whole_run safe told fold plan unit a a' wire wire' (Ok ran) k m events notes n none n.noted refl
-run_is_recorded safe told fold plan unit a a' wire wire' (Err fault.Device) k m events notes none n =
-    whole_run safe told fold plan unit a a' wire wire' (Err fault.Device) k m events notes n none n.noted refl
-run_is_recorded safe told fold plan unit a a' wire wire' (Err fault.Left) k m events notes none n =
-    whole_run safe told fold plan unit a a' wire wire' (Err fault.Left) k m events notes n none n.noted refl
 run_is_recorded safe told fold plan unit a a' wire wire' (Err fault.Unkept) k m events notes none n =
     lost_run safe told fold plan unit a a' wire wire' k n.noted.0 m n.noted.1 events notes n none n.noted.2 n.noted.3
+run_is_recorded safe told fold plan unit a a' wire wire' answer k m events notes none n =
+    whole_run safe told fold plan unit a a' wire wire' answer k m events notes n none n.noted refl

@@ -1,9 +1,9 @@
 -- A torn last row gets its line feed.
-use Rattle.std.proofs.Common.{ℕ, ◌≡◌, ◌<◌, ◌+◌, Bool, true, false, List, [], ◌∷◌, ◌++◌, append_assoc, arith, length, nat_eq, take, true≢false, refl, sym, ap, ◌∙◌}
+use Rattle.std.proofs.Common.{ℕ, ◌≡◌, ◌<◌, ◌+◌, false, List, [], ◌∷◌, ◌++◌, append_assoc, arith, length, nat_eq, take, true≢false, refl, sym, ap, ◌∙◌}
 use Rattle.std.proofs.lemmas.List.{append-nil, take_more}
-use Rattle.std.specs.Io.KnownBytes.{Appends, Consumes, IsAtEnd, Keeps}
-use Rattle.std.specs.Prelude.{IfSome, None, Option, Some, if◌then◌else◌, option_map, slice_index_or, slice_set}
-use Rattle.vdcp_journal_file.specs.Torn.{closed, feed_after, held_with, may_air, torn_after}
+use Rattle.std.specs.Io.KnownBytes.{Consumes, IsAtEnd, Keeps}
+use Rattle.std.specs.Prelude.{None, Option, Some, if◌then◌else◌, option_map, slice_index_or, slice_set}
+use Rattle.vdcp_journal_file.specs.Torn.{feed_after, held_with, may_air, torn_after}
 
 pub torn_on : (begun xs ys : List ℕ) → torn_after begun (xs ++ ys) ≡ torn_after (torn_after begun xs) ys
 torn_on begun [] ys = refl
@@ -46,44 +46,6 @@ pub stays : (old new : Option (List ℕ)) (begun : List ℕ) → Keeps old new �
 stays None new begun same = tt
 stays (Some xs) None begun same = absurd same
 stays (Some xs) (Some ys) begun same = ap (λ (l : List ℕ). l ++ feed_after begun l) same
-
--- if none is lacking the file stays
-pub none_lacks : (known : Option (List ℕ)) (lacks : Bool) → IfSome known (λ text. lacks ≡ may_air (torn_after [] text))
-    → lacks ≡ false → Keeps (option_map closed known) known
-none_lacks None lacks is none = tt
-none_lacks (Some text) lacks is none =
-    sym (ap (λ (b : Bool). text ++ (if b then 10 ∷ [] else [])) (sym is ∙ none) ∙ append-nil text)
-
-pub gets_it : (known new : Option (List ℕ)) (lacks : Bool) → IfSome known (λ text. lacks ≡ may_air (torn_after [] text))
-    → lacks ≡ true → Appends known new (10 ∷ []) → Keeps (option_map closed known) new
-gets_it None new lacks is so wrote = tt
-gets_it (Some text) None lacks is so wrote = absurd wrote
-gets_it (Some text) (Some next) lacks is so wrote =
-    wrote ∙ sym (ap (λ (b : Bool). text ++ (if b then 10 ∷ [] else [])) (sym is ∙ so))
-
--- a piece more
-pub held_more : (given piece torn torn' : List ℕ) → torn ≡ torn_after [] given → torn' ≡ torn_after torn piece
-    → torn' ≡ torn_after [] (given ++ piece)
-held_more given piece torn torn' is next =
-    next ∙ ap (λ (l : List ℕ). torn_after l piece) is ∙ sym (torn_on [] given piece)
-
--- all was given
-pub all_held : (old new : Option (List ℕ)) (given torn : List ℕ) → torn ≡ torn_after [] given → Consumes old new given
-    → IsAtEnd new → IfSome old (λ text. may_air torn ≡ may_air (torn_after [] text))
-all_held None new given torn is came end = tt
-all_held (Some xs) None given torn is came end = absurd came
-all_held (Some xs) (Some ys) given torn is came end =
-    ap may_air is ∙ ap (λ (l : List ℕ). may_air (torn_after [] l))
-    (sym (came ∙ ap (λ (l : List ℕ). given ++ l) end ∙ append-nil given))
-
--- all bytes are counted
-pub counted : (old mid new : Option (List ℕ)) (a b : List ℕ) → Consumes old mid a → Consumes mid new b
-    → Consumes old new (a ++ b)
-counted None mid new a b one two = tt
-counted (Some xs) None new a b one two = absurd one
-counted (Some xs) (Some ys) None a b one two = absurd two
-counted (Some xs) (Some ys) (Some zs) a b one two =
-    one ∙ ap (λ (l : List ℕ). a ++ l) two ∙ sym (append_assoc a b zs)
 
 pub has_room : (old new : List ℕ) → length new ≡ length old → nat_eq (length old) 0 ≡ false → 0 < length new
 has_room [] new same some = absurd (true≢false some)

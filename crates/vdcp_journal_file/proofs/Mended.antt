@@ -1,6 +1,7 @@
 -- What becomes of a journal's file in which a killed run left something undone.
 use Rattle.csv.specs.Writing.{default_writer, is_blank, row_body}
-use Rattle.std.proofs.Common.{ℕ, ◌≡◌, ◌<◌, Bool, true, false, List, [], ◌∷◌, ◌++◌, append-nil, append_assoc, arith, length, nat_eq, take, refl, sym, ap, ap₂, ◌∙◌}
+use Rattle.std.proofs.Common.{ℕ, ◌≡◌, ◌<◌, Bool, true, false, List, [], ◌∷◌, ◌++◌, append-nil, append_assoc, arith, length, length-append, ◌≤◌, nat_eq, take, refl, sym, ap, ap₂, ◌∙◌}
+use Rattle.std.specs.Borrow.{Bor}
 use Rattle.std.proofs.lemmas.Bool.{eqb-true}
 use Rattle.std.proofs.lemmas.List.{length-take, take_all}
 use Rattle.std.specs.Fmt.{option_append}
@@ -12,7 +13,6 @@ use Rattle.vdcp_auto.specs.Snapshots.{state_in, view_of}
 use Rattle.vdcp_auto.specs.State.{State}
 use Rattle.vdcp_auto.specs.Turn.{start}
 use Rattle.vdcp_auto.specs.declared.exchange.Heard.{Heard}
-use Rattle.vdcp_auto.specs.declared.snapshot.Snapshot.{Snapshot}
 use Rattle.vdcp_journal.specs.Mending.{mended, mended_at}
 use Rattle.vdcp_journal.specs.Reading.{line_before, whole_lines}
 use Rattle.vdcp_journal.specs.Resume.{after_rows}
@@ -24,11 +24,11 @@ use Rattle.vdcp_journal_file.proofs.Disking.{lines_in_front}
 use Rattle.vdcp_journal_file.specs.Disks.{HasJust}
 use Rattle.vdcp_journal_file.specs.Mending.{lines_of}
 use Rattle.vdcp_journal_file.specs.Resuming.{Continues, plan_of_run}
+use Rattle.vdcp_journal_file.specs.declared.reading.LastRun.{LastRun}
 use Rattle.vdcp_journal_file.specs.Torn.{closed, may_air, torn_after}
 use Rattle.vdcp_list.specs.Rests.{FromEvent, items_left}
 use Rattle.vdcp_list.specs.Rows.{FileBytes}
 use Rattle.vdcp_value.specs.declared.part.Item.{Item}
-use Rattle.vdcp_words.specs.declared.command.Command.{Command}
 
 or_left : (a b : Bool) → (a || b) ≡ false → a ≡ false
 or_left false b is = refl
@@ -89,6 +89,42 @@ line_whole : (body : List ℕ) → whole_lines (body ++ 10 ∷ []) ≡ body ++ 1
 line_whole [] = refl
 line_whole (byte ∷ body) = ap (line_before byte) (line_whole body) ∙ feed_last byte body
 
+-- ---- a torn last row that gets its line feed
+
+few_whole : (text : List ℕ) → length (whole_lines text) ≤ length text
+few_whole text = omega (arith, length-take (length (whole_lines text)) text, ap length (lines_in_front text))
+
+none_so : (text : List ℕ) (lacks : Bool) (size written : ℕ)
+    → size ≡ length (whole_lines (text ++ (if lacks then 10 ∷ [] else []))) → written ≡ length text → size ≤ written
+    → text ≡ text ++ (if lacks then 10 ∷ [] else [])
+none_so text true size written is all few =
+    absurd (omega (arith, is, all, few, ap length (line_whole text), length-append text (10 ∷ [])))
+none_so text false size written is all few = sym (append-nil text)
+
+-- so many bytes are whole lines, with that line feed: no more than there are, then the file stays
+pub none_lacks : (known : Option (List ℕ)) (size written : ℕ)
+    → IfSome (option_map closed known) (λ bytes. size ≡ length (whole_lines bytes))
+    → IfSome known (λ bytes. written ≡ length bytes) → size ≤ written → Keeps (option_map closed known) known
+none_lacks None size written is all few = tt
+none_lacks (Some text) size written is all few = none_so text (may_air (torn_after [] text)) size written is all few
+
+one_so : (text next : List ℕ) (lacks : Bool) (size written : ℕ)
+    → size ≡ length (whole_lines (text ++ (if lacks then 10 ∷ [] else []))) → written ≡ length text → written < size
+    → next ≡ text ++ 10 ∷ [] → next ≡ text ++ (if lacks then 10 ∷ [] else [])
+one_so text next true size written is all more wrote = wrote
+one_so text next false size written is all more wrote =
+    absurd (omega (arith, is, all, more, few_whole (text ++ []), ap length (append-nil text)))
+
+-- more than there are, then it gets it
+pub gets_it : (known new : Option (List ℕ)) (size written : ℕ)
+    → IfSome (option_map closed known) (λ bytes. size ≡ length (whole_lines bytes))
+    → IfSome known (λ bytes. written ≡ length bytes) → written < size → Appends known new (10 ∷ [])
+    → Keeps (option_map closed known) new
+gets_it None new size written is all more wrote = tt
+gets_it (Some text) None size written is all more wrote = absurd wrote
+gets_it (Some text) (Some next) size written is all more wrote =
+    one_so text next (may_air (torn_after [] text)) size written is all more wrote
+
 -- rows are whole lines
 
 row_whole : (fields : Fields) → whole_lines (fields_text fields) ≡ fields_text fields
@@ -125,16 +161,18 @@ adds_so None rows = tt
 adds_so (Some text) rows = refl
 
 just_so : (text bytes rows : List ℕ) (size : ℕ) (new : Option (List ℕ)) → bytes ≡ closed text
-    → size ≡ length (whole_lines bytes) → Appends (Some (take size bytes)) new rows
+    → size ≡ length (whole_lines (closed text)) → Appends (Some (take size bytes)) new rows
     → Keeps (Some (whole_lines (closed text) ++ rows)) new
 just_so text bytes rows size None same is wrote = absurd wrote
 just_so text bytes rows size (Some next) same is wrote =
     wrote ∙ ap (λ (l : List ℕ). l ++ rows)
-    (ap (λ (n : ℕ). take n bytes) is ∙ lines_in_front bytes ∙ ap whole_lines same)
+    (ap (λ (n : ℕ). take n bytes) is ∙ ap (λ (l : List ℕ). take (length (whole_lines (closed text))) l) same
+    ∙ lines_in_front (closed text))
 
 -- a file has just its whole lines, and these rows
 pub has_just : {F : Type 0} (safe written : F → Option (List ℕ)) (old mid : Option (List ℕ)) (new : F) (size : ℕ)
-    (rows : List ℕ) → Keeps (option_map closed old) mid → IfSome mid (λ bytes. size ≡ length (whole_lines bytes))
+    (rows : List ℕ) → Keeps (option_map closed old) mid
+    → IfSome (option_map closed old) (λ bytes. size ≡ length (whole_lines bytes))
     → Appends (option_map (take size) mid) (written new) rows → safe new ≡ written new
     → HasJust safe written (option_append (lines_of old) (Some rows)) new
 has_just safe written None mid new size rows keeps is wrote synced = record { has = tt; synced = synced }
@@ -144,7 +182,7 @@ has_just safe written (Some text) (Some bytes) new size rows keeps is wrote sync
 
 pub has_just_if : {A E F : Type 0} (result : Result A E) (safe written : F → Option (List ℕ)) (old mid : Option (List ℕ))
     (new : F) (size : ℕ) (rows : List ℕ) → Keeps (option_map closed old) mid
-    → IfSome mid (λ bytes. size ≡ length (whole_lines bytes))
+    → IfSome (option_map closed old) (λ bytes. size ≡ length (whole_lines bytes))
     → OnOk result (Appends (option_map (take size) mid) (written new) rows) → OnOk result (safe new ≡ written new)
     → OnOk result (HasJust safe written (option_append (lines_of old) (Some rows)) new)
 has_just_if (Ok x) safe written old mid new size rows keeps is wrote synced =
@@ -159,13 +197,12 @@ same_so known (byte ∷ rows) none =
 
 -- ---- what is written behind the rows
 
-pub mended_so : {S : Type 0} (items : S → List Item) (wanted : Heading) (list : List Item) (lines : FileBytes)
-    (controller : View (FromEvent S)) (asked : Option Command) (stood : Snapshot) (may : Option ℕ) (noted : Option Note)
-    (heard : Option Heard) → (c : Continues items wanted list lines controller asked stood may noted heard)
-    → mended_at (plan_of (items_left items) (view_of controller.source stood)) (state_in stood) noted heard
+pub mended_so : {S : Type 0} (items : Bor S → List Item) (wanted : Heading) (list : List Item) (lines : FileBytes) (r : LastRun S)
+    → (c : Continues items wanted list lines r)
+    → mended_at (plan_of (items_left items) (view_of r.controller.source r.stood)) (state_in r.stood) r.last_note r.heard
     ≡ mended (plan_of_run wanted list c.run) c.journal.rows c.run.rows
-mended_so {S} items wanted list lines controller asked stood may noted heard c =
+mended_so {S} items wanted list lines r c =
     let state : State = after_rows (plan_of_run wanted list c.run) start c.run.rows in
-    ap (λ (v : View (FromEvent S)). mended_at (plan_of (items_left items) v) v.state noted heard) c.has_stood.is
-    ∙ ap (λ (p : Plan). mended_at p state noted heard) c.on.resumes.plan_is
+    ap (λ (v : View (FromEvent (Bor S))). mended_at (plan_of (items_left items) v) v.state r.last_note r.heard) c.has_stood.is
+    ∙ ap (λ (p : Plan). mended_at p state r.last_note r.heard) c.on.resumes.plan_is
     ∙ ap₂ (λ (n : Option Note) (h : Option Heard). mended_at (plan_of_run wanted list c.run) state n h) c.noted_is c.heard_is

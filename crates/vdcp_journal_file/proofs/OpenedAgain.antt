@@ -1,17 +1,16 @@
 -- A journal that is opened again.
 use Rattle.std.specs.Borrow.{Bor}
-use Rattle.std.proofs.Common.{ℕ, ◌≡◌, ◌+◌, ◌-◌, ◌≤◌, Bool, true, false, List, ap, arith, length, refl, subst, sym, ◌∙◌}
+use Rattle.std.proofs.Common.{ℕ, ◌≡◌, ◌⊎◌, inl, inr, ◌+◌, ◌-◌, ◌≤◌, Bool, true, false, List, ap, arith, length, refl, subst, sym, ◌∙◌}
 use Rattle.std.proofs.lemmas.List.{length-drop}
 use Rattle.std.specs.Prelude.{IfOk, IsFalse, IsSome, IsTrue, Option, None, Some, Result, Ok, Err, if◌then◌else◌}
 use Rattle.vdcp_auto.specs.Plan.{Plan, View, plan_of}
 use Rattle.vdcp_auto.specs.State.{State}
-use Rattle.vdcp_auto.specs.declared.exchange.Heard.{Heard}
-use Rattle.vdcp_auto.specs.declared.snapshot.Snapshot.{Snapshot}
 use Rattle.vdcp_journal.specs.Airings.{settled_in}
 use Rattle.vdcp_journal.specs.Runs.{Run}
 use Rattle.vdcp_journal.specs.declared.row.Heading.{Heading}
-use Rattle.vdcp_journal.specs.declared.row.Note.{Note}
-use Rattle.vdcp_journal_file.specs.Resuming.{BeginsAfter, Continues, IsNoBeginning, IsReplayed, IsRunOn, IsUnopenedAgain, may_have, next_event, next_may_have_aired, no_event, not_listed, unsettled}
+use Rattle.vdcp_journal_file.specs.Recording.{IsUnwritten}
+use Rattle.vdcp_journal_file.specs.Resuming.{BeginsAfter, Continues, IsNoBeginning, IsReplayed, IsRunOn, IsUnopenedAgain, IsUnread, kept, JournalShows, may_have, next_event, next_may_have_aired, no_event, not_listed, not_read, unresumed, unsettled}
+use Rattle.vdcp_journal_file.specs.declared.reading.LastRun.{LastRun}
 use Rattle.vdcp_text.specs.declared.failure.Failure.{Failure}
 use Rattle.vdcp_text.specs.declared.failure.Failure.TheVariants as failures
 use Rattle.vdcp_list.specs.Rests.{FromEvent, items_left}
@@ -27,6 +26,11 @@ not_begun items name wanted word lines run ended end failure replayed (may_have 
     unsettled unsaid lines run ended end replayed may is
 not_begun items name wanted word lines run ended end failure replayed (not_listed k said past is) =
     no_event k said past is
+
+pub unended : (items : List Item) (name : Bor (List ℕ)) (wanted : Heading) (word : Option ℕ) (failure : Failure)
+    → IsUnread name failure ⊎ IsUnwritten name failure → IsUnopenedAgain items name wanted word failure
+unended items name wanted word failure (inl h) = unresumed (not_read h)
+unended items name wanted word failure (inr h) = unresumed (kept h)
 
 -- if the operator says nothing
 
@@ -77,11 +81,10 @@ both (Ok x) P Q p q = (p, q)
 both (Err e) P Q p q = tt
 
 -- what continues was replayed
-pub replayed_of : {S : Type 0} (items : S → List Item) (wanted : Heading) (list : List Item) (lines : FileBytes)
-    (controller : View (FromEvent S)) (asked : Option Command) (stood : Snapshot) (may : Option ℕ) (noted : Option Note)
-    (heard : Option Heard) → (c : Continues items wanted list lines controller asked stood may noted heard)
-    → IsReplayed list wanted lines c.run (plan_of (items_left items) controller) controller.state
-replayed_of items wanted list lines controller asked stood may noted heard c = record {
+pub replayed_of : {S : Type 0} (items : Bor S → List Item) (wanted : Heading) (list : List Item) (lines : FileBytes) (r : LastRun S)
+    → (c : Continues items wanted list lines r)
+    → IsReplayed list wanted lines c.run (plan_of (items_left items) r.controller) r.controller.state
+replayed_of items wanted list lines r c = record {
   journal = c.journal;
   reads = c.reads;
   wanted_is = c.wanted_is;
@@ -90,3 +93,9 @@ replayed_of items wanted list lines controller asked stood may noted heard c = r
   stand = c.on.stand;
   resumes = c.on.resumes;
 }
+
+-- and shows this
+pub shown_of : {S : Type 0} (items : Bor S → List Item) (wanted : Heading) (list : List Item) (lines : FileBytes) (r : LastRun S)
+    → Continues items wanted list lines r → JournalShows list wanted lines r.runs.items r.calls.items
+shown_of items wanted list lines r c =
+    record { journal = c.journal; reads = c.reads; show = c.show; calls_are = c.calls_are }

@@ -1,5 +1,6 @@
 -- The rows of a journal so far, and what is made of them.
-use Rattle.std.proofs.Common.{ℕ, zero, suc, ◌≡◌, ◌+◌, ◌-◌, ◌*◌, ◌≤◌, ◌||◌, true, false, List, [], ◌∷◌, ◌++◌, ap, ap₂, arith, length, map, refl, subst, sym, take, ◌∙◌}
+use Rattle.std.proofs.Common.{ℕ, zero, suc, ◌≡◌, ◌+◌, ◌-◌, ◌*◌, ◌≤◌, ◌||◌, true, false, List, [], ◌∷◌, ◌++◌, ap, ap₂, append-nil, arith, length, map, refl, subst, sym, take, ◌∙◌}
+use Rattle.std.proofs.lemmas.Grind.{flat_map-append}
 use Rattle.std.proofs.lemmas.List.{length-drop}
 use Rattle.std.proofs.Math.Nat.{one-le-mul}
 use Rattle.std.specs.Borrow.{Bor}
@@ -11,11 +12,13 @@ use Rattle.vdcp_auto.specs.Plan.{Plan, View, plan_of}
 use Rattle.vdcp_auto.specs.Snapshots.{CanStand, view_of}
 use Rattle.vdcp_auto.specs.State.{State}
 use Rattle.vdcp_auto.specs.declared.exchange.Heard.{Heard}
+use Rattle.vdcp_auto.specs.declared.list_call.ListCall.{ListCall}
 use Rattle.vdcp_auto.specs.declared.snapshot.Snapshot.{Snapshot}
 use Rattle.vdcp_auto.specs.Turn.{awaited, outcome_of, start}
 use Rattle.vdcp_journal.specs.Airings.{end_in, ended_by, settled_in, unsettled_event}
 use Rattle.vdcp_journal.specs.RunsSoFar.{RunView}
 use Rattle.vdcp_journal.specs.Resume.{AllStand, AreTold, IsResumeFault, Stands, after_rows, fault_of, limit_after, log_of, losses, timed_out}
+use Rattle.vdcp_journal.specs.ListCalls.{list_calls, list_calls_of}
 use Rattle.vdcp_journal.specs.Mending.{last_note}
 use Rattle.vdcp_journal.specs.Runs.{Run, begins_at, last_run, run_after}
 use Rattle.vdcp_journal.specs.Thinned.{heard_after, heard_from, heard_last, notes_in}
@@ -274,6 +277,11 @@ heard_on before (first ∷ rows) row = heard_on (heard_after before first.note) 
 pub heard_more : (rows : List Row) (row : Row)
     → heard_last (notes_in (rows ++ row ∷ [])) ≡ heard_after (heard_last (notes_in rows)) row.note
 heard_more rows row = heard_on None rows row
+
+-- what the rows say of the list, after one row more
+pub calls_more : (rows : List Row) (row : Row) → list_calls (rows ++ row ∷ []) ≡ list_calls rows ++ list_calls_of row.note
+calls_more rows row = flat_map-append (λ (r : Row). list_calls_of r.note) rows (row ∷ [])
+    ∙ ap (λ (l : List ListCall). list_calls rows ++ l) (append-nil (list_calls_of row.note))
 
 -- so it stood
 pub stood_so : {S : Type 0} (items : S → List Item) (wanted : Heading) (list : List Item) (run : Run)

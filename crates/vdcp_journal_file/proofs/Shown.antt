@@ -4,6 +4,7 @@ use Rattle.std.proofs.Math.Seq.{drop-cons}
 use Rattle.std.proofs.lemmas.List.{length-map, take_rest}
 use Rattle.std.specs.Prelude.{Option, None, Some, Ok, IfSome, if◌then◌else◌}
 use Rattle.vdcp_auto.specs.State.{State}
+use Rattle.vdcp_auto.specs.declared.list_call.ListCall.{ListCall}
 use Rattle.vdcp_auto.specs.declared.outcome.Outcome.{Outcome}
 use Rattle.vdcp_journal.specs.Airings.{end_in, ended_by, may_have_played, settled_in}
 use Rattle.vdcp_journal.specs.Runs.{Run}
@@ -11,7 +12,7 @@ use Rattle.vdcp_journal.specs.declared.airings.Airing.{Airing}
 use Rattle.vdcp_journal.specs.declared.row.Heading.{Heading}
 use Rattle.vdcp_journal.specs.declared.row.Row.{Row}
 use Rattle.vdcp_journal_file.specs.Resuming.{EndsSo, RunShows, RunsShow, next_begin, plan_of_run, rows_behind, state_after}
-use Rattle.vdcp_journal_file.specs.Showing.{AreShown, ShowRuns, ShowsOneMore, ShowsRun, ShowsSoFar, heading_text, left_unsure, open_text, reported_text, run_text, skipped_text, undecided, unsure_after, why_skipped}
+use Rattle.vdcp_journal_file.specs.Showing.{AreShown, ShowRuns, ShowsOneMore, ShowsRun, ShowsSoFar, heading_text, is_left_out, left_unsure, open_text, reported_text, run_text, skipped_text, undecided, unsure_after, why_skipped}
 use Rattle.vdcp_journal_file.specs.declared.asrun.AsrunSettings.{AsrunSettings}
 use Rattle.vdcp_journal_file.specs.declared.asrun.Shown.{Shown}
 use Rattle.vdcp_journal_file.specs.declared.reading.RunAirings.{RunAirings}
@@ -54,20 +55,20 @@ to_print items heading run end shown first ended so (stands, first_is, ended_is)
     }
 
 -- the rows that are written of a run
-abbrev written : AsrunSettings → List Item → Option ℕ → (from reported first : ℕ) → List Airing → Option ℕ → Option Outcome → List ℕ
-written settings items next from reported first airings unsure ended =
-    reported_text settings items from reported airings ++ skipped_text settings items next first (why_skipped unsure ended)
+abbrev written : AsrunSettings → List Item → List ListCall → Option ℕ → (from reported first : ℕ) → List Airing → Option ℕ → Option Outcome → List ℕ
+written settings items calls next from reported first airings unsure ended =
+    reported_text settings items from reported airings ++ skipped_text settings items next first (why_skipped unsure (is_left_out calls first) ended)
 
 -- they are those that it shows
-pub shows_written : (settings : AsrunSettings) (items : List Item) (heading : Heading) (run : Run) (behind : List Run)
+pub shows_written : (settings : AsrunSettings) (items : List Item) (heading : Heading) (calls : List ListCall) (run : Run) (behind : List Run)
     (shown : RunAirings) (first : ℕ) (ended : Option Outcome) (before next unsure : Option ℕ)
     → RunShows items heading run (end_in (rows_behind run behind)) shown → EndsSo items heading run (Ok (first, ended))
     → ToPrint items heading run shown first → next ≡ next_begin behind
     → unsure ≡ left_unsure before shown.from (length shown.airings.items) shown.unsettled
-    → ShowsRun settings items heading before run behind
-    (written settings items next shown.from (length shown.airings.items) first shown.airings.items unsure ended)
+    → ShowsRun settings items heading calls before run behind
+    (written settings items calls next shown.from (length shown.airings.items) first shown.airings.items unsure ended)
     (open_text shown.begin (undecided next unsure))
-shows_written settings items heading run behind shown first ended before next unsure so (stands, first_is, ended_is) p next_is
+shows_written settings items heading calls run behind shown first ended before next unsure so (stands, first_is, ended_is) p next_is
     unsure_is =
     let state : State = state_after (plan_of_run heading items run) run.rows in
     let airings : List Airing = shown.airings.items in
@@ -77,15 +78,15 @@ shows_written settings items heading run behind shown first ended before next un
       stands = stands;
       own = so.own;
       are = so.are;
-      text_is = ap (λ (o : Option ℕ). written settings items o shown.from (length airings) first airings unsure ended) next_is
-          ∙ ap (λ (n : ℕ). written settings items (next_begin behind) n (length airings) first airings unsure ended) so.from_is
-          ∙ ap (λ (n : ℕ). written settings items (next_begin behind) run.from n first airings unsure ended) (p.count ∙ settled_is)
-          ∙ ap (λ (n : ℕ). written settings items (next_begin behind) run.from state.settled n airings unsure ended)
+      text_is = ap (λ (o : Option ℕ). written settings items calls o shown.from (length airings) first airings unsure ended) next_is
+          ∙ ap (λ (n : ℕ). written settings items calls (next_begin behind) n (length airings) first airings unsure ended) so.from_is
+          ∙ ap (λ (n : ℕ). written settings items calls (next_begin behind) run.from n first airings unsure ended) (p.count ∙ settled_is)
+          ∙ ap (λ (n : ℕ). written settings items calls (next_begin behind) run.from state.settled n airings unsure ended)
           (first_is ∙ ap (λ (n : ℕ). run.from + n) settled_is)
-          ∙ ap (λ (o : Option Outcome). written settings items (next_begin behind) run.from state.settled
+          ∙ ap (λ (o : Option Outcome). written settings items calls (next_begin behind) run.from state.settled
           (run.from + state.settled) airings unsure o) ended_is
-          ∙ ap (λ (l : List Airing). run_text settings items (next_begin behind) run.from state l unsure) so.airings_are
-          ∙ ap (run_text settings items (next_begin behind) run.from state (map (ended_by (end_in (rows_behind run behind))) so.own))
+          ∙ ap (λ (l : List Airing). run_text settings items calls (next_begin behind) run.from state l unsure) so.airings_are
+          ∙ ap (run_text settings items calls (next_begin behind) run.from state (map (ended_by (end_in (rows_behind run behind))) so.own))
           is_after;
       told_is = ap (λ (n : ℕ). open_text n (undecided next unsure)) so.begin_is
           ∙ ap (λ (o : Option ℕ). open_text (run.begin + 1) (undecided o unsure)) next_is
@@ -99,24 +100,24 @@ text_twice text first second text' text'' one other =
     other ∙ ap (λ (l : List ℕ). l ++ second) one ∙ append_assoc text first second
 
 -- before the first run nothing stands but what is above the rows
-pub shows_first : (settings : AsrunSettings) (items : List Item) (heading : Heading) (all : List Run) (shown : Shown)
+pub shows_first : (settings : AsrunSettings) (items : List Item) (heading : Heading) (calls : List ListCall) (all : List Run) (shown : Shown)
     → shown.text.items ≡ heading_text settings items → shown.told.items ≡ [] → shown.unsure ≡ None
-    → ShowsSoFar settings items heading all all shown
-shows_first settings items heading all shown text_is told_is unsure_is = λ text told show. record {
+    → ShowsSoFar settings items heading calls all all shown
+shows_first settings items heading calls all shown text_is told_is unsure_is = λ text told show. record {
   rows = text;
-  show = subst (λ (l : List ℕ). ShowRuns settings items heading None all text (l ++ told)) (sym told_is)
-      (subst (λ (o : Option ℕ). ShowRuns settings items heading o all text told) unsure_is show);
+  show = subst (λ (l : List ℕ). ShowRuns settings items heading calls None all text (l ++ told)) (sym told_is)
+      (subst (λ (o : Option ℕ). ShowRuns settings items heading calls o all text told) unsure_is show);
   text_is = ap (λ (l : List ℕ). l ++ text) text_is;
 }
 
 -- a run more
-pub shows_next : (settings : AsrunSettings) (items : List Item) (heading : Heading) (all : List Run) (run : Run)
-    (behind : List Run) (before after : Shown) → ShowsSoFar settings items heading all (run ∷ behind) before
-    → ShowsOneMore settings items heading run behind before after → ShowsSoFar settings items heading all behind after
-shows_next settings items heading all run behind before after so more = λ text told show.
-    subst (λ (l : List ℕ). AreShown settings items heading all l (after.told.items ++ told))
+pub shows_next : (settings : AsrunSettings) (items : List Item) (heading : Heading) (calls : List ListCall) (all : List Run) (run : Run)
+    (behind : List Run) (before after : Shown) → ShowsSoFar settings items heading calls all (run ∷ behind) before
+    → ShowsOneMore settings items heading calls run behind before after → ShowsSoFar settings items heading calls all behind after
+shows_next settings items heading calls all run behind before after so more = λ text told show.
+    subst (λ (l : List ℕ). AreShown settings items heading calls all l (after.told.items ++ told))
     (sym (ap (λ (l : List ℕ). l ++ text) more.text_is ∙ append_assoc before.text.items more.text text))
-    (subst (λ (l : List ℕ). AreShown settings items heading all (before.text.items ++ (more.text ++ text)) l)
+    (subst (λ (l : List ℕ). AreShown settings items heading calls all (before.text.items ++ (more.text ++ text)) l)
     (sym (ap (λ (l : List ℕ). l ++ told) more.told_is ∙ append_assoc before.told.items more.told told))
     (so (more.text ++ text) (more.told ++ told) (
       more.text,
@@ -124,21 +125,21 @@ shows_next settings items heading all run behind before after so more = λ text 
       text,
       told,
       more.shows,
-      subst (λ (o : Option ℕ). ShowRuns settings items heading o behind text told) more.unsure_is show,
+      subst (λ (o : Option ℕ). ShowRuns settings items heading calls o behind text told) more.unsure_is show,
       refl,
       refl,
     )))
 
 -- all runs
-pub shows_all : (settings : AsrunSettings) (items : List Item) (heading : Heading) (all rest : List Run) (left : List RunAirings)
-    (shown : Shown) → ShowsSoFar settings items heading all rest shown → length left < 1 → RunsShow items heading rest left
-    → AreShown settings items heading all shown.text.items shown.told.items
-shows_all settings items heading all [] left shown so none is =
-    subst (λ (l : List ℕ). AreShown settings items heading all l shown.told.items) (append-nil shown.text.items)
-    (subst (λ (l : List ℕ). AreShown settings items heading all (shown.text.items ++ []) l) (append-nil shown.told.items)
+pub shows_all : (settings : AsrunSettings) (items : List Item) (heading : Heading) (calls : List ListCall) (all rest : List Run) (left : List RunAirings)
+    (shown : Shown) → ShowsSoFar settings items heading calls all rest shown → length left < 1 → RunsShow items heading rest left
+    → AreShown settings items heading calls all shown.text.items shown.told.items
+shows_all settings items heading calls all [] left shown so none is =
+    subst (λ (l : List ℕ). AreShown settings items heading calls all l shown.told.items) (append-nil shown.text.items)
+    (subst (λ (l : List ℕ). AreShown settings items heading calls all (shown.text.items ++ []) l) (append-nil shown.told.items)
     (so [] [] (refl, refl)))
-shows_all settings items heading all (run ∷ rest) [] shown so none is = absurd is
-shows_all settings items heading all (run ∷ rest) (first ∷ left) shown so none is = absurd (omega (arith, none))
+shows_all settings items heading calls all (run ∷ rest) [] shown so none is = absurd is
+shows_all settings items heading calls all (run ∷ rest) (first ∷ left) shown so none is = absurd (omega (arith, none))
 
 -- what is left to be shown begins with a run
 first_of : (items : List Item) (heading : Heading) (runs : List Run) (shown : RunAirings) (behind : List RunAirings)

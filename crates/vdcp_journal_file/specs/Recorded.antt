@@ -37,6 +37,7 @@ use Rattle.vdcp_words.specs.declared.command.Command.TheVariants as command
 abbrev pub call_note : Call → Note
 call_note call.Take = note.Take
 call_note call.Stop = note.Stop
+call_note (call.List c) = note.List c
 
 -- the note of what is kept
 abbrev pub note_for : Kept → Note
@@ -47,13 +48,7 @@ note_for (kept.Called c) = call_note c
 
 abbrev pub commands_of_note : Note → List Command
 commands_of_note (note.Sent command) = command ∷ []
-commands_of_note (note.Heard heard) = []
-commands_of_note note.Silence = []
-commands_of_note note.Take = []
-commands_of_note note.Stop = []
-commands_of_note (note.From event) = []
-commands_of_note (note.Left event) = []
-commands_of_note (note.End outcome) = []
+commands_of_note n = []
 
 -- the commands of rows
 abbrev pub commands_of_rows : List Row → List Command

@@ -6,13 +6,14 @@ use Rattle.vdcp_auto.specs.Plan.{Plan, View, plan_of}
 use Rattle.vdcp_auto.specs.Snapshots.{CanStand, view_of}
 use Rattle.vdcp_auto.specs.State.{State}
 use Rattle.vdcp_auto.specs.Turn.{awaited, outcome_of, start}
-use Rattle.vdcp_auto.specs.declared.exchange.Heard.{Heard}
+use Rattle.vdcp_auto.specs.declared.list_call.ListCall.{ListCall}
 use Rattle.vdcp_auto.specs.declared.snapshot.Snapshot.{Snapshot}
 use Rattle.vdcp_auto.specs.declared.outcome.Outcome.{Outcome}
 use Rattle.vdcp_auto.specs.declared.outcome.Outcome.TheVariants as outcome
 use Rattle.vdcp_auto.specs.declared.outcome.Outcome.TheVariants.{Done, Stopped}
 use Rattle.vdcp_journal.specs.Airings.{AreAirings, FoundSoFar as FoundOf, end_in, ended_by, may_have_played, settled_in, unsettled_event}
 use Rattle.vdcp_journal.specs.RunsSoFar.{IsMadeBy, RunView}
+use Rattle.vdcp_journal.specs.ListCalls.{list_calls}
 use Rattle.vdcp_journal.specs.Mending.{last_note}
 use Rattle.vdcp_journal.specs.Journals.{IsJournal, IsJournalFault, Journal}
 use Rattle.vdcp_journal.specs.Resume.{AllStand, AreTold, IsResumeFault, after_rows, log_of, plan_after, timed_out}
@@ -38,6 +39,7 @@ use Rattle.vdcp_journal_file.specs.declared.again.Beginning.TheVariants.{From, L
 use Rattle.vdcp_journal_file.specs.declared.reading.Refusal.{Refusal}
 use Rattle.vdcp_journal_file.specs.declared.reading.FoundRun.{FoundRun}
 use Rattle.vdcp_journal_file.specs.declared.reading.FoundRuns.{FoundRuns}
+use Rattle.vdcp_journal_file.specs.declared.reading.LastRun.{LastRun}
 use Rattle.vdcp_journal_file.specs.declared.reading.RunAirings.{RunAirings}
 use Rattle.vdcp_journal_file.specs.declared.reading.Refusal.TheVariants as refusal
 use Rattle.vdcp_text.specs.declared.failure.Failure.{Failure}
@@ -181,21 +183,6 @@ pub record HasStood {S : Type 0} (items : S → List Item) (plan : Plan) (rows :
   pub is : view_of controller.source stood ≡ record controller { state = after_rows plan start rows }
   pub can_stand : CanStand (length (items controller.source)) stood
 
--- the last run of a journal of what is wanted, which has these whole lines, goes on so, and stood so before; and this is the
--- journal's last note, and what ended the last exchange, if since then at the most the state was asked
-pub record Continues {S : Type 0} (items : S → List Item) (wanted : Heading) (list : List Item) (lines : FileBytes)
-    (controller : View (FromEvent S)) (asked : Option Command) (stood : Snapshot) (unsettled : Option ℕ)
-    (noted : Option Note) (heard : Option Heard) : Type 0 where
-  pub journal : Journal
-  pub reads : IsJournal lines journal
-  pub wanted_is : journal.heading ≡ wanted
-  pub run : Run
-  pub last : IsLastRun journal.rows run
-  pub on : IsRunOn items wanted list run controller asked unsettled
-  pub has_stood : HasStood (items_left items) (plan_of_run wanted list run) run.rows controller stood
-  pub noted_is : noted ≡ last_note journal.rows
-  pub heard_is : heard ≡ heard_last (notes_in journal.rows)
-
 -- a run that began with event `from` has this last note: it ended with an event missing or refused, and the next run
 -- begins behind that one
 abbrev pub is_passed_over : (from next : ℕ) → Option Note → Bool
@@ -262,11 +249,30 @@ abbrev pub next_begin : List Run → Option ℕ
 next_begin [] = None
 next_begin (run ∷ runs) = Some run.from
 
--- the whole lines are a journal, whose runs show this of these items
-pub record JournalShows (items : List Item) (heading : Heading) (lines : FileBytes) (shown : List RunAirings) : Type 0 where
+-- the whole lines are a journal, whose runs show this of these items, and whose rows say this of the list
+pub record JournalShows (items : List Item) (heading : Heading) (lines : FileBytes) (shown : List RunAirings)
+    (calls : List ListCall) : Type 0 where
   pub journal : Journal
   pub reads : IsJournal lines journal
   pub show : RunsShow items heading (runs_of journal.rows) shown
+  pub calls_are : calls ≡ list_calls journal.rows
+
+-- the last run of a journal of what is wanted, which has these whole lines, goes on so, and stood so before; this is the
+-- journal's last note, and what ended the last exchange, if since then at the most the state was asked; and so much is shown
+-- by its runs, and said of the list by its rows
+pub record Continues {S : Type 0} (items : Bor S → List Item) (wanted : Heading) (list : List Item) (lines : FileBytes)
+    (r : LastRun S) : Type 0 where
+  pub journal : Journal
+  pub reads : IsJournal lines journal
+  pub wanted_is : journal.heading ≡ wanted
+  pub run : Run
+  pub last : IsLastRun journal.rows run
+  pub on : IsRunOn items wanted list run r.controller r.«open» r.unsettled
+  pub has_stood : HasStood (items_left items) (plan_of_run wanted list run) run.rows r.controller r.stood
+  pub noted_is : r.last_note ≡ last_note journal.rows
+  pub heard_is : r.heard ≡ heard_last (notes_in journal.rows)
+  pub show : RunsShow list wanted (runs_of journal.rows) r.runs.items
+  pub calls_are : r.calls.items ≡ list_calls journal.rows
 
 -- a journal's heading differs from the one that is wanted, and it is refused so
 abbrev pub IsOther : Heading → Heading → Refusal → Type 0
@@ -295,8 +301,8 @@ GoesOnOrNot {S} items heading list run unsettled (Ok r) = IsRunOn items heading 
     × HasStood (items_left items) (plan_of_run heading list run) run.rows r.controller r.stood
 GoesOnOrNot {S} items heading list run unsettled (Err why) = IsRunRefused list heading run why
 
--- the whole lines are a journal of this heading, and so much is found of it by controllers of one: what its runs show, and what
--- its last run makes
+-- the whole lines are a journal of this heading, and so much is found of it by controllers of one: what its runs show, what
+-- its last run makes, and what its rows say of the list
 pub record AreFound {S : Type 0} (items : Bor S → List Item) (heading read : Heading) (list : List Item) (lines : FileBytes)
     (found : FoundRuns S) : Type 0 where
   pub journal : Journal
@@ -306,6 +312,7 @@ pub record AreFound {S : Type 0} (items : Bor S → List Item) (heading read : H
   pub goes_on : GoesOnOrNot items heading list (last_run journal.rows) found.unsettled found.last
   pub noted_is : found.last_note ≡ last_note journal.rows
   pub heard_is : found.heard ≡ heard_last (notes_in journal.rows)
+  pub calls_are : found.calls.items ≡ list_calls journal.rows
 
 -- why the file of this name isn't read
 abbrev pub IsUnread : Bor (List ℕ) → Failure → Type 0

@@ -2,14 +2,18 @@
 use Rattle.csv.specs.Writing.{default_writer, row_text}
 use Rattle.sha2.specs.Sha256.{sha256}
 use Rattle.std.specs.Io.KnownBytes.{Appends, Keeps}
-use Rattle.std.specs.Prelude.{ℕ, zero, suc, ◌≡◌, ◌+◌, ◌-◌, ◌&&◌, ◌∷◌, ◌++◌, List, [], Option, None, Some, IfSome, false, codes, decimal, drop, if◌then◌else◌, length, map, min, nat_eq, nat_le, option_map, replicate, take}
+use Rattle.std.specs.List.{list_any}
+use Rattle.std.specs.Prelude.{ℕ, zero, suc, ◌≡◌, ◌+◌, ◌-◌, ◌&&◌, ◌∷◌, ◌++◌, List, [], Option, None, Some, IfSome, Bool, false, true, codes, decimal, drop, if◌then◌else◌, length, map, min, nat_eq, nat_le, nat_lt, option_map, replicate, take}
 use Rattle.vdcp_auto.specs.State.{State}
 use Rattle.vdcp_auto.specs.Turn.{outcome_of}
+use Rattle.vdcp_auto.specs.declared.list_call.ListCall.{ListCall}
+use Rattle.vdcp_auto.specs.declared.list_call.ListCall.TheVariants.{Skip}
 use Rattle.vdcp_auto.specs.declared.outcome.Outcome.{Outcome}
 use Rattle.vdcp_auto.specs.declared.outcome.Outcome.TheVariants as outcome
 use Rattle.vdcp_files.specs.Files.{File, bytes_of}
 use Rattle.vdcp_journal.specs.Airings.{AreAirings, end_in, ended_by, settled_in, unsettled_event}
 use Rattle.vdcp_journal.specs.Journals.{IsJournal, Journal}
+use Rattle.vdcp_journal.specs.ListCalls.{list_calls}
 use Rattle.vdcp_journal.specs.Reading.{whole_lines}
 use Rattle.vdcp_journal.specs.Runs.{Run, runs_of}
 use Rattle.vdcp_journal.specs.Times.{clocked_text, end_text, ended_text}
@@ -62,13 +66,23 @@ abbrev pub unsure_after : Heading → (before : Option ℕ) → Run → Option �
 unsure_after heading before run =
     left_unsure before run.from (settled_in heading.mode run.rows) (unsettled_event heading.mode run)
 
--- why the first event that a run doesn't report was left out: since it may have aired, or else since the run ended so, or
--- else by hand
-abbrev pub why_skipped : (unsure : Option ℕ) → Option Outcome → Skipped
-why_skipped (Some event) ended = Unsure
-why_skipped None (Some (outcome.Missing event)) = Missing
-why_skipped None (Some (outcome.Refused event)) = Refused
-why_skipped None ended = ByHand
+-- a call leaves out this event
+abbrev pub leaves_out : ListCall → ℕ → Bool
+leaves_out (Skip first end) event = nat_le first event && nat_lt event end
+leaves_out c event = false
+
+-- one of these calls does
+abbrev pub is_left_out : List ListCall → ℕ → Bool
+is_left_out calls event = list_any (λ c. leaves_out c event) calls
+
+-- why the first event that a run doesn't report was left out: since it may have aired, or else since the operator said so, or
+-- else since the run ended so, or else by hand
+abbrev pub why_skipped : (unsure : Option ℕ) → (said : Bool) → Option Outcome → Skipped
+why_skipped (Some event) said ended = Unsure
+why_skipped None true ended = ByHand
+why_skipped None false (Some (outcome.Missing event)) = Missing
+why_skipped None false (Some (outcome.Refused event)) = Refused
+why_skipped None false ended = ByHand
 
 -- why each of so many events was left out: the first one for this reason, the others by hand
 abbrev pub reasons : ℕ → Skipped → List Skipped
@@ -84,12 +98,14 @@ skipped_text settings items (Some next) first why =
     then timed_rows (times_of (λ skipped. []) (λ skipped. []) (λ skipped. []) skipped_end) settings.rate (has_part items) first
     (drop first items) (reasons (min next (length items) - first) why) else []
 
--- the rows of a run that begins with this event of the list, has come to this state, and leaves this event unsure: of what it
--- reports, and then of what was left out
-abbrev pub run_text : AsrunSettings → List Item → (next : Option ℕ) → (from : ℕ) → State → List Airing → Option ℕ → List ℕ
-run_text settings items next from state airings unsure =
+-- the rows of a run that begins with this event of the list, has come to this state, and leaves this event unsure, in a journal
+-- that says this of the list: of what it reports, and then of what was left out
+abbrev pub run_text : AsrunSettings → List Item → List ListCall → (next : Option ℕ) → (from : ℕ) → State → List Airing → Option ℕ
+    → List ℕ
+run_text settings items calls next from state airings unsure =
     reported_text settings items from state.settled airings
-    ++ skipped_text settings items next (from + state.settled) (why_skipped unsure (outcome_of state.stage))
+    ++ skipped_text settings items next (from + state.settled)
+    (why_skipped unsure (is_left_out calls (from + state.settled)) (outcome_of state.stage))
 
 -- what stands above them
 abbrev pub heading_text : AsrunSettings → List Item → List ℕ
@@ -113,44 +129,45 @@ undecided (Some next) (Some event) = if nat_le event next then None else Some ev
 -- the log of the rows shows, and of what was left out before the next run. An end that its own rows don't show is the one
 -- that the rows behind it show first. If this event is unsure before it, the one that is unsure after it is told, unless the
 -- next run, if there is one, begins with that one or behind it
-pub record ShowsRun (settings : AsrunSettings) (items : List Item) (heading : Heading) (before : Option ℕ) (run : Run)
-    (behind : List Run) (text told : List ℕ) : Type 0 where
+pub record ShowsRun (settings : AsrunSettings) (items : List Item) (heading : Heading) (calls : List ListCall)
+    (before : Option ℕ) (run : Run) (behind : List Run) (text told : List ℕ) : Type 0 where
   pub stands : RunStands items heading run
   pub own : List Airing
   pub are : AreAirings heading.mode run.rows own
-  pub text_is : text ≡ run_text settings items (next_begin behind) run.from
+  pub text_is : text ≡ run_text settings items calls (next_begin behind) run.from
       (state_after (plan_of_run heading items run) run.rows) (map (ended_by (end_in (rows_behind run behind))) own)
       (unsure_after heading before run)
   pub told_is : told ≡ open_text (run.begin + 1) (undecided (next_begin behind) (unsure_after heading before run))
 
 -- the texts of these runs are one after another this text, and what is told of them is this, if this event is unsure before
 -- them
-abbrev pub ShowRuns : AsrunSettings → List Item → Heading → (before : Option ℕ) → List Run → List ℕ → List ℕ → Type 0
-ShowRuns settings items heading before [] text told = (text ≡ []) × (told ≡ [])
-ShowRuns settings items heading before (run ∷ runs) text told = (first first_told rest rest_told : List ℕ)
-    × ShowsRun settings items heading before run runs first first_told
-    × ShowRuns settings items heading (unsure_after heading before run) runs rest rest_told
+abbrev pub ShowRuns : AsrunSettings → List Item → Heading → List ListCall → (before : Option ℕ) → List Run → List ℕ → List ℕ
+    → Type 0
+ShowRuns settings items heading calls before [] text told = (text ≡ []) × (told ≡ [])
+ShowRuns settings items heading calls before (run ∷ runs) text told = (first first_told rest rest_told : List ℕ)
+    × ShowsRun settings items heading calls before run runs first first_told
+    × ShowRuns settings items heading calls (unsure_after heading before run) runs rest rest_told
     × (text ≡ first ++ rest) × (told ≡ first_told ++ rest_told)
 
 -- the runs show this, below what stands above the rows
-pub record AreShown (settings : AsrunSettings) (items : List Item) (heading : Heading) (runs : List Run)
+pub record AreShown (settings : AsrunSettings) (items : List Item) (heading : Heading) (calls : List ListCall) (runs : List Run)
     (text told : List ℕ) : Type 0 where
   pub rows : List ℕ
-  pub show : ShowRuns settings items heading None runs rows told
+  pub show : ShowRuns settings items heading calls None runs rows told
   pub text_is : text ≡ heading_text settings items ++ rows
 
 -- these are still to be shown: with their texts behind what is shown so far, all runs are
-abbrev pub ShowsSoFar : AsrunSettings → List Item → Heading → (all rest : List Run) → Shown → Type 0
-ShowsSoFar settings items heading all rest shown = (text told : List ℕ)
-    → ShowRuns settings items heading shown.unsure rest text told
-    → AreShown settings items heading all (shown.text.items ++ text) (shown.told.items ++ told)
+abbrev pub ShowsSoFar : AsrunSettings → List Item → Heading → List ListCall → (all rest : List Run) → Shown → Type 0
+ShowsSoFar settings items heading calls all rest shown = (text told : List ℕ)
+    → ShowRuns settings items heading calls shown.unsure rest text told
+    → AreShown settings items heading calls all (shown.text.items ++ text) (shown.told.items ++ told)
 
 -- what is shown gained what a run shows
-pub record ShowsOneMore (settings : AsrunSettings) (items : List Item) (heading : Heading) (run : Run) (behind : List Run)
-    (before after : Shown) : Type 0 where
+pub record ShowsOneMore (settings : AsrunSettings) (items : List Item) (heading : Heading) (calls : List ListCall) (run : Run)
+    (behind : List Run) (before after : Shown) : Type 0 where
   pub text : List ℕ
   pub told : List ℕ
-  pub shows : ShowsRun settings items heading before.unsure run behind text told
+  pub shows : ShowsRun settings items heading calls before.unsure run behind text told
   pub text_is : after.text.items ≡ before.text.items ++ text
   pub told_is : after.told.items ≡ before.told.items ++ told
   pub unsure_is : after.unsure ≡ unsure_after heading before.unsure run
@@ -162,7 +179,7 @@ pub record ShowsJournal (settings : AsrunSettings) (items : List Item) (digest :
   pub journal : Journal
   pub reads : IsJournal lines journal
   pub of_list : IfSome digest (λ known. journal.heading.digest ≡ known)
-  pub show : AreShown settings items journal.heading (runs_of journal.rows) text told
+  pub show : AreShown settings items journal.heading (list_calls journal.rows) (runs_of journal.rows) text told
 
 -- the text is the as-run list, without times, of some journal of these items
 pub record IsAsrunOf (rate : Rate) (items : List Item) (text : List ℕ) : Type 0 where

@@ -78,7 +78,7 @@ pub fn begin_again<'a, 'r, 's, R: Files<File = File> + Clock + AllocGlobal, S: S
     ensures unit { IfOk result (λ r. IfSome r.recorder (λ recorder. recorder.unit ≡ wanted.now.unit)) }
     ensures name { IfOk result (λ r. IfSome r.recorder (λ recorder. recorder.name ≡ name.entry)) }
     ensures from { IfOk result (λ r. IfSome r.recorder (BeganWith (Some (beginning_note beginning r.controller.source.from)))) }
-    ensures shows { IfOk result (λ r. (lines : FileBytes) × JournalShows (S.items source.now) wanted.now lines r.runs.items) }
+    ensures shows { IfOk result (λ r. (lines : FileBytes) × JournalShows (S.items source.now) wanted.now lines r.runs.items r.calls.items) }
     ensures unopened { IfErr result (IsUnopenedAgain (S.items source.now) name.entry wanted.now (said_event beginning)) }
 {
     let file = open(rt, name)?;
@@ -101,7 +101,7 @@ fn begin_in<'a, 'r, 's, R: Files + Clock + AllocGlobal, S: Source, F: ReadableDi
         × IsOpenedAfter (S.items source.now) wanted.now (lines_of begun) (said_event beginning) r.controller.source.from
         (plan_of (items_left (λ s. S.items s.now)) r.controller) r.controller.state
         × IfSome r.recorder (HasBegun F.safe F.written (lines_of begun))
-        × JournalShows (S.items source.now) wanted.now (lines_of begun) r.runs.items) }
+        × JournalShows (S.items source.now) wanted.now (lines_of begun) r.runs.items r.calls.items) }
     ensures list { IfOk result (λ r. S.items r.controller.source.source.now ≡ S.items source.now) }
     ensures goes_on { IfOk result (λ r. IsSome r.recorder ↔ (outcome_of r.controller.state.stage ≡ None)) }
     ensures unit { IfOk result (λ r. IfSome r.recorder (λ recorder. recorder.unit ≡ wanted.now.unit)) }
@@ -125,6 +125,7 @@ fn begin_in<'a, 'r, 's, R: Files + Clock + AllocGlobal, S: Source, F: ReadableDi
         controller: new_controller(source, event, wanted),
         recorder: Some(recorder),
         runs: run.runs,
+        calls: run.calls,
     })
 }
 

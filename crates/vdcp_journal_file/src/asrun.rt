@@ -16,13 +16,13 @@ ghost use Rattle.vdcp_value.specs.declared.part.Item.{Item};
 
 use crate::named::events_in;
 use crate::reading::{Refusal, RunAirings, read_refusal, refusal_of, runs_in};
-use crate::skipped::{Skipped, reasons, why_skipped};
+use crate::skipped::{Skipped, is_left_out, reasons, why_skipped};
 use crate::torn::Closing;
 use std::alloc::Global;
 use std::fs::File;
 use std::io::{self, ErrorKind, Write};
 use std::rt::Files;
-use vdcp_auto::Source;
+use vdcp_auto::{ListCall, Source};
 use vdcp_files::NamedFile;
 use vdcp_journal::{Airing, Heading, JournalRows, WholeLines, digest_of};
 use vdcp_list::{write_events, write_timed_events, write_timed_heading};
@@ -218,9 +218,10 @@ fn shown_by<S: Source, I: io::Read + Drop>(
     expect(&heading, digest)?;
     let found = runs_in(alloc, &mut rows, &heading, events)?;
     let mut shown = heading_shown(alloc, events, settings)?;
+    let calls = found.calls.as_slice();
     let mut rest = found.runs.as_slice();
     while let [run, behind @ ..] = rest {
-        add_run(alloc, run, behind, events, settings, &mut shown)?;
+        add_run(alloc, run, behind, calls, events, settings, &mut shown)?;
         rest = behind;
     }
     Ok(shown)
@@ -244,11 +245,12 @@ fn expect(heading: &Heading, digest: Option<[u8; 32]>) -> Result<(), Refusal>
     Ok(())
 }
 
-// `behind` are the runs after it.
+// `behind` are the runs after it, and `calls` what the journal says of the list.
 fn add_run<S: Source>(
     alloc: Global,
     run: &RunAirings,
     behind: &[RunAirings],
+    calls: &[ListCall],
     events: &S,
     settings: AsrunSettings,
     shown: &mut Shown,
@@ -257,13 +259,13 @@ fn add_run<S: Source>(
         × RunsShow (S.items events.now) heading (of ∷ runs) (run.now ∷ behind.now) }
     ensures { (heading : Heading) (of : Run) (runs : List Run)
         → RunsShow (S.items events.now) heading (of ∷ runs) (run.now ∷ behind.now)
-        → OnOk result (ShowsOneMore settings (S.items events.now) heading of runs shown.old shown.new) }
+        → OnOk result (ShowsOneMore settings (S.items events.now) heading calls.now of runs shown.old shown.new) }
 {
     let (first, outcome) = run.ended?;
     let next = next_begin(behind);
     let airings = run.airings.as_slice();
     let unsure = left_unsure(shown.unsure, run.from, airings.len(), run.unsettled);
-    let why = why_skipped(unsure, outcome);
+    let why = why_skipped(unsure, is_left_out(calls, first), outcome);
     add_reported(alloc, events, run.from, airings, settings, &mut shown.text)?;
     add_skipped(alloc, events, next, first, why, settings, &mut shown.text)?;
     add_event(run.begin, undecided(next, unsure), &mut shown.told)?;

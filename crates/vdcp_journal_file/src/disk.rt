@@ -70,12 +70,15 @@ impl<F: Write + OpenFile> Disk for F {
 
 pub(crate) trait ReadableDisk: Disk {
     ghost use Rattle.std.specs.Io.KnownBytes.{Keeps};
-    ghost use Rattle.std.specs.Prelude.{◌≡◌, IfOk, OnOk, option_map, take};
+    ghost use Rattle.std.specs.Prelude.{◌≡◌, IfOk, IfSome, OnOk, length, option_map, take};
 
     type Reader: Read + Drop;
 
     fn reader(&self) -> io::Result<Self::Reader>
         ensures { IfOk result (λ reader. Self.Reader.remaining reader ≡ Self.written self.now) };
+
+    fn size(&self) -> io::Result<u64>
+        ensures { IfOk result (λ size. IfSome (Self.written self.now) (λ bytes. size ≡ length bytes)) };
 
     fn cut_after(&mut self, size: u64) -> io::Result<()>
         ensures { OnOk result (Keeps (option_map (take size) (Self.written self.old)) (Self.written self.new)) };
@@ -90,8 +93,12 @@ impl ReadableDisk for File {
         Ok(reader)
     }
 
+    fn size(&self) -> io::Result<u64> {
+        Ok(self.metadata()?.len())
+    }
+
     fn cut_after(&mut self, size: u64) -> io::Result<()> {
-        match size_left(size, self.metadata()?.len()) {
+        match size_left(size, self.size()?) {
             Some(left) => self.set_len(left),
             None => Ok(()),
         }

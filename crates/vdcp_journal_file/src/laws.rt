@@ -55,12 +55,3 @@ pub fn a_run_is_recorded<
 {
     laws::what_a_run_keeps::<S, E, W, Option<Recorder<'a, 'r, R, F>>>();
 }
-
-/// The only commands that a recorder still has to write are those that ask for the state, and an announced PLAY.
-pub fn few_commands_wait<R: Files + Clock + AllocGlobal, F: Disk + Drop>(
-    recorder: &Recorder<'_, '_, R, F>,
-)
-    ensures { MayHold recorder.now.pending }
-{
-    let _ = &recorder.pending;
-}

@@ -14,7 +14,7 @@ ghost use Rattle.vdcp_list.specs.Rows.{FileBytes};
 ghost use Rattle.vdcp_journal_file.specs.Disks.{HasJust};
 ghost use Rattle.vdcp_journal_file.specs.Mending.{IsHeaded, IsMended, lines_of};
 ghost use Rattle.vdcp_journal_file.specs.Recording.{IsUnwritten};
-ghost use Rattle.vdcp_journal_file.specs.Resuming.{Continues, IsUnread, IsUnresumed, JournalShows};
+ghost use Rattle.vdcp_journal_file.specs.Resuming.{Continues, IsUnread, IsUnresumed};
 ghost use Rattle.vdcp_journal_file.specs.Torn.{closed};
 
 use crate::disk::{ReadableDisk, append_safely};
@@ -22,7 +22,7 @@ use crate::pending::RecordFault;
 use crate::reading::{LastRun, replay};
 use crate::recorder::heading_text;
 use crate::resume::{reader_of, replay_file};
-use crate::torn::{Closing, ends_torn, lacks_feed};
+use crate::torn::{Closing, lacks_feed};
 use std::alloc::{AllocError, Global};
 use std::io::{self, ErrorKind, Read};
 use std::rt::Clock;
@@ -57,15 +57,19 @@ pub(crate) fn mend_heading<'a, R: Clock + AllocGlobal, F: ReadableDisk>(
     Ok(())
 }
 
-// A row that may have put a clip to air counts, though its line feed is lacking.
-fn close_row<'a, F: ReadableDisk>(name: &'a str, file: &mut F) -> Result<(), Failure<'a>>
+// A row that may have put a clip to air counts, though its line feed is lacking. `size` is that of the lines with it.
+fn close_row<'a, F: ReadableDisk>(
+    name: &'a str,
+    size: usize,
+    file: &mut F,
+) -> Result<(), Failure<'a>>
+    requires { IfSome (option_map closed (F.written file.old)) (λ bytes. size ≡ length (whole_lines bytes)) }
     ensures closed { OnOk result (Keeps (option_map closed (F.written file.old)) (F.written file.new)) }
     ensures unclosed { IfErr result (λ failure. IsUnread name.entry failure ⊎ IsUnwritten name.entry failure) }
 {
-    let mut reader = reader_of(name, file)?;
-    match ends_torn(&mut reader) {
-        Ok(false) => return Ok(()),
-        Ok(true) => {}
+    match file.size() {
+        Ok(written) if size as u64 <= written => return Ok(()),
+        Ok(_) => {}
         Err(error) => return Err(not_read(name, &error)),
     }
     match append_safely(file, b"\n") {
@@ -123,9 +127,7 @@ pub(crate) fn mend_end<'a, 's, R: Clock + AllocGlobal, S: Source, F: ReadableDis
     ensures mended { IfOk result (λ r. (lines : FileBytes)
         × IsMended (S.items source.now) wanted.now (lines_of (F.written file.old)) lines
         × HasJust F.safe F.written lines file.new
-        × Continues (λ s. S.items s.now) wanted.now (S.items source.now) lines r.controller r.«open» r.stood r.unsettled
-        r.last_note r.heard
-        × JournalShows (S.items source.now) wanted.now lines r.runs.items) }
+        × Continues (λ s. S.items s.now) wanted.now (S.items source.now) lines r) }
     ensures unmended { IfErr result (IsUnresumed (S.items source.now) name.entry wanted.now) }
 {
     let alloc = rt.alloc();
@@ -151,16 +153,9 @@ fn with_rows<'a, 's, S: Source, F: ReadableDisk>(
 ) -> Result<LastRun<'s, S>, Failure<'a>>
     requires some { 1 ≤ wanted.now.limit }
     requires few { wanted.now.limit ≤ 1000 }
-    ensures on { Continues (λ s. S.items s.now) wanted.now (S.items source.now) (lines_of (F.written file.now))
-        run.entry.controller run.entry.«open» run.entry.stood run.entry.unsettled run.entry.last_note run.entry.heard
-        → whole_lines rows.now ≡ rows.now
-        → IfOk result (λ r. Continues (λ s. S.items s.now) wanted.now (S.items source.now)
-        (option_append (lines_of (F.written file.now)) (Some rows.now)) r.controller r.«open» r.stood r.unsettled r.last_note
-        r.heard) }
-    ensures shows { JournalShows (S.items source.now) wanted.now (lines_of (F.written file.now)) run.entry.runs.items
-        → whole_lines rows.now ≡ rows.now
-        → IfOk result (λ r. JournalShows (S.items source.now) wanted.now (option_append (lines_of (F.written file.now)) (Some rows.now))
-        r.runs.items) }
+    ensures on { Continues (λ s. S.items s.now) wanted.now (S.items source.now) (lines_of (F.written file.now)) run.entry
+        → whole_lines rows.now ≡ rows.now → IfOk result (Continues (λ s. S.items s.now) wanted.now (S.items source.now)
+        (option_append (lines_of (F.written file.now)) (Some rows.now))) }
     ensures unresumed { IfErr result (IsUnresumed (S.items source.now) name.entry wanted.now) }
 {
     if rows.is_empty() {
@@ -177,10 +172,11 @@ fn whole_size<'a, F: ReadableDisk>(
     name: &'a str,
     file: &F,
 ) -> Result<usize, Failure<'a>>
-    ensures size { IfOk result (λ size. IfSome (F.written file.now) (λ bytes. size ≡ length (whole_lines bytes))) }
+    ensures size { IfOk result (λ size. IfSome (option_map closed (F.written file.now))
+        (λ bytes. size ≡ length (whole_lines bytes))) }
     ensures unread { IfErr result (IsUnread name.entry) }
 {
-    let reader = reader_of(name, file)?;
+    let reader = Closing::new(reader_of(name, file)?);
     match size_of_lines(alloc, reader) {
         Ok(size) => Ok(size),
         Err(error) => Err(not_read(name, &error)),
@@ -199,8 +195,8 @@ pub(crate) fn end_with<'a, F: ReadableDisk>(
         file.new) }
     ensures unended { IfErr result (λ failure. IsUnread name.entry failure ⊎ IsUnwritten name.entry failure) }
 {
-    close_row(name, file)?;
     let size = whole_size(alloc, name, file)?;
+    close_row(name, size, file)?;
     replace_from(name, size, rows, file)
 }
 

@@ -1,21 +1,22 @@
 //! The rows of a journal, one after another, held against what is wanted.
-ghost use Rattle.std.specs.Prelude.{◌≡◌, ◌≤◌, ◌∷◌, ◌++◌, ◌+◌, ◌||◌, ℕ, [], IfErr, IfNone, IfOk, IfSome, List, None, Option, if◌then◌else◌, length, map, option_map};
+ghost use Rattle.std.specs.Prelude.{◌≡◌, ◌≤◌, ◌∷◌, ◌++◌, ◌+◌, ◌||◌, ℕ, [], IfErr, IfNone, IfOk, IfSome, List, None, OnOk, Option, if◌then◌else◌, length, map, option_map};
 ghost use Rattle.vdcp_value.specs.declared.part.Item.{Item};
 ghost use Rattle.vdcp_journal_file.specs.declared.reading.Refusal.{Refusal};
 ghost use Rattle.vdcp_journal_file.specs.declared.reading.Refusal.TheVariants as refusals;
 ghost use Rattle.vdcp_text.specs.declared.failure.JournalFault.TheVariants as faults;
 ghost use Rattle.vdcp_journal.specs.Airings.{ended_by, unsettled_event};
 ghost use Rattle.vdcp_journal.specs.Journals.{TookRows};
+ghost use Rattle.vdcp_journal.specs.ListCalls.{list_calls_of};
 ghost use Rattle.vdcp_journal.specs.Reading.{whole_lines};
 ghost use Rattle.vdcp_journal.specs.Runs.{Run};
 ghost use Rattle.vdcp_list.specs.Rests.{items_left};
 ghost use Rattle.vdcp_list.specs.Rows.{FileBytes};
 ghost use Rattle.vdcp_journal.specs.declared.row.Heading.{Heading};
-ghost use Rattle.vdcp_journal_file.specs.Resuming.{AreFound, Continues, Differs, EachShowsAlone, EndsSo, FoundSoFar, GoesOnOrNot, IsMadeOrRefused, IsRefused, IsRunRefused, JournalShows, RunShows, RunsShow, failure_of, is_passed_over, read_refusal, row_fault, standing_fault};
+ghost use Rattle.vdcp_journal_file.specs.Resuming.{AreFound, Continues, Differs, EachShowsAlone, EndsSo, FoundSoFar, GoesOnOrNot, IsMadeOrRefused, IsRefused, IsRunRefused, RunShows, RunsShow, failure_of, is_passed_over, read_refusal, row_fault, standing_fault};
 
 use std::alloc::{AllocError, Global};
 use std::io;
-use vdcp_auto::{Controller, Heard, Outcome, Snapshot, Source};
+use vdcp_auto::{Controller, Heard, ListCall, Outcome, Snapshot, Source};
 use vdcp_journal::laws::{runs_follow_one_another, what_is_told_is_lawful};
 use vdcp_journal::{
     Airing, Airings, AiringsSoFar, Heading, JournalReadFault, JournalRowFault, JournalRows, Note,
@@ -101,6 +102,8 @@ pub(crate) struct FoundRuns<'s, S: Source> {
     pub last_note: Option<Note>,
     /// What was heard last (`heard_after`).
     pub heard: Option<Heard>,
+    /// What all rows say of the list, in order.
+    pub calls: Vec<ListCall>,
 }
 
 #[derive(Drop)]
@@ -118,6 +121,8 @@ pub(crate) struct LastRun<'s, S: Source> {
     pub last_note: Option<Note>,
     /// What was heard last (`heard_after`).
     pub heard: Option<Heard>,
+    /// What all rows say of the list, in order.
+    pub calls: Vec<ListCall>,
 }
 
 /// Makes the controller of a journal's last run anew, and times out the exchange that was open. The failure is `JournalRow`
@@ -131,9 +136,8 @@ pub(crate) fn replay<'a, 's, S: Source, I: io::Read + Drop>(
 ) -> Result<LastRun<'s, S>, Failure<'a>>
     requires some { 1 ≤ wanted.now.limit }
     requires few { wanted.now.limit ≤ 1000 }
-    ensures replayed { IfOk result (λ r. Continues (λ s. S.items s.now) wanted.now (S.items source.now)
-        (option_map whole_lines (I.remaining reader)) r.controller r.«open» r.stood r.unsettled r.last_note r.heard) }
-    ensures shows { IfOk result (λ r. JournalShows (S.items source.now) wanted.now (option_map whole_lines (I.remaining reader)) r.runs.items) }
+    ensures replayed { IfOk result (Continues (λ s. S.items s.now) wanted.now (S.items source.now)
+        (option_map whole_lines (I.remaining reader))) }
     ensures refused { IfErr result (λ failure. (refusal : Refusal) × (failure ≡ failure_of name.entry refusal)
         × IsRefused (S.items source.now) wanted.now (option_map whole_lines (I.remaining reader)) refusal) }
 {
@@ -165,9 +169,7 @@ fn last_run<'s, S: Source, I: io::Read + Drop>(
 ) -> Result<LastRun<'s, S>, Refusal>
     requires some { 1 ≤ wanted.now.limit }
     requires few { wanted.now.limit ≤ 1000 }
-    ensures replayed { IfOk result (λ r. Continues (λ s. S.items s.now) wanted.now (S.items source.now) (I.remaining lines)
-        r.controller r.«open» r.stood r.unsettled r.last_note r.heard) }
-    ensures shows { IfOk result (λ r. JournalShows (S.items source.now) wanted.now (I.remaining lines) r.runs.items) }
+    ensures replayed { IfOk result (Continues (λ s. S.items s.now) wanted.now (S.items source.now) (I.remaining lines)) }
     ensures refused { IfErr result (IsRefused (S.items source.now) wanted.now (I.remaining lines)) }
 {
     runs_follow_one_another();
@@ -181,6 +183,7 @@ fn last_run<'s, S: Source, I: io::Read + Drop>(
         unsettled,
         last_note,
         heard,
+        calls,
     } = runs_in(alloc, &mut rows, wanted, source)?;
     if let Some(fault) = difference(&rows.heading, wanted) {
         return Err(Refusal::Row(1, fault));
@@ -200,6 +203,7 @@ fn last_run<'s, S: Source, I: io::Read + Drop>(
             runs,
             last_note,
             heard,
+            calls,
         }),
         Err(why) => Err(why),
     }
@@ -226,6 +230,7 @@ pub(crate) fn runs_in<'s, S: Source, I: io::Read + Drop>(
     let mut run = FoundRun::new(alloc, source, heading, 0, 1);
     let mut last_note = None;
     let mut heard = None;
+    let mut calls = Vec::new(alloc);
     for read in 0..usize::MAX - 1 {
         let row = match rows.next_row() {
             Ok(Some(row)) => row,
@@ -239,12 +244,14 @@ pub(crate) fn runs_in<'s, S: Source, I: io::Read + Drop>(
                     unsettled,
                     last_note,
                     heard,
+                    calls,
                 });
             }
             Err(fault) => return Err(read_refusal(fault)),
         };
         last_note = Some(row.note);
         heard = heard_after(heard, &row.note);
+        add_call(&mut calls, &row.note)?;
         match begins_at(&row.note) {
             Some(event) => {
                 let (found, _) = run.end(leaves(&row.note));
@@ -330,6 +337,15 @@ impl<'s, S: Source> FoundRun<'s, S> {
         };
         (shown, resumed)
     }
+}
+
+fn add_call(calls: &mut Vec<ListCall>, note: &Note) -> Result<(), AllocError>
+    ensures { OnOk result (calls.new.items ≡ calls.old.items ++ list_calls_of note.now) }
+{
+    if let Note::List(call) = note {
+        calls.push(*call)?;
+    }
+    Ok(())
 }
 
 fn resumed<'s, S: Source>(

@@ -8,7 +8,7 @@ ghost use Rattle.vdcp_journal.specs.Rows.{AreBytesOf, fields_text, heading_field
 ghost use Rattle.vdcp_journal.specs.declared.moment.Moment.{Moment};
 ghost use Rattle.vdcp_journal.specs.Thinned.{asks_state};
 ghost use Rattle.vdcp_journal_file.specs.Recorded.{KeepsRow, LosesRow, MayHold, call_note};
-ghost use Rattle.vdcp_journal_file.specs.Recording.{Adds, AddsBeginning, FitHeldRows, IsSynced, IsUnwritten, MakesBeginning, MakesSafe, Recording, after_row, ended, from_rows, outcome_rows, rows_due, rows_left, with_play};
+ghost use Rattle.vdcp_journal_file.specs.Recording.{Adds, AddsBeginning, BeganWith, FitHeldRows, IsSynced, IsUnwritten, MakesBeginning, MakesSafe, Recording, after_row, ended, from_rows, outcome_rows, rows_due, rows_left, with_play};
 ghost use Rattle.vdcp_journal_file.specs.declared.pending.Pending.TheVariants.{Failed, Nothing};
 ghost use Rattle.vdcp_journal_file.specs.declared.pending.RecordFault.{RecordFault};
 ghost use Rattle.vdcp_journal_file.specs.declared.pending.RecordFault.TheVariants.{Replaced};
@@ -59,24 +59,28 @@ impl<'a, 'r, R, F: Disk> Model for Recorder<'a, 'r, R, F> {
 }
 
 impl<'a, 'r, R: Files + Clock + AllocGlobal, F: Disk + Drop> Recorder<'a, 'r, R, F> {
-    /// Begins a journal in an empty file: writes the first row.
-    pub fn begin(
+    /// Begins a journal in an empty file: writes the first row, and that of the event with which the run begins, if one is
+    /// noted.
+    pub(crate) fn begin(
         rt: &'r R,
         name: &'a str,
         heading: &Heading,
+        from: Option<Note>,
         mut file: F,
     ) -> Result<Recorder<'a, 'r, R, F>, Failure<'a>>
         requires { heading.now.unit ≤ 15 }
-        ensures begun { IfOk result (λ r. (time : Moment) × Appends (F.written file) (F.safe r.file)
-            (fields_text (heading_fields time heading.now))) }
-        ensures new { IfOk result (λ r. r ≡ record
-            { name = name.entry; unit = heading.now.unit; file = r.file; from = None; pending = Nothing }) }
+        ensures begun { IfOk result (λ r. (first time : Moment) × Appends (F.written file) (F.safe r.file)
+            (fields_text (heading_fields first heading.now) ++ rows_text heading.now.unit (from_rows time from))) }
+        ensures named { IfOk result (λ r. (r.name ≡ name.entry) × (r.unit ≡ heading.now.unit)) }
+        ensures from { IfOk result (BeganWith from) }
         ensures unwritten { IfErr result (IsUnwritten name.entry) }
     {
-        match write_first(rt.alloc(), &now(rt), heading, &mut file) {
-            Ok(()) => Ok(Recorder::after(rt, name, heading.unit, file, Pending::Nothing)),
-            Err(fault) => Err(fault.failure(name)),
+        if let Err(fault) = write_first(rt.alloc(), &now(rt), heading, &mut file) {
+            return Err(fault.failure(name));
         }
+        let mut recorder = Recorder::after(rt, name, heading.unit, file, Pending::Nothing);
+        recorder.keep_from(from)?;
+        Ok(recorder)
     }
 
     /// Goes on with a journal at this unit, in a file that has all but what is pending, and all of it safe.
@@ -309,6 +313,7 @@ fn note_of_call(call: Call) -> Note
     match call {
         Call::Take => Note::Take,
         Call::Stop => Note::Stop,
+        Call::List(call) => Note::List(call),
     }
 }
 

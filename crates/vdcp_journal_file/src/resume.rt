@@ -23,7 +23,7 @@ use crate::torn::Closing;
 use std::alloc::Global;
 use std::fs::File;
 use std::rt::{Clock, Files};
-use vdcp_auto::{Controller, Outcome, Source};
+use vdcp_auto::{Controller, ListCall, Outcome, Source};
 use vdcp_journal::{Heading, Moment, Note, Row, is_end};
 use vdcp_list::Rest;
 use vdcp_text::Failure;
@@ -37,6 +37,8 @@ pub struct Resumption<'a, 'r, R, S: Source, F: Disk = File> {
     pub recorder: Option<Recorder<'a, 'r, R, F>>,
     /// What the journal's runs showed before this, the last one last.
     pub runs: Vec<RunAirings>,
+    /// What its rows say of the list, those of all runs, in order.
+    pub calls: Vec<ListCall>,
 }
 
 /// Goes on with the last run of the journal of this name: its rows make the controller, and the exchange that was open is
@@ -63,7 +65,7 @@ pub fn resume_journal<'a, 'r, 's, R: Files<File = File> + Clock + AllocGlobal, S
     ensures goes_on { IfOk result (λ r. IsSome r.recorder ↔ (outcome_of r.controller.state.stage ≡ None)) }
     ensures unit { IfOk result (λ r. IfSome r.recorder (λ recorder. recorder.unit ≡ wanted.now.unit)) }
     ensures name { IfOk result (λ r. IfSome r.recorder (λ recorder. recorder.name ≡ name.entry)) }
-    ensures shows { IfOk result (λ r. (lines : FileBytes) × JournalShows (S.items source.now) wanted.now lines r.runs.items) }
+    ensures shows { IfOk result (λ r. (lines : FileBytes) × JournalShows (S.items source.now) wanted.now lines r.runs.items r.calls.items) }
     ensures unresumed { IfErr result (IsUnresumed (S.items source.now) name.entry wanted.now) }
 {
     let file = open(rt, name)?;
@@ -90,7 +92,7 @@ fn resume_in<'a, 'r, 's, R: Files + Clock + AllocGlobal, S: Source, F: ReadableD
         × IfSome r.recorder (λ recorder.
         IsTimedOut (open_after (plan_of_run wanted.now (S.items source.now) run) run.rows) recorder.pending)
         × IfSome r.recorder (λ recorder. HasJust F.safe F.written lines recorder.file)
-        × JournalShows (S.items source.now) wanted.now lines r.runs.items) }
+        × JournalShows (S.items source.now) wanted.now lines r.runs.items r.calls.items) }
     ensures list { IfOk result (λ r. S.items r.controller.source.source.now ≡ S.items source.now) }
     ensures goes_on { IfOk result (λ r. IsSome r.recorder ↔ (outcome_of r.controller.state.stage ≡ None)) }
     ensures unit { IfOk result (λ r. IfSome r.recorder (λ recorder. recorder.unit ≡ wanted.now.unit)) }
@@ -111,9 +113,8 @@ pub(crate) fn replay_file<'a, 's, S: Source, F: ReadableDisk>(
 ) -> Result<LastRun<'s, S>, Failure<'a>>
     requires some { 1 ≤ wanted.now.limit }
     requires few { wanted.now.limit ≤ 1000 }
-    ensures replayed { IfOk result (λ r. Continues (λ s. S.items s.now) wanted.now (S.items source.now)
-        (lines_of (F.written file.now)) r.controller r.«open» r.stood r.unsettled r.last_note r.heard) }
-    ensures shows { IfOk result (λ r. JournalShows (S.items source.now) wanted.now (lines_of (F.written file.now)) r.runs.items) }
+    ensures replayed { IfOk result (Continues (λ s. S.items s.now) wanted.now (S.items source.now)
+        (lines_of (F.written file.now))) }
     ensures unresumed { IfErr result (IsUnresumed (S.items source.now) name.entry wanted.now) }
 {
     let reader = Closing::new(reader_of(name, file)?);
@@ -149,7 +150,7 @@ pub(crate) fn go_on<'a, 'r, 's, R: Files + Clock + AllocGlobal, S: Source, F: Di
     ensures name { IfOk result (λ r. IfSome r.recorder (λ recorder. recorder.name ≡ name.entry)) }
     ensures pending { IfOk result (λ r. IfSome r.recorder (λ recorder. IsTimedOut run.entry.«open» recorder.pending)) }
     ensures file { IfOk result (λ r. IfSome r.recorder (λ recorder. recorder.file ≡ file)) }
-    ensures runs { IfOk result (λ r. r.runs.items ≡ run.entry.runs.items) }
+    ensures shows { IfOk result (λ r. (r.runs.items ≡ run.entry.runs.items) × (r.calls.items ≡ run.entry.calls.items)) }
     ensures unwritten { IfErr result (IsUnwritten name.entry) }
 {
     let LastRun {
@@ -157,6 +158,7 @@ pub(crate) fn go_on<'a, 'r, 's, R: Files + Clock + AllocGlobal, S: Source, F: Di
         open,
         runs,
         last_note,
+        calls,
         ..
     } = run;
     let mut recorder = Recorder::after(rt, name, unit, file, pending_after(open));
@@ -166,12 +168,14 @@ pub(crate) fn go_on<'a, 'r, 's, R: Files + Clock + AllocGlobal, S: Source, F: Di
             controller,
             recorder: None,
             runs,
+            calls,
         });
     }
     Ok(Resumption {
         controller,
         recorder: Some(recorder),
         runs,
+        calls,
     })
 }
 

@@ -1,9 +1,9 @@
 //! Why events were left out between two runs of a journal.
 ghost use Rattle.std.specs.Prelude.{◌≡◌, IfOk, length};
-ghost use Rattle.vdcp_journal_file.specs.Showing.{reasons, why_skipped};
+ghost use Rattle.vdcp_journal_file.specs.Showing.{is_left_out, leaves_out, reasons, why_skipped};
 
 use std::alloc::{AllocError, Global};
-use vdcp_auto::Outcome;
+use vdcp_auto::{ListCall, Outcome};
 use vdcp_list::Timed;
 
 /// Why an event stands between two runs, and neither plays it.
@@ -55,14 +55,30 @@ impl Timed for Skipped {
     }
 }
 
-/// Why the first event that a run doesn't report was left out.
-pub(crate) fn why_skipped(unsure: Option<usize>, outcome: Option<Outcome>) -> Skipped
-    ensures { result ≡ why_skipped unsure outcome }
+/// Whether one of these calls leaves out the event.
+pub(crate) fn is_left_out(calls: &[ListCall], event: usize) -> bool
+    ensures { result ≡ is_left_out calls.now event }
+{
+    calls.iter().any(|call| leaves_out(*call, event))
+}
+
+fn leaves_out(call: ListCall, event: usize) -> bool
+    ensures { result ≡ leaves_out call event }
+{
+    match call {
+        ListCall::Skip { first, end } => first <= event && event < end,
+        ListCall::Hold | ListCall::Go => false,
+    }
+}
+
+/// Why the first event that a run doesn't report was left out. `said` says whether a call leaves it out.
+pub(crate) fn why_skipped(unsure: Option<usize>, said: bool, outcome: Option<Outcome>) -> Skipped
+    ensures { result ≡ why_skipped unsure said outcome }
 {
     match (unsure, outcome) {
         (Some(_), _) => Skipped::Unsure,
-        (None, Some(Outcome::Missing(_))) => Skipped::Missing,
-        (None, Some(Outcome::Refused(_))) => Skipped::Refused,
+        (None, Some(Outcome::Missing(_))) if !said => Skipped::Missing,
+        (None, Some(Outcome::Refused(_))) if !said => Skipped::Refused,
         (None, _) => Skipped::ByHand,
     }
 }

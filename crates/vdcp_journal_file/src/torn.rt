@@ -131,18 +131,3 @@ fn says_playing(byte: u8) -> bool
 {
     (b'4' <= byte && byte <= b'7') || (b'c' <= byte && byte <= b'f')
 }
-
-pub(crate) fn ends_torn<I: Read>(reader: &mut I) -> io::Result<bool>
-    ensures { IfOk result (λ torn. IfSome (I.remaining reader.old) (λ text. torn ≡ may_air (torn_after [] text))) }
-{
-    let mut torn = ArrayVec::new();
-    let mut piece = [0; 4096];
-    for _ in 0..u64::MAX {
-        let count = reader.read(piece.as_mut_slice())?;
-        if count == 0 {
-            return Ok(may_air(torn.as_slice()));
-        }
-        hold(&mut torn, &piece[..count]);
-    }
-    Err(io::Error::from(io::ErrorKind::FileTooLarge))
-}

@@ -33,10 +33,10 @@ returns g c = λ heading run runs shows.
     record {
       text = _;
       told = _;
-      shows = shows_written c.args.settings _ heading run runs c.args.run.now _ _ c.args.shown.now.unsure c.next_begin-next.result
+      shows = shows_written c.args.settings _ heading c.args.calls.now run runs c.args.run.now _ _ c.args.shown.now.unsure c.next_begin-next.result
           c.left_unsure-unsure.result shows.0 ends p (c.next_begin-next.ensures _ heading runs shows.1) is;
       text_is = text_twice _ _ _ _ _ (rw c.as_slice-airings.ensures.value at c.in_ok-add_reported.ensures.text)
-          (rw c.why_skipped-why.ensures at c.in_ok-add_skipped.ensures.text);
+          (rw (c.why_skipped-why.ensures, c.is_left_out.ensures) at c.in_ok-add_skipped.ensures.text);
       told_is = rw c.undecided.ensures at c.in_ok-add_event.ensures.told;
       unsure_is = is ∙ p.is_after c.args.shown.now.unsure;
     }

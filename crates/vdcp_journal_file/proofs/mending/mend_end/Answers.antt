@@ -26,9 +26,8 @@ returns-clause-mended g c =
         unclocked = unclocked;
         adds = subst (Appends old (option_append old (Some rows)))
             (is ∙ ap (λ notes. rows_text c.args.wanted.now.unit (rows_at time notes))
-            (mended_so (λ s. g.S.Source.items s.now) _ _ _ _ _ _ _ _ _ on)) (adds_so old rows);
+            (mended_so (λ s. g.S.Source.items s.now) _ _ _ _ on)) (adds_so old rows);
       },
       rw c.as_slice-2.ensures.value at c.in_ok-end_with.ensures.ends,
       rw c.as_slice.ensures.value at (c.in_ok-run-2.ensures.on on (rw c.as_slice.ensures.value whole)),
-      rw c.as_slice.ensures.value at (c.in_ok-run-2.ensures.shows c.in_ok-run.ensures.shows (rw c.as_slice.ensures.value whole)),
     )

@@ -10,11 +10,6 @@ returns-then-is_empty-clause-on g c = λ on whole.
     rw (sym (same_so (lines_of (g.F.Disk.written c.args.file.now)) c.args.rows.now (sym c.is_empty.ensures ∙ c.if-is_empty.true)))
     on
 
-pub returns-then-is_empty-clause-shows : goal.returns-then-is_empty-clause-shows
-returns-then-is_empty-clause-shows g c = λ shows whole.
-    rw (sym (same_so (lines_of (g.F.Disk.written c.args.file.now)) c.args.rows.now (sym c.is_empty.ensures ∙ c.if-is_empty.true)))
-    shows
-
 pub returns-clause-on : goal.returns-clause-on
 returns-clause-on g c = λ on whole.
     rw (
@@ -24,16 +19,6 @@ returns-clause-on g c = λ on whole.
       c.in_ok-reader_of.ensures.all,
       lines_on (g.F.Disk.written c.args.file.now) c.args.rows.now whole,
     ) at c.replay.ensures.replayed
-
-pub returns-clause-shows : goal.returns-clause-shows
-returns-clause-shows g c = λ shows whole.
-    rw (
-      c.chain.ensures.bytes,
-      c.in-Ok.ensures,
-      c.new.ensures,
-      c.in_ok-reader_of.ensures.all,
-      lines_on (g.F.Disk.written c.args.file.now) c.args.rows.now whole,
-    ) at c.replay.ensures.shows
 
 pub returns-clause-unresumed : goal.returns-clause-unresumed
 returns-clause-unresumed g c = IfErr-weaker c.replay.result _ _ (λ failure p. bad _ p.0 p.2 p.1) c.replay.ensures.refused

@@ -1,8 +1,5 @@
 use Rattle.std.proofs.Common.{refl, subst, sym, ◌∙◌}
-use Rattle.std.specs.Borrow.{Bor}
-use Rattle.std.specs.Prelude.{Result}
 use Rattle.vdcp_journal.specs.Runs.{last_run}
-use Rattle.vdcp_journal.specs.declared.replay.Resumed.{Resumed}
 use Rattle.vdcp_journal.specs.declared.row.Heading.{Heading}
 use Rattle.vdcp_journal_file.proofs.reading.last_run.Goals as goal
 use Rattle.vdcp_journal_file.specs.Resuming.{Differs, GoesOnOrNot, bad_run, no_journal, of_other}
@@ -32,12 +29,9 @@ returns-in-Ok-last-clause-replayed g c =
       has_stood = goes_on.1;
       noted_is = found.noted_is;
       heard_is = found.heard_is;
+      show = found.show;
+      calls_are = found.calls_are;
     }
-
-pub returns-in-Ok-last-clause-shows : goal.returns-in-Ok-last-clause-shows
-returns-in-Ok-last-clause-shows g c =
-    let found = c.in_ok-runs.ensures.found _ c.in-Ok.ensures.begun in
-    record { journal = found.journal; reads = found.reads; show = found.show }
 
 pub returns-clause-refused : goal.returns-clause-refused
 returns-clause-refused g c =

@@ -11,6 +11,3 @@ returns-clause-refused g c = (
   long_so _ _ _ c.long_line.result _ _ c.refusal_of.ensures.long c.refusal_of.ensures.other
       (rw c.in-Ok.ensures at c.in-Err.ensures.refused),
 )
-
-pub returns-in-Ok-last_run-clause-shows : goal.returns-in-Ok-last_run-clause-shows
-returns-in-Ok-last_run-clause-shows g c = rw c.in-Ok.ensures at c.in-Ok-last_run.ensures.shows

@@ -1,11 +1,13 @@
 use Rattle.std.proofs.Common.{ℕ, ap, append-nil, ◌≡◌, ◌+◌, ◌<◌, ◌^◌, Bool, List, [], ◌∷◌, ◌++◌, arith, length, length-append, refl, subst, sym, ◌∙◌}
 use Rattle.std.specs.Prelude.{None, Option, Some}
 use Rattle.vdcp_auto.specs.declared.exchange.Heard.{Heard}
+use Rattle.vdcp_auto.specs.declared.list_call.ListCall.{ListCall}
+use Rattle.vdcp_journal.specs.ListCalls.{list_calls_of}
 use Rattle.vdcp_journal.specs.Runs.{Run, ended_in, ended_runs, last_run, leaves, run_after, runs_of}
 use Rattle.vdcp_journal.specs.Thinned.{heard_after}
 use Rattle.vdcp_journal.specs.declared.faults.JournalReadFault.TheVariants as unread
 use Rattle.vdcp_journal.specs.declared.row.Row.{Row}
-use Rattle.vdcp_journal_file.proofs.RowSteps.{found_next, heard_more, last_of, shows_more, some_rows}
+use Rattle.vdcp_journal_file.proofs.RowSteps.{calls_more, found_next, heard_more, last_of, shows_more, some_rows}
 use Rattle.vdcp_journal_file.proofs.reading.runs_in.Goals as goal
 use Rattle.vdcp_journal_file.proofs.reading.runs_in.Goals.{in-Some+in_ok-runs-in-Some, in-None+in_ok-run-in-None}
 use Rattle.vdcp_journal_file.specs.Resuming.{RunShows, no_journal}
@@ -16,7 +18,7 @@ loop-read-init g c = (
   refl,
   λ file took. took,
   c.new-run.ensures (last_run []) refl refl refl,
-  (refl, refl),
+  (refl, refl, c.new-calls.ensures.items),
   rw c.new-runs.ensures.items tt,
   refl,
 )
@@ -42,6 +44,7 @@ returns-in-Ok-None-clause-found g c = λ file took.
       goes_on = c.end-found.ensures.goes_on c.args.heading.now _ (last_run rows) c.loop-read.invariant.3 stays;
       noted_is = c.loop-read.invariant.4.0;
       heard_is = c.loop-read.invariant.4.1;
+      calls_are = c.loop-read.invariant.4.2;
     }
 
 pub returns-in-Err-clause-refused : goal.returns-in-Err-clause-refused
@@ -73,6 +76,8 @@ loop-read-preserved g c =
         sym (last_of rows row),
         c.heard_after-heard.ensures ∙ ap (λ (h : Option Heard). heard_after h row.note) c.loop-read.invariant.4.1
             ∙ sym (heard_more rows row),
+        c.in_ok-add_call.ensures ∙ ap (λ (l : List ListCall). l ++ list_calls_of row.note) c.loop-read.invariant.4.2
+            ∙ sym (calls_more rows row),
       ),
       elim c.match-begins_at.branch [
         | in-Some+in_ok-runs-in-Some w ↦ rw (

@@ -1,6 +1,7 @@
 -- The rows so far were taken, and this is what is found of the last run, and of those before it.
 use Rattle.std.proofs.Common.{◌≡◌, List, [], length}
 use Rattle.vdcp_journal.specs.Journals.{TookRows}
+use Rattle.vdcp_journal.specs.ListCalls.{list_calls}
 use Rattle.vdcp_journal.specs.Mending.{last_note}
 use Rattle.vdcp_journal.specs.Runs.{ended_in, last_run}
 use Rattle.vdcp_journal.specs.Thinned.{heard_last, notes_in}
@@ -13,5 +14,6 @@ abbrev pub invariant-loop-read : goal.invariant-loop-read
 invariant-loop-read g l = (rows : List Row) × (length rows ≡ l.read)
     × ((file : FileBytes) → TookRows g.I.Read.remaining file l.fn.rows [] → TookRows g.I.Read.remaining file l.rows rows)
     × FoundSoFar (λ s. g.S.Source.items s.now) l.heading (g.S.Source.items l.source) (last_run rows) l.run
-    × ((l.last_note ≡ last_note rows) × (l.heard ≡ heard_last (notes_in rows)))
+    × ((l.last_note ≡ last_note rows) × (l.heard ≡ heard_last (notes_in rows))
+    × (l.calls.items ≡ list_calls rows))
     × EachShowsAlone (g.S.Source.items l.source) l.heading (ended_in rows) l.runs.items × (l.rows.heading ≡ l.fn.rows.heading)

@@ -7,6 +7,3 @@ returns-clause-replayed g c = rw (c.new-reader.ensures, c.in_ok-reader_of.ensure
 
 pub returns-clause-unresumed : goal.returns-clause-unresumed
 returns-clause-unresumed g c = IfErr-weaker c.replay.result _ _ (λ failure p. bad _ p.0 p.2 p.1) c.replay.ensures.refused
-
-pub returns-clause-shows : goal.returns-clause-shows
-returns-clause-shows g c = rw (c.new-reader.ensures, c.in_ok-reader_of.ensures.all) at c.replay.ensures.shows
