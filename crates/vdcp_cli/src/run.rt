@@ -83,7 +83,7 @@ pub fn run_run<'a, W: Write, E: Write>(
     Ok(status)
 }
 
-/// A run that stays goes on from a journal: without one of a name it has one in the folder for temporary files.
+/// The journal of a run that stays and names none: a new file in the folder for temporary files.
 pub fn own_journal(
     system: &System<'_>,
     matches: &ArgMatches<'_>,
@@ -257,6 +257,7 @@ fn run_settings_of<'a>(matches: &'a ArgMatches<'_>) -> RunSettings<'a>
         hearing: hearing_of(matches),
         listens: listens_of(matches),
         from: from_of(matches),
+        wanted: from_of(matches),
         asrun: matches.get_str("asrun"),
         journal: journal_of(matches),
         stay: staying_of(matches),

@@ -5,4 +5,4 @@ pub mod Showing
 pub mod Typing
 pub mod LeavingOut
 pub mod Pacing
-pub mod Unattended
+pub mod Asked

@@ -10,12 +10,14 @@ use Rattle.vdcp_panel.specs.declared.panel.Names.{Names}
 use Rattle.vdcp_value.specs.declared.part.Item.{Item}
 use Rattle.serde_json.specs.View.{items_of}
 use Rattle.serde_json.specs.Written.{has_float, items_have_float}
-use Rattle.vdcp_operator.specs.Seen.{IsSeen, Keeps, ShowsRun, about, ending_data, length_by, number_data, page_bytes, record_data, row_data, seen_data, state_bytes}
+use Rattle.vdcp_operator.specs.LeftOut.{is_left_out}
+use Rattle.vdcp_operator.specs.Seen.{IsSeen, Keeps, ShowsRun, about, ending_data, length_by, number_data, page_bytes, reason_data, record_data, row_data, seen_data, state_bytes, why_of}
 use Rattle.vdcp_operator.specs.declared.ahead.Ahead.{Ahead}
 use Rattle.vdcp_operator.specs.declared.left_out.LeftOut.{LeftOut}
 use Rattle.vdcp_operator.specs.declared.seen.Ending.{Ending}
 use Rattle.vdcp_operator.specs.declared.seen.EventSeen.{EventSeen}
 use Rattle.vdcp_operator.specs.declared.seen.HandSeen.{HandSeen}
+use Rattle.vdcp_operator.specs.declared.seen.Reason.{Reason}
 use Rattle.vdcp_operator.specs.declared.seen.Record.{Record}
 use Rattle.vdcp_operator.specs.declared.seen.RunSeen.{RunSeen}
 use Rattle.vdcp_operator.specs.declared.shown.RunPage.{RunPage}
@@ -35,11 +37,22 @@ record_whole : (r : Option Record) → has_float (record_data r) ≡ false
 record_whole None = refl
 record_whole (Some r) = refl
 
+reason_whole : (why : Option Reason) → has_float (reason_data why) ≡ false
+reason_whole None = refl
+reason_whole (Some why) = refl
+
 rows_whole : (rate : Rate) (clips : Option (List (ClipId × Timecode))) (left : LeftOut) (ahead : Ahead) (events : List EventSeen)
     → items_have_float (items_of (map (row_data rate clips left ahead) events)) ≡ false
 rows_whole rate clips left ahead [] = refl
 rows_whole rate clips left ahead (e ∷ events) =
-    rw (number_whole e.at, ending_whole e.ending, record_whole e.kept, number_whole (length_by clips e.item), number_whole e.until)
+    rw (
+      number_whole e.at,
+      ending_whole e.ending,
+      record_whole e.kept,
+      number_whole (length_by clips e.item),
+      number_whole e.until,
+      reason_whole (why_of (is_left_out left e.number) e.why),
+    )
     (rows_whole rate clips left ahead events)
 
 pub seen_whole : (v : RunSeen) → has_float (seen_data v) ≡ false

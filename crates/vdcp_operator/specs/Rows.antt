@@ -10,6 +10,7 @@ use Rattle.vdcp_operator.specs.declared.seen.Ending.{Ending}
 use Rattle.vdcp_operator.specs.declared.seen.Ending.TheVariants as endings
 use Rattle.vdcp_operator.specs.declared.seen.EventBefore.{EventBefore}
 use Rattle.vdcp_operator.specs.declared.seen.EventSeen.{EventSeen}
+use Rattle.vdcp_operator.specs.declared.seen.Reason.{Reason}
 use Rattle.vdcp_operator.specs.declared.seen.Record.{Record}
 use Rattle.vdcp_operator.specs.declared.seen.Record.TheVariants as records
 use Rattle.vdcp_operator.specs.declared.shown.Known.{Known}
@@ -101,6 +102,10 @@ abbrev pub said_until : Option EventBefore → Option ℕ
 said_until None = None
 said_until (Some said) = said.until
 
+abbrev pub said_why : Option EventBefore → Option Reason
+said_why None = None
+said_why (Some said) = said.why
+
 -- when it began, when it ended, and how: what an older look saw goes first
 abbrev pub known_of : Option EventSeen → Option EventBefore → Known
 known_of (Some older) said = record {
@@ -115,6 +120,7 @@ row_by news said known k item = record {
   number = k;
   item = item;
   kept = option_map (λ b. b.kept) said;
+  why = said_why said;
   at = option_or known.at (at_in news said k);
   until = until_in news known.until (ending_after known.ending (ending_in news k));
   ending = ending_after known.ending (ending_in news k);

@@ -1,5 +1,5 @@
 -- What the page of a run shows.
-use Rattle.std.specs.Prelude.{ℕ, ◌≡◌, ◌≤◌, ◌+◌, ◌-◌, ◌^◌, Bool, All, min, List, [], ◌∷◌, codes, drop, is_some, length, map, not, string_bytes, take, Option, None, Some, if◌then◌else◌}
+use Rattle.std.specs.Prelude.{ℕ, ◌≡◌, ◌≤◌, ◌+◌, ◌-◌, ◌^◌, Bool, true, false, All, min, List, [], ◌∷◌, codes, drop, is_some, length, map, not, string_bytes, take, Option, None, Some, if◌then◌else◌}
 use Rattle.std.specs.Option.{option_flatten}
 use Rattle.serde_json.specs.Data.{Data, array, boolean, member, no_members, null, number, object, string, unsigned}
 use Rattle.serde_json.specs.View.{items_of}
@@ -20,6 +20,8 @@ use Rattle.vdcp_operator.specs.declared.seen.Ending.{Ending}
 use Rattle.vdcp_operator.specs.declared.seen.Ending.TheVariants as endings
 use Rattle.vdcp_operator.specs.declared.seen.EventSeen.{EventSeen}
 use Rattle.vdcp_operator.specs.declared.seen.HandSeen.{HandSeen}
+use Rattle.vdcp_operator.specs.declared.seen.Reason.{Reason}
+use Rattle.vdcp_operator.specs.declared.seen.Reason.TheVariants as reasons
 use Rattle.vdcp_operator.specs.declared.seen.Record.{Record}
 use Rattle.vdcp_operator.specs.declared.seen.Record.TheVariants as records
 use Rattle.vdcp_operator.specs.declared.seen.RunSeen.{RunSeen}
@@ -93,6 +95,22 @@ abbrev pub record_data : Option Record → Data
 record_data None = null
 record_data (Some r) = string (record_text r)
 
+abbrev pub reason_text : Reason → List ℕ
+reason_text reasons.Missing = codes "missing"
+reason_text reasons.Refused = codes "refused"
+reason_text reasons.Unsure = codes "unsure"
+reason_text reasons.ByHand = codes "by hand"
+
+abbrev pub reason_data : Option Reason → Data
+reason_data None = null
+reason_data (Some why) = string (reason_text why)
+
+-- what is left out now is so by hand, unless the journal says otherwise
+abbrev pub why_of : (is_out : Bool) → Option Reason → Option Reason
+why_of is_out (Some why) = Some why
+why_of true None = Some reasons.ByHand
+why_of false None = None
+
 abbrev pub row_with : (item : List ℕ) → (length : Option ℕ) → (is_out can_skip : Bool) → EventSeen → Data
 row_with item length is_out can_skip e =
     object (member (codes "at") (number_data e.at)
@@ -103,7 +121,8 @@ row_with item length is_out can_skip e =
     (member (codes "number") (number (unsigned e.number))
     (member (codes "out") (boolean is_out)
     (member (codes "skip") (boolean can_skip)
-    (member (codes "until") (number_data e.until) no_members)))))))))
+    (member (codes "until") (number_data e.until)
+    (member (codes "why") (reason_data (why_of is_out e.why)) no_members))))))))))
 
 unfoldable pub can_skip : LeftOut → Ahead → ℕ → Bool
 can_skip left ahead event = not (is_some (skip_fault_at left ahead event))
@@ -113,10 +132,17 @@ abbrev pub row_data : Rate → Option (List (ClipId × Timecode)) → LeftOut �
 row_data rate clips left ahead e =
     row_with (item_text rate e.item) (length_by clips e.item) (is_left_out left e.number) (can_skip left ahead e.number) e
 
+-- the last alarm, and how many there were
+abbrev pub alarm_data : RunSeen → Data
+alarm_data v =
+    object (member (codes "count") (number (unsigned v.alarms))
+    (member (codes "words") (string v.alarm.now) no_members))
+
 -- what stays of a run, and how its line is
 abbrev pub run_data : RunSeen → Data
 run_data v =
-    object (member (codes "channel") (string (string_bytes v.names.now.channel))
+    object (member (codes "alarm") (alarm_data v)
+    (member (codes "channel") (string (string_bytes v.names.now.channel))
     (member (codes "commands") (number (unsigned v.hand.commands))
     (member (codes "down") (number_data v.down)
     (member (codes "from") (number (unsigned v.from))
@@ -127,7 +153,7 @@ run_data v =
     (member (codes "rate") (number (unsigned (frames_per_second v.rate)))
     (member (codes "server") (string (string_bytes v.names.now.server))
     (member (codes "stays") (boolean v.hand.left_out.now.stays)
-    (member (codes "unanswered") (number (unsigned v.snapshot.unanswered)) no_members))))))))))))
+    (member (codes "unanswered") (number (unsigned v.snapshot.unanswered)) no_members)))))))))))))
 
 abbrev pub seen_data : RunSeen → Data
 seen_data v =
@@ -189,6 +215,8 @@ pub record IsSeen {S : Type 0} (items : S → List Item) (c : View (FromEvent S)
   pub hand_is : view.hand ≡ hand
   pub ahead : view.ahead ≡ ahead_of items c
   pub down : view.down ≡ page.down
+  pub alarm : view.alarm.now ≡ page.alarm.bytes
+  pub alarms : view.alarms ≡ page.alarms
 
 -- the page keeps what was seen, for the next look
 pub record Keeps (page : RunPage) (view : RunSeen) (page' : RunPage) : Type 0 where

@@ -1,6 +1,5 @@
 -- What the lines say that are typed.
 use Rattle.std.specs.Prelude.{ℕ, ◌≡◌, ◌-◌, ⊤, Option, None, Some, List, [], ◌∷◌, ◌++◌, bytes_eq, codes, drop, length, nat_eq, take, if◌then◌else◌}
-use Rattle.vdcp_drive.specs.declared.hooks.Call.TheVariants.{Take, Stop}
 use Rattle.vdcp_operator.specs.declared.typed.Got.{Got}
 use Rattle.vdcp_operator.specs.declared.typed.Got.TheVariants as got
 use Rattle.vdcp_operator.specs.declared.typed.Said.{Said}
@@ -21,8 +20,8 @@ said_of saying (Some event) = saying event
 -- a word, or one with the number of an event
 abbrev pub said_by_words : List ℕ → Said
 said_by_words words =
-    if bytes_eq words (codes "take") then said.Call Take
-    else if bytes_eq words (codes "stop") then said.Call Stop
+    if bytes_eq words (codes "take") then said.Take
+    else if bytes_eq words (codes "stop") then said.Stop
     else if bytes_eq words (codes "hold") then said.Hold
     else if bytes_eq words (codes "go") then said.Go
     else if bytes_eq (take 5 words) (codes "skip ") then said_of said.Skip (number_in (drop 5 words))

@@ -3,18 +3,18 @@ ghost use Rattle.std.specs.Prelude.{◌≡◌, ◌-◌, length};
 ghost use Rattle.vdcp_auto.specs.Bounds.{IsPhaseOf};
 ghost use Rattle.vdcp_operator.specs.LeftOut.{ahead_of, cued_as, cued_in, first_ahead, first_unasked, unasked_behind};
 
-use crate::left_out::Stretch;
+use crate::left_out::Span;
 use vdcp_auto::{Controller, Mode, Phase, Source, Standing};
 use vdcp_list::Rest;
 
 /// What can still be left out of a list. Events have their numbers in the whole list.
 #[derive(Clone, Copy, Debug, PartialEq, Eq)]
 pub struct Ahead {
-    pub events: Stretch,
+    pub events: Span,
     pub cued: Cued,
 }
 
-/// Whether an event may be cued that hasn't aired.
+/// What the port may hold cued that hasn't aired.
 #[derive(Clone, Copy, Debug, PartialEq, Eq)]
 pub enum Cued {
     Nothing,
@@ -31,7 +31,7 @@ pub fn ahead_of<S: Source>(controller: &Controller<Rest<S>>) -> Ahead
     let mode = controller.snapshot().mode;
     let (cued, unasked) = (cued_in(controller), first_unasked(controller));
     Ahead {
-        events: Stretch {
+        events: Span {
             first: first_ahead(mode, cued, unasked),
             end: controller.source().whole().len(),
         },

@@ -1,28 +1,34 @@
 //! The operator's part in a run: calls are taken, and commands wait.
+ghost use Rattle.arrayvec.specs.ArrayString.{ArrayString};
 ghost use Rattle.std.specs.Duration.{as_nanos};
 ghost use Rattle.std.specs.Option.{unwrap_or};
-ghost use Rattle.std.specs.Prelude.{◌≡◌, ◌≢◌, ◌↔◌, ◌*◌, ◌+◌, ◌≤◌, min, IsSome, IsTrue, [], None, Option, Some, false, true, is_some, option_map, ℕ};
+ghost use Rattle.std.specs.Prelude.{◌≡◌, ◌↔◌, ◌*◌, ◌+◌, ◌-◌, ◌^◌, ◌≤◌, min, IfSome, IsFalse, IsSome, IsTrue, [], List, None, Option, Some, drop, false, true, is_some, option_map, ℕ};
 ghost use Rattle.vdcp_auto.specs.Plan.{plan_of};
-ghost use Rattle.vdcp_auto.specs.Turn.{given};
-ghost use Rattle.vdcp_drive.specs.declared.hooks.Call.{Call};
+ghost use Rattle.vdcp_auto.specs.Turn.{awaited, given};
 ghost use Rattle.vdcp_list.specs.Rests.{items_left};
-ghost use Rattle.vdcp_operator.specs.Hands.{Asks, AwaitsLead, GoesOn, HasCome, IsNext, IsOver, IsSaid, PageCalls, TypedSays, as_said, called_by, holds_after, holds_play, is_lifted, latest, millis_of, until_for};
-ghost use Rattle.vdcp_operator.specs.LeftOut.{IsNextKept, LeavesOutAhead, Obeys, ahead_of};
+ghost use Rattle.vdcp_operator.specs.Hands.{Asks, AwaitsLead, HasCome, Heeds, IsOver, IsSaid, PageCalls, TypedSays, as_said, asks_state, ender_while, ends_by, given_now, holds_back, millis_of, start_after, until_for};
+ghost use Rattle.vdcp_operator.specs.LeftOut.{IsNextKept, LeavesOutAhead, ahead_of};
+ghost use Rattle.vdcp_operator.specs.OnList.{list_after, list_by, list_called, sparing_each};
 ghost use Rattle.vdcp_operator.specs.Polls.{Paces};
+ghost use Rattle.vdcp_operator.specs.Waiting.{first_call, first_held, givable, held_after, is_called, will_hold};
+ghost use Rattle.vdcp_operator.specs.declared.hand.Ender.{Ender};
 ghost use Rattle.vdcp_operator.specs.declared.hand.Until.{Until};
 ghost use Rattle.vdcp_operator.specs.declared.shown.RunPage.{RunPage};
 ghost use Rattle.vdcp_words.specs.declared.command.Command.{Command};
 
 use crate::ahead::{Ahead, ahead_of};
-use crate::left_out::LeftOut;
+use crate::left_out::CallFault;
+use crate::on_list::OnList;
 use crate::polling::Polling;
 use crate::seen::{EventBefore, HandSeen};
 use crate::shown::RunPage;
 use crate::typed::{Said, Typed};
+use crate::waiting::{Waiting, call_at, first_held, is_called, will_hold};
+use std::fmt;
 use std::io::{Read, Write};
 use std::rt::Clock;
 use std::time::Duration;
-use vdcp_auto::{Controller, Outcome, Phase, Source, Standing};
+use vdcp_auto::{Controller, ListCall, Outcome, Phase, Source, Standing};
 use vdcp_drive::Call;
 use vdcp_list::Rest;
 use vdcp_panel as panel;
@@ -34,6 +40,12 @@ const PIECE: u64 = 20_000_000;
 
 // How long before the start the first command goes out, in milliseconds: the cue takes some time.
 const LEAD: u64 = 2_000;
+
+const HELD: &'static str = "holding: nothing new goes to air until go";
+
+// Nobody can say so.
+const HELD_ALONE: &'static str =
+    "holding: nothing new goes to air until go: begin it with --operator or --panel";
 
 // How many pieces of time the page is still shown after the run's end, so that a browser sees it.
 const LINGER: u64 = 50;
@@ -53,11 +65,8 @@ pub struct Hand<'a, R: Clock, I: Read, E: Write> {
     slept: Stopwatch<&'a R>,
     polling: Polling<'a, R>,
     commands: u64,
-    // Whether nothing new goes to air after what plays.
-    holds: bool,
-    left_out: LeftOut,
-    /// A call that was made before the driver asked for it.
-    pub held: Option<Call>,
+    list: OnList,
+    waiting: Waiting,
 }
 
 /// Until when calls are asked for.
@@ -67,10 +76,15 @@ enum Until {
     Time(Duration),
     /// The state may be asked again.
     Poll,
-    /// The same, or nothing is held back any more.
-    PollOrGo,
     /// They are asked for once.
     Now,
+}
+
+/// Which calls that wait end the asking for more.
+#[derive(Clone, Copy)]
+pub enum Ender {
+    Each,
+    TakeOrStop,
 }
 
 impl<'a, R: Clock, I: Read + Drop, E: Write> Hand<'a, R, I, E> {
@@ -88,12 +102,12 @@ impl<'a, R: Clock, I: Read + Drop, E: Write> Hand<'a, R, I, E> {
         ensures page { result.page ≡ page }
         ensures start { result.start ≡ start }
         ensures typed { IsSome result.typed ↔ IsSome typed }
-        ensures held { result.held ≡ None }
+        ensures waiting { result.waiting.items ≡ [] }
         ensures least { result.polling.least ≡ poll * 1000000 }
         ensures due { result.polling.due ≡ 0 }
-        ensures holds { result.holds ≡ false }
-        ensures stays { result.left_out.stays ≡ stays }
-        ensures none { result.left_out.stretches.items ≡ [] }
+        ensures holds { result.list.holds ≡ false }
+        ensures stays { result.list.left_out.stays ≡ stays }
+        ensures none { result.list.left_out.spans.items ≡ [] }
     {
         Hand {
             clock,
@@ -108,9 +122,22 @@ impl<'a, R: Clock, I: Read + Drop, E: Write> Hand<'a, R, I, E> {
             slept: Stopwatch::new(clock),
             polling: Polling::new(clock, poll),
             commands: 0,
-            holds: false,
-            left_out: LeftOut::new(stays),
-            held: None,
+            list: OnList::new(stays),
+            waiting: Waiting::new(),
+        }
+    }
+
+    /// Heeds calls that a journal has, but leaves out no event that is wanted all the same. If the list is held by them it is
+    /// told, and an alarm.
+    pub fn set_list_calls(&mut self, calls: &[ListCall], wanted: Option<usize>)
+        ensures list { self.new.list ≡ list_by (sparing_each wanted calls.now) self.old.list }
+        ensures rest { self.new ≡ record self.old { told = self.new.told; page = self.new.page; list = self.new.list } }
+    {
+        let held = self.list.holds;
+        self.list.heed_all(calls, wanted);
+        if self.list.holds && !held {
+            self.tell_held();
+            self.set_alarm(&HELD);
         }
     }
 
@@ -120,24 +147,46 @@ impl<'a, R: Clock, I: Read + Drop, E: Write> Hand<'a, R, I, E> {
         self.start.is_some()
     }
 
-    /// The first event from this one on that isn't left out, by their numbers in the whole list. After `heed` and `call`
-    /// it may be another one than before.
+    /// The first event from this one on that isn't left out, by their numbers in the whole list. After `heed_call` it may be
+    /// another one than before.
     pub fn next_kept(&self, event: usize) -> usize
-        ensures { IsNextKept self.now.left_out event result }
+        ensures { IsNextKept self.now.list.left_out event result }
     {
-        self.left_out.next_kept(event)
+        self.list.left_out.next_kept(event)
     }
 
-    /// Whether the next command is a PLAY that is held back: the operator holds, and wants neither to take nor to stop. It
-    /// isn't to be sent, though `call` gives None.
-    pub fn holds_play<S: Source>(&self, controller: &Controller<Rest<S>>) -> bool
-        ensures { result ≡ holds_play self.now.holds controller.now.state }
+    /// Whether the next event is cued and held back: the operator holds, and wants neither to take nor to stop. No command is
+    /// to be sent, though `call` gives None.
+    pub fn holds_back<S: Source>(&self, controller: &Controller<Rest<S>>) -> bool
+        ensures { result ≡ holds_back self.now.list.holds controller.now.state }
     {
         let snapshot = controller.snapshot();
         match snapshot.standing {
-            Standing::Ready(Phase::Play(_)) => self.holds && !snapshot.take && !snapshot.stop,
+            Standing::Ready(Phase::Wait(_) | Phase::Play(_)) => {
+                self.list.holds && !snapshot.take && !snapshot.stop
+            }
             _ => false,
         }
+    }
+
+    pub fn holds(&self) -> bool
+        ensures { result ≡ self.now.list.holds }
+    {
+        self.list.holds
+    }
+
+    /// The first call that was said and isn't kept yet. Stop goes before all others.
+    pub fn held(&self) -> Option<Said>
+        ensures { result ≡ first_held self.now.waiting.items }
+    {
+        first_held(&self.waiting)
+    }
+
+    /// Whether one of those that wait is take or stop.
+    pub fn is_called(&self) -> bool
+        ensures { result ≡ is_called self.now.waiting.items }
+    {
+        is_called(self.waiting.as_slice())
     }
 
     pub fn set_before(&mut self, before: Vec<EventBefore>)
@@ -168,67 +217,83 @@ impl<'a, R: Clock, I: Read + Drop, E: Write> Hand<'a, R, I, E> {
         }
     }
 
-    /// Waits until two seconds before the start, if one is set, or until a call, which it holds.
+    /// The page shows this alarm from now on, its first 256 bytes at most.
+    pub fn set_alarm<T: fmt::Display>(&mut self, words: &T)
+        ensures { (alarm : ArrayString) × (self.new ≡ record self.old {
+          page = option_map (λ (page : RunPage). record page { alarm = alarm; alarms = min (page.alarms + 1) (2 ^ 64 - 1) }) self.old.page;
+        }) }
+    {
+        if let Some(page) = &mut self.page {
+            page.set_alarm(words);
+        }
+    }
+
+    /// Waits until two seconds before the start, if one is set, or until take or stop. Other calls wait, too.
     pub fn await_lead<S: Source>(&mut self, controller: &Controller<Rest<S>>)
-        ensures asks { self.old.held ≡ None →
-            Asks S.items I.remaining controller.now self.old.holds self.old.page self.old.typed self.new.held self.new.holds self.new.page self.new.typed }
-        ensures holds { (call : Call) → self.old.held ≡ Some call → self.new ≡ self.old }
-        ensures leaves { LeavesOutAhead (ahead_of S.items controller.now) self.old.left_out self.new.left_out }
+        ensures asks { Asks (ends_by Ender.TakeOrStop) S.items I.remaining controller.now self.old.list self.old.waiting.items
+            self.old.page self.old.typed self.new.waiting.items self.new.page self.new.typed }
+        ensures list { self.new.list ≡ self.old.list }
     {
-        let Some(until) = lead_until(self.start, self.held) else {
+        if let Some(until) = lead_until(self.start) {
+            self.ask_until(controller, until, Ender::TakeOrStop);
+        }
+    }
+
+    /// Waits until the next command may go out, if it is a STATUS, held back or not; or until such a call. All calls wait.
+    pub fn await_poll<S: Source>(&mut self, controller: &Controller<Rest<S>>, ender: Ender)
+        ensures asks { Asks (ends_by ender) S.items I.remaining controller.now self.old.list self.old.waiting.items
+            self.old.page self.old.typed self.new.waiting.items self.new.page self.new.typed }
+        ensures list { self.new.list ≡ self.old.list }
+        ensures paces { ends_by ender self.new.waiting.items ≡ false →
+            Paces (given (plan_of (items_left S.items) controller.now) controller.now.state) self.old.polling self.new.polling }
+    {
+        let command = controller.to_send();
+        self.ask_until(controller, until_for(false, command, None), ender);
+        if self.ends(ender) {
             return;
-        };
-        self.held = self.ask_until(controller, until);
+        }
+        self.note_sent(command);
     }
 
-    /// Unless stop is held, answers requests for the page and holds the next call, if there is one. Gives what is held.
-    pub fn heed<S: Source>(&mut self, controller: &Controller<Rest<S>>) -> Option<Call>
-        ensures held { result ≡ self.new.held }
-        ensures stop { self.old.held ≡ Some Call.Stop → self.new ≡ self.old }
-        ensures asks { self.old.held ≢ Some Call.Stop → (said : Option Call)
-            × IsNext S.items I.remaining controller.now self.old.holds self.old.page self.old.typed said self.new.holds self.new.page self.new.typed
-            × (self.new.held ≡ latest said self.old.held) }
-        ensures leaves { LeavesOutAhead (ahead_of S.items controller.now) self.old.left_out self.new.left_out }
+    /// Answers requests for the page, and lets the next call wait that is said, if there is one. Gives the first that waits.
+    pub fn heed<S: Source>(&mut self, controller: &Controller<Rest<S>>) -> Option<Said>
+        ensures held { result ≡ first_held self.new.waiting.items }
+        ensures heeds { Heeds S.items I.remaining controller.now self.old.list self.old.waiting.items self.old.page self.old.typed
+            self.new.waiting.items self.new.page self.new.typed }
+        ensures rest { self.new ≡ record self.old { told = self.new.told; page = self.new.page; typed = self.new.typed; waiting = self.new.waiting } }
     {
-        if let Some(Call::Stop) = self.held {
-            return self.held;
-        }
-        match self.next(controller) {
-            Some(call) => {
-                self.held = Some(call);
-                Some(call)
-            }
-            None => self.held,
-        }
+        let said = self.look(controller);
+        self.tell_waiting(said);
+        self.held()
     }
 
-    /// Waits until the next command may go out, and answers requests for the page meanwhile. A call that is held or made
-    /// ends the wait, and is given: what it comes to waits for nothing, not even for the start. `go` ends the wait of a
-    /// STATUS. A PLAY that is held back waits for the start at most, and isn't counted (`holds_play`).
+    /// Waits until the next command may go out, and answers requests for the page meanwhile. A call that waits or is said
+    /// ends this, and is given, one on the list once no state is awaited: take and stop wait for nothing, not even for the
+    /// start. It is given until `heed_call`; what can't be obeyed any more is told, and dropped. What is held back isn't waited
+    /// for, nor counted (`holds_back`).
     pub fn call<S: Source>(&mut self, controller: &Controller<Rest<S>>) -> Option<Call>
-        ensures held { (call : Call) → self.old.held ≡ Some call →
-            (result ≡ Some call) × (self.new.page ≡ self.old.page) × (self.new.typed ≡ self.old.typed) × (self.new.holds ≡ self.old.holds) }
-        ensures asks { self.old.held ≡ None →
-            Asks S.items I.remaining controller.now self.old.holds self.old.page self.old.typed result self.new.holds self.new.page self.new.typed }
-        ensures once { self.new.held ≡ None }
-        ensures unattended { self.old.held ≡ None → self.old.page ≡ None → self.old.typed ≡ None →
-            (result ≡ None) × (self.new.holds ≡ self.old.holds) × (self.new.page ≡ None) × (self.new.typed ≡ None) }
-        ensures start { IsSome result → self.new.start ≡ None }
+        ensures asks { Asks (ends_by (ender_while (asks_state (awaited (plan_of (items_left S.items) controller.now) controller.now.state)))) S.items I.remaining controller.now self.old.list
+            (givable self.old.list.left_out (ahead_of S.items controller.now) self.old.waiting.items)
+            self.old.page self.old.typed self.new.waiting.items self.new.page self.new.typed }
+        ensures gives { result ≡ given_now (asks_state (awaited (plan_of (items_left S.items) controller.now) controller.now.state))
+            (first_call self.old.list.left_out (ahead_of S.items controller.now) self.new.waiting.items) }
+        ensures list { self.new.list ≡ self.old.list }
+        ensures leaves { IfSome result (λ call. LeavesOutAhead (ahead_of S.items controller.now) self.old.list.left_out (list_called call self.old.list).left_out) }
+        ensures unattended { self.old.waiting.items ≡ [] → self.old.page ≡ None → self.old.typed ≡ None →
+            (result ≡ None) × (self.new.page ≡ None) × (self.new.typed ≡ None) }
+        ensures start { IfSome result (λ call. self.new.start ≡ start_after call self.old.start) }
         ensures starts { (start : Duration) → result ≡ None → self.old.start ≡ Some start →
             given (plan_of (items_left S.items) controller.now) controller.now.state ≡ Some Command.Play →
-            HasCome start self.new.time }
+            holds_back self.old.list.holds controller.now.state ≡ false → HasCome start self.new.time }
         ensures sent { result ≡ None →
             given (plan_of (items_left S.items) controller.now) controller.now.state ≡ Some Command.Play →
-            holds_play self.new.holds controller.now.state ≡ false → self.new.start ≡ None }
-        ensures unsent { result ≡ None → holds_play self.new.holds controller.now.state ≡ true →
-            (self.new.start ≡ self.old.start) × (self.new.commands ≡ self.old.commands) }
-        ensures paces { result ≡ None → is_lifted self.old.holds self.new.holds ≡ false →
+            holds_back self.old.list.holds controller.now.state ≡ false → self.new.start ≡ None }
+        ensures unsent { result ≡ None → holds_back self.old.list.holds controller.now.state ≡ true →
+            (self.new.start ≡ self.old.start) × (self.new.commands ≡ self.old.commands) × Paces None self.old.polling self.new.polling }
+        ensures paces { result ≡ None → holds_back self.old.list.holds controller.now.state ≡ false →
             Paces (given (plan_of (items_left S.items) controller.now) controller.now.state) self.old.polling self.new.polling }
-        ensures goes { result ≡ None → is_lifted self.old.holds self.new.holds ≡ true →
-            GoesOn (given (plan_of (items_left S.items) controller.now) controller.now.state) self.old.polling self.new.polling }
         ensures hurries { IsSome result → self.new.polling.due ≡ 0 }
         ensures least { self.new.polling.least ≡ self.old.polling.least }
-        ensures leaves { LeavesOutAhead (ahead_of S.items controller.now) self.old.left_out self.new.left_out }
     {
         if self.is_alone() {
             // (where no STATUS has to wait the command isn't looked up)
@@ -237,23 +302,45 @@ impl<'a, R: Clock, I: Read + Drop, E: Write> Hand<'a, R, I, E> {
             }
             return None;
         }
-        if let Some(call) = self.held.take() {
-            self.note_call();
+        let (ahead, awaiting) = (ahead_of(controller), awaits_state(controller));
+        if let Some(call) = self.first_call(ahead, awaiting) {
             return Some(call);
         }
-        let (command, held) = (controller.to_send(), self.holds);
-        if let Some(call) = self.ask_until(controller, until_for(command, self.start, held)) {
-            self.note_call();
+        let (command, is_held) = (controller.to_send(), self.holds_back(controller));
+        let until = until_for(is_held, command, self.start);
+        self.ask_until(controller, until, ender_while(awaiting));
+        if let Some(call) = self.first_call(ahead, awaiting) {
             return Some(call);
         }
-        if self.holds_play(controller) {
+        if is_held {
             return None;
-        }
-        if held && !self.holds {
-            self.polling.hurry();
         }
         self.note_sent(command);
         None
+    }
+
+    /// A call is kept: it is the first that waits, and waits no more. What it says of the list is done, and told.
+    pub fn heed_call(&mut self, call: Call)
+        ensures waiting { self.new.waiting.items ≡ drop 1 self.old.waiting.items }
+        ensures list { self.new.list ≡ list_called call self.old.list }
+        ensures rest { self.new ≡ record self.old { told = self.new.told; list = self.new.list; waiting = self.new.waiting } }
+    {
+        let _ = self.waiting.pop_at(0);
+        let Call::List(call) = call else {
+            return;
+        };
+        if !self.list.heed(call) {
+            self.tell(&CallFault::Full);
+            return;
+        }
+        match call {
+            ListCall::Hold => self.tell_held(),
+            ListCall::Go => self.tell(&"going on"),
+            ListCall::Skip { first, end } if first.saturating_add(1) == end => {
+                self.tell(&format_args!("event {first} is left out"))
+            }
+            ListCall::Skip { end, .. } => self.tell(&format_args!("going on with event {end}")),
+        }
     }
 
     /// Shows for a second how the run ended.
@@ -268,8 +355,8 @@ impl<'a, R: Clock, I: Read + Drop, E: Write> Hand<'a, R, I, E> {
         let seen = HandSeen {
             commands: self.commands,
             start: None,
-            holds: self.holds,
-            left_out: &self.left_out,
+            holds: self.list.holds,
+            left_out: &self.list.left_out,
         };
         for _ in 0..LINGER {
             page.show(self.clock, controller, Some(outcome), seen);
@@ -278,59 +365,69 @@ impl<'a, R: Clock, I: Read + Drop, E: Write> Hand<'a, R, I, E> {
     }
 
     fn is_alone(&self) -> bool
-        ensures held { IsTrue result → self.now.held ≡ None }
+        ensures waiting { IsTrue result → self.now.waiting.items ≡ [] }
         ensures page { IsTrue result → self.now.page ≡ None }
         ensures typed { IsTrue result → self.now.typed ≡ None }
         ensures start { IsTrue result → self.now.start ≡ None }
-        ensures holds { IsTrue result → self.now.holds ≡ false }
+        ensures holds { IsTrue result → self.now.list.holds ≡ false }
     {
-        let nobody_calls = self.held.is_none() && self.page.is_none() && self.typed.is_none();
-        nobody_calls && self.start.is_none() && !self.holds
+        let nobody_calls = self.waiting.is_empty() && self.page.is_none() && self.typed.is_none();
+        nobody_calls && self.start.is_none() && !self.list.holds
     }
 
-    fn ask_until<S: Source>(
-        &mut self,
-        controller: &Controller<Rest<S>>,
-        until: Until,
-    ) -> Option<Call>
-        ensures asks { Asks S.items I.remaining controller.now self.old.holds self.old.page self.old.typed result self.new.holds self.new.page self.new.typed }
-        ensures held { self.new.held ≡ self.old.held }
+    fn ask_until<S: Source>(&mut self, controller: &Controller<Rest<S>>, until: Until, ender: Ender)
+        ensures asks { Asks (ends_by ender) S.items I.remaining controller.now self.old.list self.old.waiting.items
+            self.old.page self.old.typed self.new.waiting.items self.new.page self.new.typed }
+        ensures list { self.new.list ≡ self.old.list }
         ensures start { self.new.start ≡ self.old.start }
         ensures commands { self.new.commands ≡ self.old.commands }
         ensures paces { Paces None self.old.polling self.new.polling }
-        ensures leaves { LeavesOutAhead (ahead_of S.items controller.now) self.old.left_out self.new.left_out }
-        ensures waited { (time : Duration) → until ≡ Until.Time time → result ≡ None → HasCome time self.new.time }
+        ensures waited { (time : Duration) → until ≡ Until.Time time → ends_by ender self.new.waiting.items ≡ false → HasCome time self.new.time }
     {
+        if self.ends(ender) {
+            return;
+        }
         'asks: for _ in 0..u64::MAX {
-            match self.next(controller) {
-                Some(call) => return Some(call),
-                None => {}
+            let said = self.look(controller);
+            if self.ends(ender) {
+                return;
             }
             if self.wait_piece(until) {
-                return None;
+                return;
             }
+            self.tell_waiting(said);
         }
         // (a clock that stands still for so long shows no time)
         self.time = None;
-        None
     }
 
-    fn next<S: Source>(&mut self, controller: &Controller<Rest<S>>) -> Option<Call>
-        ensures next { IsNext S.items I.remaining controller.now self.old.holds self.old.page self.old.typed result self.new.holds self.new.page self.new.typed }
-        ensures held { self.new.held ≡ self.old.held }
-        ensures start { self.new.start ≡ self.old.start }
-        ensures commands { self.new.commands ≡ self.old.commands }
-        ensures polling { self.new.polling ≡ self.old.polling }
-        ensures leaves { LeavesOutAhead (ahead_of S.items controller.now) self.old.left_out self.new.left_out }
+    fn ends(&self, ender: Ender) -> bool
+        ensures { result ≡ ends_by ender self.now.waiting.items }
     {
-        match self.next_said(controller) {
-            Some(said) => self.obey(said, ahead_of(controller)),
-            None => None,
+        match ender {
+            Ender::Each => !self.waiting.is_empty(),
+            Ender::TakeOrStop => self.is_called(),
+        }
+    }
+
+    // Gives what is said, if it waits now.
+    fn look<S: Source>(&mut self, controller: &Controller<Rest<S>>) -> Option<Said>
+        ensures heeds { Heeds S.items I.remaining controller.now self.old.list self.old.waiting.items self.old.page self.old.typed
+            self.new.waiting.items self.new.page self.new.typed }
+        ensures rest { self.new ≡ record self.old { told = self.new.told; page = self.new.page; typed = self.new.typed; waiting = self.new.waiting } }
+    {
+        let said = self.next_said(controller)?;
+        match self.hold(said, ahead_of(controller)) {
+            Ok(()) => Some(said),
+            Err(fault) => {
+                self.tell(&fault);
+                None
+            }
         }
     }
 
     fn next_said<S: Source>(&mut self, controller: &Controller<Rest<S>>) -> Option<Said>
-        ensures said { IsSaid S.items I.remaining controller.now self.old.holds self.old.page self.old.typed result self.new.page self.new.typed }
+        ensures said { IsSaid S.items I.remaining controller.now self.old.list self.old.waiting.items self.old.page self.old.typed result self.new.page self.new.typed }
         ensures rest { self.new ≡ record self.old { page = self.new.page; typed = self.new.typed } }
     {
         match self.page_call(controller) {
@@ -340,7 +437,7 @@ impl<'a, R: Clock, I: Read + Drop, E: Write> Hand<'a, R, I, E> {
     }
 
     fn page_call<S: Source>(&mut self, controller: &Controller<Rest<S>>) -> Option<panel::Call>
-        ensures page { PageCalls S.items controller.now self.old.holds self.old.page result self.new.page }
+        ensures page { PageCalls S.items controller.now self.old.list self.old.waiting.items self.old.page result self.new.page }
         ensures rest { self.new ≡ record self.old { page = self.new.page } }
     {
         let start = millis_of(self.start);
@@ -350,8 +447,8 @@ impl<'a, R: Clock, I: Read + Drop, E: Write> Hand<'a, R, I, E> {
         let seen = HandSeen {
             commands: self.commands,
             start,
-            holds: self.holds,
-            left_out: &self.left_out,
+            holds: will_hold(self.waiting.as_slice(), self.list.holds),
+            left_out: &self.list.left_out,
         };
         page.show(self.clock, controller, None, seen);
         page.next_call()
@@ -367,49 +464,50 @@ impl<'a, R: Clock, I: Read + Drop, E: Write> Hand<'a, R, I, E> {
         typed.next()
     }
 
-    // Gives a call, or holds or goes on, or leaves out events, and tells so or why not.
-    fn obey(&mut self, said: Said, ahead: Ahead) -> Option<Call>
-        ensures call { result ≡ called_by (Some said) }
-        ensures holds { self.new.holds ≡ holds_after (Some said) self.old.holds }
-        ensures obeys { Obeys ahead said self.old.left_out self.new.left_out }
-        ensures rest { self.new ≡ record self.old { told = self.new.told; holds = self.new.holds; left_out = self.new.left_out } }
+    // A call that can be obeyed waits from now on: stop in place of all others.
+    fn hold(&mut self, said: Said, ahead: Ahead) -> Result<(), CallFault>
+        ensures waiting { self.new.waiting.items ≡ held_after self.old.list.left_out ahead (Some said) self.old.waiting.items }
+        ensures rest { self.new ≡ record self.old { waiting = self.new.waiting } }
     {
-        let _ = match said {
-            Said::Call(call) => return Some(call),
-            Said::Hold => {
-                self.holds = true;
-                writeln!(self.told, "vdcp: holding: nothing new goes to air until go")
+        let _ = call_at(&self.list.left_out, ahead, said)?;
+        if said == Said::Stop {
+            self.waiting.clear();
+        }
+        match self.waiting.try_push(said) {
+            Ok(()) => Ok(()),
+            Err(_) => Err(CallFault::Crowded),
+        }
+    }
+
+    // Gives the first call that waits and can still be obeyed; those before it are told, and dropped.
+    fn first_call(&mut self, ahead: Ahead, awaiting: bool) -> Option<Call>
+        ensures waiting { self.new.waiting.items ≡ givable self.old.list.left_out ahead self.old.waiting.items }
+        ensures gives { result ≡ given_now awaiting (first_call self.old.list.left_out ahead self.new.waiting.items) }
+        ensures start { IfSome result (λ call. self.new.start ≡ start_after call self.old.start) }
+        ensures hurries { IsSome result → self.new.polling ≡ record self.old.polling { due = 0 } }
+        ensures none { result ≡ None → (self.new.start ≡ self.old.start) × (self.new.polling ≡ self.old.polling) }
+        ensures rest { self.new ≡ record self.old { told = self.new.told; start = self.new.start; polling = self.new.polling; waiting = self.new.waiting } }
+    {
+        'refused: while let Some(said) = self.held() {
+            match call_at(&self.list.left_out, ahead, said) {
+                Ok(call) => return self.give(call, awaiting),
+                Err(fault) => {
+                    let _ = self.waiting.pop_at(0);
+                    self.tell(&fault);
+                }
             }
-            Said::Go => {
-                self.holds = false;
-                writeln!(self.told, "vdcp: going on")
-            }
-            Said::Skip(event) => match self.left_out.skip(event, ahead) {
-                Ok(()) => writeln!(self.told, "vdcp: event {event} is left out"),
-                Err(fault) => writeln!(self.told, "vdcp: {fault}"),
-            },
-            Said::Jump(event) => match self.left_out.jump(event, ahead) {
-                Ok(()) => writeln!(self.told, "vdcp: going on with event {event}"),
-                Err(fault) => writeln!(self.told, "vdcp: {fault}"),
-            },
-            Said::Other => writeln!(
-                self.told,
-                "vdcp: no call: take, stop, hold, go, skip EVENT, jump EVENT"
-            ),
-        };
-        let _ = self.told.flush();
+        }
         None
     }
 
     fn wait_piece(&mut self, until: Until) -> bool
-        ensures over { IsTrue result → IsOver until self.old.holds self.new.time self.old.polling.due self.new.polling.stopwatch.now }
+        ensures over { IsTrue result → IsOver until self.new.time self.old.polling.due self.new.polling.stopwatch.now }
         ensures paces { Paces None self.old.polling self.new.polling }
         ensures rest { self.new ≡ record self.old { time = self.new.time; slept = self.new.slept; polling = self.new.polling } }
     {
         match until {
             Until::Time(time) => self.wait_for(time),
             Until::Poll => self.polling.wait_piece(PIECE),
-            Until::PollOrGo => !self.holds || self.polling.wait_piece(PIECE),
             Until::Now => true,
         }
     }
@@ -432,11 +530,19 @@ impl<'a, R: Clock, I: Read + Drop, E: Write> Hand<'a, R, I, E> {
         false
     }
 
-    fn note_call(&mut self)
-        ensures { self.new ≡ record self.old { start = None; polling = record self.old.polling { due = 0 } } }
+    fn give(&mut self, call: Call, awaiting: bool) -> Option<Call>
+        ensures gives { result ≡ given_now awaiting (Some call) }
+        ensures some { IsSome result → self.new ≡ record self.old { start = start_after call self.old.start; polling = record self.old.polling { due = 0 } } }
+        ensures none { result ≡ None → self.new ≡ self.old }
+        ensures rest { self.new ≡ record self.old { start = self.new.start; polling = self.new.polling } }
     {
-        self.start = None;
+        match (call, awaiting) {
+            (Call::List(_), true) => return None,
+            (Call::List(_), false) => {}
+            (Call::Take | Call::Stop, _) => self.start = None,
+        }
         self.polling.hurry();
+        Some(call)
     }
 
     // A STATUS waits here until it may go out.
@@ -452,16 +558,59 @@ impl<'a, R: Clock, I: Read + Drop, E: Write> Hand<'a, R, I, E> {
             _ => {}
         }
     }
+
+    fn tell_waiting(&mut self, said: Option<Said>)
+        ensures { self.new ≡ record self.old { told = self.new.told } }
+    {
+        match said {
+            None | Some(Said::Stop) => {}
+            Some(said) => self.tell(&format_args!("waiting: {said}")),
+        }
+    }
+
+    fn tell_held(&mut self)
+        ensures { self.new ≡ record self.old { told = self.new.told } }
+    {
+        if self.typed.is_none() && self.page.is_none() {
+            self.tell(&HELD_ALONE);
+        } else {
+            self.tell(&HELD);
+        }
+    }
+
+    fn tell<T: fmt::Display>(&mut self, line: &T)
+        ensures { self.new ≡ record self.old { told = self.new.told } }
+    {
+        let _ = writeln!(self.told, "vdcp: {line}");
+        let _ = self.told.flush();
+    }
 }
 
-fn until_for(command: Option<Command>, start: Option<Duration>, holds: bool) -> Until
-    ensures { result ≡ until_for command start holds }
+fn until_for(is_held: bool, command: Option<Command>, start: Option<Duration>) -> Until
+    ensures { result ≡ until_for is_held command start }
 {
-    match (command, start) {
-        (Some(Command::Play), Some(start)) => Until::Time(start),
-        (Some(Command::Status(_)), _) if holds => Until::PollOrGo,
-        (Some(Command::Status(_)), _) => Until::Poll,
+    match (is_held, command, start) {
+        (false, Some(Command::Play), Some(start)) => Until::Time(start),
+        (false, Some(Command::Status(_)), _) => Until::Poll,
         _ => Until::Now,
+    }
+}
+
+// While an answer is awaited a call on the list isn't given.
+// Behind its row no state is heard that was asked for before, and could announce a PLAY.
+fn awaits_state<S: Source>(controller: &Controller<Rest<S>>) -> bool
+    ensures { result ≡ asks_state (awaited (plan_of (items_left S.items) controller.now) controller.now.state) }
+{
+    matches!(controller.awaited(), Some(Command::Status(_)))
+}
+
+fn ender_while(awaiting: bool) -> Ender
+    ensures { result ≡ ender_while awaiting }
+{
+    if awaiting {
+        Ender::TakeOrStop
+    } else {
+        Ender::Each
     }
 }
 
@@ -474,12 +623,12 @@ fn piece_of(left: Duration) -> u64
     }
 }
 
-fn lead_until(start: Option<Duration>, held: Option<Call>) -> Option<Until>
-    ensures { AwaitsLead start held result }
+fn lead_until(start: Option<Duration>) -> Option<Until>
+    ensures { AwaitsLead start result }
 {
-    match (start, held) {
-        (Some(start), None) => Some(Until::Time(start.saturating_sub(Duration::from_millis(LEAD)))),
-        _ => None,
+    match start {
+        Some(start) => Some(Until::Time(start.saturating_sub(Duration::from_millis(LEAD)))),
+        None => None,
     }
 }
 
@@ -493,8 +642,8 @@ fn as_said(call: panel::Call) -> Said
     ensures { result ≡ as_said call }
 {
     match call {
-        panel::Call::Take => Said::Call(Call::Take),
-        panel::Call::Stop => Said::Call(Call::Stop),
+        panel::Call::Take => Said::Take,
+        panel::Call::Stop => Said::Stop,
         panel::Call::Hold => Said::Hold,
         panel::Call::Go => Said::Go,
         panel::Call::Skip(event) => Said::Skip(event),

@@ -39,7 +39,7 @@ tr.ready td { color: var(--cue); font-weight: 700; }
 <section class="wide" aria-labelledby="calls-title"><h2 id="calls-title">Calls</h2>
 <div class="calls"><button id="take" name="take" type="button" disabled>Take (T)</button><button id="stop" name="stop" type="button" disabled>Stop (S)</button><button id="hold" name="hold" type="button" disabled>Hold (H)</button><p id="told" role="status"></p></div></section>
 <section class="wide" aria-labelledby="line-title"><h2 id="line-title">Line</h2>
-<dl><div><dt>Server</dt><dd id="server"></dd></div><div><dt>Journal</dt><dd id="journal"></dd></div><div><dt>Controller</dt><dd id="stage"></dd></div><div><dt>Unanswered in a row</dt><dd id="unanswered"></dd></div><div><dt>Left of the list</dt><dd id="left"></dd></div></dl></section>
+<dl><div><dt>Server</dt><dd id="server"></dd></div><div><dt>Journal</dt><dd id="journal"></dd></div><div><dt>Controller</dt><dd id="stage"></dd></div><div><dt>Unanswered in a row</dt><dd id="unanswered"></dd></div><div><dt>Left of the list</dt><dd id="left"></dd></div><div><dt>Last alarm</dt><dd id="alarm"></dd></div></dl></section>
 <section class="wide" id="list" aria-labelledby="list-title"><h2 id="list-title">List</h2>
 <p id="count">no event yet</p>
 <div class="scroll" id="scroll" tabindex="0" role="region" aria-labelledby="list-title">
@@ -101,12 +101,12 @@ function ended(row) {
 
 // What is known of an event before the one that is next.
 function past(run, row) {
-  if (row.kept === 'left out' || row.kept === 'may have aired') return row.kept;
+  if (row.kept === 'left out' || row.kept === 'may have aired') return row.kept + (row.why === null ? '' : ': ' + row.why);
   return row.kept === null && row.number < run.from ? 'before this run' : ended(row);
 }
 
 function state(run, row) {
-  if (row.out) return ['left out', 'past'];
+  if (row.out && row.at === null && row.kept !== 'aired') return ['left out: ' + row.why, 'past'];
   if (row.number < run.event - 1 || row.number < run.from) return [past(run, row), 'past'];
   if (row.number === run.event - 1) return onAir(run) ? ['on air', 'air'] : [isOver(run) && !isWell(run) && row.until === null ? 'last seen' : ended(row), 'past'];
   if (row.number > run.event) return ['', ''];
@@ -211,6 +211,7 @@ function show(run) {
   put('journal', run.journal || 'none');
   put('stage', run.stage + (run.take ? ', to take' : '') + (run.stop ? ', to stop' : '') + (run.holding ? ', holding' : ''));
   put('unanswered', String(run.unanswered));
+  put('alarm', run.alarm.words || 'none');
   document.title = (run.channel === '' ? '' : run.channel + ' ') + (air ? '\u25B6 ' + air.item : isOver(run) ? 'ended' : 'off air') + ' \u00b7 ' + heading(run);
   document.body.classList.toggle('holding', run.holding);
   $('list').classList.toggle('stays', run.stays);

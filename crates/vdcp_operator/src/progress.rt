@@ -7,7 +7,7 @@ use std::time::{Duration, Instant};
 use vdcp_auto::{Controller, Heard, Phase, Source, Standing};
 use vdcp_list::Rest;
 use vdcp_log::write_at_once;
-use vdcp_value::ClipId;
+use vdcp_value::{ClipId, Item, Rate, Timecode};
 use vdcp_words::Command;
 
 // In milliseconds, if nothing changed.
@@ -21,13 +21,16 @@ const PATIENCE: u64 = 1_000;
 
 const ERASE: &'static str = "\r\x1b[K";
 
-/// A terminal's line: the item on air, by the answers, and for how long; the next event and the command sent; a long time
-/// without an answer, or without a line; how many events of the whole list are reported; the time so far. If nothing changes
-/// it is drawn ten times a second at most.
+/// A terminal's line: whether the list is held; the item on air, by the answers, and for how long; the next event and the
+/// command sent; a long time without an answer; how many events of the whole list are reported; the time so far. Without a
+/// line: for how long, and what was last on air. If nothing changes it is drawn ten times a second at most.
 #[derive(Drop)]
 pub struct Progress<'a, R: Clock, V: io::Write> {
     clock: &'a R,
     patience: Duration,
+    // By it the lengths of parts are known.
+    rate: Option<Rate>,
+    holds: bool,
     // None once it or the clock has failed, or the line is cleared.
     terminal: Option<V>,
     work: Work,
@@ -46,8 +49,8 @@ enum Work {
     /// The port is asked whether it is empty.
     Questions,
     List {
-        /// The clip of the last event that is reported, if it is on air.
-        on_air: Option<ClipId>,
+        /// The last event that is reported, if it is on air.
+        on_air: Option<Airing>,
         event: Option<ClipId>,
         command: Command,
         /// How many events are reported, counted from the whole list's first.
@@ -57,10 +60,18 @@ enum Work {
     },
 }
 
+#[derive(Clone, Copy, PartialEq, Eq)]
+struct Airing {
+    id: ClipId,
+    /// Of its part, in seconds, if it has one.
+    length: Option<u64>,
+}
+
 /// What is shown, but for the time.
 #[derive(Clone, Copy, PartialEq, Eq)]
 struct Glance {
     work: Work,
+    holds: bool,
     /// For how many seconds the last event has been reported.
     reported: Option<u64>,
     /// For how many seconds, if that is long.
@@ -76,6 +87,8 @@ impl<'a, R: Clock, V: io::Write + Drop> Progress<'a, R, V> {
             clock,
             patience: Duration::from_millis(PATIENCE + 2 * u64::from(silence)),
             terminal: Some(terminal),
+            rate: None,
+            holds: false,
             work: Work::Questions,
             asked: None,
             down: None,
@@ -83,6 +96,14 @@ impl<'a, R: Clock, V: io::Write + Drop> Progress<'a, R, V> {
             begun: None,
             drawn: None,
         }
+    }
+
+    pub fn set_rate(&mut self, rate: Rate) {
+        self.rate = Some(rate);
+    }
+
+    pub fn set_holds(&mut self, holds: bool) {
+        self.holds = holds;
     }
 
     pub fn note_sent(&mut self) {
@@ -102,7 +123,7 @@ impl<'a, R: Clock, V: io::Write + Drop> Progress<'a, R, V> {
         if let Some(command) = controller.awaited() {
             let reported = controller.source().from() + controller.settled();
             self.note_reported(reported);
-            self.work = Work::of(controller, command, reported);
+            self.work = Work::of(controller, command, reported, self.rate);
         }
         if self.show().is_err() {
             self.terminal = None;
@@ -145,6 +166,7 @@ impl<'a, R: Clock, V: io::Write + Drop> Progress<'a, R, V> {
         let now = Instant::now(self.clock)?;
         let glance = Glance {
             work: self.work,
+            holds: self.holds,
             reported: seconds_since(since, now, Duration::ZERO),
             unanswered: seconds_since(self.asked, now, self.patience),
             down: seconds_since(self.down, now, Duration::ZERO),
@@ -191,12 +213,21 @@ fn draw<V: io::Write>(glance: &Glance, seconds: u64, terminal: &mut V) -> io::Re
 }
 
 impl Work {
-    fn of<S: Source>(controller: &Controller<Rest<S>>, command: Command, reported: usize) -> Work {
+    fn of<S: Source>(
+        controller: &Controller<Rest<S>>,
+        command: Command,
+        reported: usize,
+        rate: Option<Rate>,
+    ) -> Work {
         let rest = controller.source();
         let settled = controller.settled();
         let mut on_air = None;
         if settled > 0 && shows_clip(controller.snapshot().standing) {
-            on_air = Some(rest.at(settled - 1).id);
+            let item = rest.at(settled - 1);
+            on_air = Some(Airing {
+                id: item.id,
+                length: length_of(item, rate),
+            });
         }
         let mut event = None;
         if settled < rest.len() {
@@ -210,6 +241,12 @@ impl Work {
             events: rest.whole().len(),
         }
     }
+}
+
+fn length_of(item: Item, rate: Option<Rate>) -> Option<u64> {
+    let rate = rate?;
+    let length = Timecode::from_bcd(rate, item.part?.duration).ok()?;
+    Some(rate.millis_of(length.frames()) / 1_000)
 }
 
 // Whether the last clip that is reported is on air: no PLAY, STOP or CLOSE has followed it.
@@ -227,10 +264,12 @@ fn shows_clip(standing: Standing) -> bool {
 impl fmt::Display for Glance {
     fn fmt<W: fmt::Write>(&self, f: &mut fmt::Formatter<W>) -> fmt::Result {
         if let Some(seconds) = self.down {
-            write!(f, "no line for {seconds} s; ")?;
+            return self.write_down(seconds, f);
+        }
+        if self.holds {
+            write!(f, "holding; ")?;
         }
         match self.work {
-            Work::Questions if self.down.is_some() => write!(f, "trying each second"),
             Work::Questions => {
                 write!(f, "is the port empty?")?;
                 write_unanswered(self.unanswered, f)
@@ -242,15 +281,16 @@ impl fmt::Display for Glance {
                 reported,
                 events,
             } => {
-                if let Some(id) = on_air {
-                    self.write_on_air(reported.saturating_sub(1), id, f)?;
+                if let Some(airing) = on_air {
+                    self.write_on_air(reported.saturating_sub(1), airing.id, f)?;
                 }
                 if let Some(id) = event {
                     let word = if on_air.is_some() { "next" } else { "event" };
                     write_event(word, reported, id, f)?;
                     write!(f, ": ")?;
                 }
-                self.write_work(command, f)?;
+                write_command(command, f)?;
+                write_unanswered(self.unanswered, f)?;
                 write!(f, ", {reported} of {events} reported")
             }
         }
@@ -259,12 +299,7 @@ impl fmt::Display for Glance {
 
 impl Glance {
     fn write_on_air<W: fmt::Write>(&self, number: usize, id: ClipId, f: &mut W) -> fmt::Result {
-        let word = if self.down.is_some() {
-            "last on air"
-        } else {
-            "on air"
-        };
-        write_event(word, number, id, f)?;
+        write_event("on air", number, id, f)?;
         if let Some(seconds) = self.reported {
             write!(f, " ")?;
             write_time(seconds, f)?;
@@ -272,16 +307,49 @@ impl Glance {
         write!(f, "; ")
     }
 
-    fn write_work<W: fmt::Write>(&self, command: Command, f: &mut W) -> fmt::Result {
-        if self.down.is_some() {
-            return write!(f, "trying each second");
-        }
-        let mut text = ArrayString::<64>::new();
-        command.show(&mut text);
-        let command = text.as_str();
-        write!(f, "{command}")?;
-        write_unanswered(self.unanswered, f)
+    // (it fits, with numbers of four digits)
+    fn write_down<W: fmt::Write>(&self, seconds: u64, f: &mut W) -> fmt::Result {
+        write!(f, "no line for ")?;
+        write_time(seconds, f)?;
+        write!(f, ", tried each second")?;
+        let Work::List {
+            on_air: Some(airing),
+            reported,
+            ..
+        } = self.work
+        else {
+            return Ok(());
+        };
+        write!(f, "; ")?;
+        write_event("last on air", reported.saturating_sub(1), airing.id, f)?;
+        self.write_left(airing.length, f)
     }
+
+    // How long it still plays by its length; without one, for how long it plays.
+    fn write_left<W: fmt::Write>(&self, length: Option<u64>, f: &mut W) -> fmt::Result {
+        let Some(seconds) = self.reported else {
+            return Ok(());
+        };
+        match length {
+            None => {
+                write!(f, " for ")?;
+                write_time(seconds, f)
+            }
+            Some(length) if length <= seconds => write!(f, ", over"),
+            Some(length) => {
+                write!(f, ", ")?;
+                write_time(length - seconds, f)?;
+                write!(f, " left")
+            }
+        }
+    }
+}
+
+fn write_command<W: fmt::Write>(command: Command, f: &mut W) -> fmt::Result {
+    let mut text = ArrayString::<64>::new();
+    command.show(&mut text);
+    let command = text.as_str();
+    write!(f, "{command}")
 }
 
 fn write_event<W: fmt::Write>(word: &str, number: usize, id: ClipId, f: &mut W) -> fmt::Result {

@@ -3,7 +3,7 @@ ghost use Rattle.std.specs.Prelude.{◌≡◌, IfOk, map};
 ghost use Rattle.serde_json.specs.Data.{array, string};
 ghost use Rattle.serde_json.specs.View.{items_of, view};
 ghost use Rattle.vdcp_text.specs.Outcome.{outcome_text};
-ghost use Rattle.vdcp_operator.specs.Seen.{can_skip, ending_data, ending_text, length_by, number_data, record_data, record_text, row_data, row_with, run_data, seen_data, stage_text};
+ghost use Rattle.vdcp_operator.specs.Seen.{alarm_data, can_skip, ending_data, ending_text, length_by, number_data, reason_data, reason_text, record_data, record_text, row_data, row_with, run_data, seen_data, stage_text, why_of};
 
 use crate::ahead::Ahead;
 use crate::left_out::LeftOut;
@@ -26,11 +26,23 @@ pub enum Record {
     LeftOut,
 }
 
+/// Why an event was left out.
+#[derive(Clone, Copy, Debug, PartialEq, Eq)]
+pub enum Reason {
+    Missing,
+    Refused,
+    /// It may have aired.
+    Unsure,
+    ByHand,
+}
+
 /// What a journal says of an event that a run no longer plays. Its number is from 0, times in milliseconds since 1970.
 #[derive(Clone, Copy, Debug)]
 pub struct EventBefore {
     pub number: u64,
     pub kept: Record,
+    /// Why it was left out, if it was and that is known.
+    pub why: Option<Reason>,
     /// When it was played, if it aired.
     pub at: Option<u64>,
     /// When its end was first seen.
@@ -52,6 +64,8 @@ pub struct EventSeen {
     pub item: Item,
     /// What the journal says, if the event comes before those that a run still plays.
     pub kept: Option<Record>,
+    /// Why it was left out, by the journal.
+    pub why: Option<Reason>,
     /// When it was seen to go to air, or was played by the journal.
     pub at: Option<u64>,
     /// When its end was first seen.
@@ -104,6 +118,9 @@ pub struct RunSeen<'a> {
     pub ahead: Ahead,
     /// Since when there is no connection, if there is none.
     pub down: Option<u64>,
+    /// The last alarm, if there was one, and how many there were.
+    pub alarm: &'a str,
+    pub alarms: u64,
     pub clock: u64,
 }
 
@@ -148,10 +165,20 @@ impl RunSeen<'_> {
         })
     }
 
+    fn alarm_value(&self, alloc: Global) -> Result<Value, AllocError>
+        ensures { IfOk result (λ v. view v ≡ alarm_data self.now) }
+    {
+        json!(in alloc; {
+            "count": self.alarms,
+            "words": self.alarm
+        })
+    }
+
     fn run(&self, alloc: Global) -> Result<Value, AllocError>
         ensures { IfOk result (λ v. view v ≡ run_data self.now) }
     {
         json!(in alloc; {
+            "alarm": self.alarm_value(alloc)?,
             "channel": self.names.channel.as_str(),
             "commands": self.hand.commands,
             "down": number_or_null(self.down),
@@ -262,7 +289,8 @@ fn row_with(
         "number": event.number,
         "out": is_out,
         "skip": can_skip,
-        "until": number_or_null(event.until)
+        "until": number_or_null(event.until),
+        "why": reason_or_null(alloc, why_of(is_out, event.why))?
     })
 }
 
@@ -308,6 +336,36 @@ fn record_text(kept: Record) -> &'static str
         Record::Aired => "aired",
         Record::MayHaveAired => "may have aired",
         Record::LeftOut => "left out",
+    }
+}
+
+// What is left out now is so by hand.
+fn why_of(is_out: bool, why: Option<Reason>) -> Option<Reason>
+    ensures { result ≡ why_of is_out why }
+{
+    match (why, is_out) {
+        (None, true) => Some(Reason::ByHand),
+        (None, false) | (Some(_), _) => why,
+    }
+}
+
+fn reason_or_null(alloc: Global, why: Option<Reason>) -> Result<Value, AllocError>
+    ensures { IfOk result (λ v. view v ≡ reason_data why) }
+{
+    match why {
+        Some(why) => Value::try_from_str(alloc, reason_text(why)),
+        None => Ok(Value::Null),
+    }
+}
+
+fn reason_text(why: Reason) -> &'static str
+    ensures { result.now ≡ reason_text why }
+{
+    match why {
+        Reason::Missing => "missing",
+        Reason::Refused => "refused",
+        Reason::Unsure => "unsure",
+        Reason::ByHand => "by hand",
     }
 }
 

@@ -1,13 +1,16 @@
 //! How the page of a run follows it and takes calls.
 ghost use Rattle.std.specs.Option.{option_to_list, unwrap_or};
-ghost use Rattle.std.specs.Prelude.{◌≡◌, ◌++◌, [], All, None, Some, ℕ};
+ghost use Rattle.arrayvec.specs.ArrayString.{ArrayString as Alarm};
+ghost use Rattle.std.specs.Prelude.{◌≡◌, ◌+◌, ◌-◌, ◌^◌, ◌++◌, min, [], All, None, Some, ℕ};
 ghost use Rattle.vdcp_operator.specs.Rows.{IsRow, at_in, before_of, ending_after, ending_by, ending_in, ending_seen, is_on_air_known, is_waiting, known_of, news_of, older_of, row_of, until_in};
 ghost use Rattle.vdcp_operator.specs.Seen.{AreRound, ShowsRun, event_of, with_number};
 
 use crate::ahead::ahead_of;
 use crate::page::PAGE;
 use crate::seen::{Ending, EventBefore, EventSeen, HandSeen, Record, RunNames, RunSeen};
+use arrayvec::ArrayString;
 use std::alloc::Global;
+use std::fmt::{self, Write};
 use std::rt::Clock;
 use vdcp_auto::{Controller, Outcome, Phase, Snapshot, Source, Standing};
 use vdcp_list::{Rest, Table};
@@ -19,6 +22,9 @@ pub const ROWS_BEFORE: usize = 20;
 
 // How many are shown from it on.
 const AFTER: usize = 40;
+
+// In bytes.
+const LONGEST_ALARM: usize = 256;
 
 #[derive(Drop)]
 pub struct RunPage {
@@ -34,6 +40,9 @@ pub struct RunPage {
     standing: Option<Standing>,
     // Since when there is no connection, if there is none.
     down: Option<u64>,
+    // The last one, and how many there were.
+    alarm: ArrayString<LONGEST_ALARM>,
+    alarms: u64,
     calls: Calls,
 }
 
@@ -48,7 +57,7 @@ impl RunPage {
     ) -> Self
         ensures given { (result.panel ≡ panel) × (result.names ≡ names) × (result.rate ≡ rate) × (result.clips ≡ clips) }
         ensures fresh { (result.event ≡ None) × (result.standing ≡ None) × (result.down ≡ None)
-            × (result.calls.items ≡ []) }
+            × (result.alarm.bytes ≡ []) × (result.alarms ≡ 0) × (result.calls.items ≡ []) }
     {
         RunPage {
             alloc,
@@ -61,6 +70,8 @@ impl RunPage {
             event: None,
             standing: None,
             down: None,
+            alarm: ArrayString::new(),
+            alarms: 0,
             calls: Calls::new(),
         }
     }
@@ -83,6 +94,15 @@ impl RunPage {
         ensures { self.new ≡ record self.old { down = None } }
     {
         self.down = None;
+    }
+
+    /// This is the last alarm: its first bytes, as far as they are kept.
+    pub fn set_alarm<T: fmt::Display>(&mut self, words: &T)
+        ensures { (alarm : Alarm) × (self.new ≡ record self.old { alarm = alarm; alarms = min (self.old.alarms + 1) (2 ^ 64 - 1) }) }
+    {
+        self.alarm.clear();
+        let _ = write!(self.alarm, "{words}");
+        self.alarms = self.alarms.saturating_add(1);
     }
 
     /// Answers requests for the page. `end` is None while the run goes on, Some(None) if it is over without an outcome.
@@ -113,6 +133,8 @@ impl RunPage {
             hand,
             ahead: ahead_of(controller),
             down: self.down,
+            alarm: self.alarm.as_str(),
+            alarms: self.alarms,
             clock: now,
         };
         self.panel.serve_some(clock, &seen, &mut self.calls);
@@ -198,6 +220,10 @@ impl News {
             item,
             kept: match said {
                 Some(said) => Some(said.kept),
+                None => None,
+            },
+            why: match said {
+                Some(said) => said.why,
                 None => None,
             },
             at: known.at.or(self.at(said, number)),

@@ -5,16 +5,17 @@ ghost use Rattle.std.specs.Prelude.{◌≡◌, ◌<◌, ◌≤◌, ◌∷◌, �
 ghost use Rattle.vdcp_operator.specs.Typed.{SaysOn, left, said_by, said_from, said_in, without_return};
 
 use arrayvec::ArrayVec;
+use std::fmt;
 use std::io::{self, Read};
-use vdcp_drive::Call;
 use vdcp_panel::number_in;
 
 // A longer line is no call.
 const MOST_BYTES: usize = 64;
 
-#[derive(Clone, Copy, Debug, PartialEq, Eq)]
+#[derive(Clone, Copy, Debug, Default, PartialEq, Eq)]
 pub enum Said {
-    Call(Call),
+    Take,
+    Stop,
     /// Nothing new is to go to air after what plays.
     Hold,
     /// What is held back is to go to air again.
@@ -23,7 +24,22 @@ pub enum Said {
     Skip(usize),
     /// The list is to go on with this event.
     Jump(usize),
+    #[default]
     Other,
+}
+
+impl fmt::Display for Said {
+    fn fmt<W: fmt::Write>(&self, f: &mut fmt::Formatter<W>) -> fmt::Result {
+        match self {
+            Said::Take => write!(f, "take"),
+            Said::Stop => write!(f, "stop"),
+            Said::Hold => write!(f, "hold"),
+            Said::Go => write!(f, "go"),
+            Said::Skip(event) => write!(f, "skip {event}"),
+            Said::Jump(event) => write!(f, "jump {event}"),
+            Said::Other => write!(f, "no call"),
+        }
+    }
 }
 
 #[derive(Clone, Copy)]
@@ -135,9 +151,9 @@ fn said_in(line: &[u8]) -> Said
 {
     let words = without_return(line);
     if words == "take".as_bytes() {
-        Said::Call(Call::Take)
+        Said::Take
     } else if words == "stop".as_bytes() {
-        Said::Call(Call::Stop)
+        Said::Stop
     } else if words == "hold".as_bytes() {
         Said::Hold
     } else if words == "go".as_bytes() {

@@ -14,7 +14,7 @@ use vdcp_offline::{JudgeSettings, SimSettings};
 use vdcp_probe::{AskSettings, Only, ProbeSettings};
 use vdcp_serve::ServeSettings;
 
-/// By `--confirm`.
+/// Confirm mode with `--confirm`, else plain mode.
 pub fn mode_of(matches: &ArgMatches) -> Mode {
     if matches.get_flag("confirm") {
         Mode::Confirming

@@ -7,6 +7,7 @@ use Rattle.vdcp_auto.specs.Plan.{Plan, View}
 use Rattle.vdcp_auto.specs.State.{State}
 use Rattle.vdcp_auto.specs.Turn.{start}
 use Rattle.vdcp_auto.specs.declared.exchange.Exchange.{Exchange}
+use Rattle.vdcp_auto.specs.declared.list_call.ListCall.{ListCall}
 use Rattle.vdcp_journal.specs.Resume.{after_call_if, after_rows, call_of, limit_after, losses}
 use Rattle.vdcp_journal.specs.Runs.{Run}
 use Rattle.vdcp_journal.specs.declared.row.Heading.{Heading}
@@ -15,9 +16,10 @@ use Rattle.vdcp_list.specs.Rests.{FromEvent}
 use Rattle.vdcp_list.specs.Rows.{FileBytes}
 use Rattle.vdcp_journal_file.specs.Recording.{BeganWith, IsTimedOut, Recording}
 use Rattle.vdcp_journal_file.specs.Resuming as resuming
-use Rattle.vdcp_journal_file.specs.Resuming.{IsOpenedAgain, IsReplayed, IsUnopenedAgain, beginning_note, open_after, plan_of_run, said_event, state_after}
+use Rattle.vdcp_journal_file.specs.Resuming.{IsOpenedAgain, IsReplayed, IsUnopenedAgain, JournalShows, beginning_note, open_after, plan_of_run, said_event, state_after}
 use Rattle.vdcp_journal_file.specs.declared.again.Beginning.{Beginning}
-use Rattle.vdcp_run.specs.Run.{beginning_of, BeginsAgain, BeginsBy, IsAgain, IsBegun, IsUnkept, first_event, heading_for, name_of, new_controller, plan_for}
+use Rattle.vdcp_journal_file.specs.declared.reading.RunAirings.{RunAirings}
+use Rattle.vdcp_run.specs.Run.{beginning_of, BeginsAgain, BeginsBy, IsAgain, IsBegun, IsUnkept, SaysOfList, first_event, heading_for, name_of, new_controller, plan_for}
 use Rattle.vdcp_run.specs.Asking.{Start, start_of}
 use Rattle.vdcp_run.specs.declared.settings.RunJournal.{RunJournal}
 use Rattle.vdcp_run.specs.declared.settings.RunJournal.TheVariants as journals
@@ -169,6 +171,15 @@ unkept_again list settings journal name heading beginning failure again is of sa
       by (journals.Older name) again h = absurd again
       by (journals.Again name) again h = inr (inl h)
       by (journals.Left name) again h = inr (inl h)
+
+-- what the journal said of the list before
+pub says_again : (list : List Item) (settings : RunSettings) (journal : RunJournal) (calls : List ListCall) → IsAgain journal
+    → (lines : FileBytes) (runs : List RunAirings) → JournalShows list (heading_for settings list) lines runs calls
+    → SaysOfList settings list (Some journal) calls
+says_again list settings (journals.New name) calls again lines runs shows = absurd again
+says_again list settings (journals.Older name) calls again lines runs shows = absurd again
+says_again list settings (journals.Again name) calls again lines runs shows = (lines, runs, shows)
+says_again list settings (journals.Left name) calls again lines runs shows = (lines, runs, shows)
 
 -- ---- the end
 

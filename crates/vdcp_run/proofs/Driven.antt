@@ -1,6 +1,6 @@
 -- What a driver's run left, with what keeps it, and the end that it comes to.
-use Rattle.std.proofs.Common.{arith, ◌≡◌, ◌∙◌, ◌+◌, ◌-◌, ◌≤◌, ℕ, List, [], ◌∷◌, ◌++◌, ap, ap₂, subst, sym}
-use Rattle.std.specs.Prelude.{Bool, min, IsSomeAnd, IsTrue, None, Some, Option, Result, Err, refl}
+use Rattle.std.proofs.Common.{arith, ◌≡◌, ◌∙◌, ◌+◌, ◌-◌, ◌≤◌, ℕ, List, [], ◌∷◌, ◌++◌, ap, subst, sym}
+use Rattle.std.specs.Prelude.{Bool, true, false, ◌&&◌, min, IsSomeAnd, IsTrue, None, Some, Option, Result, Err, refl}
 use Rattle.vdcp_auto.specs.Plan.{Plan, View, plan_of}
 use Rattle.vdcp_auto.specs.State.{Stage, State}
 use Rattle.vdcp_auto.specs.Turn.{outcome_of}
@@ -14,15 +14,17 @@ use Rattle.vdcp_drive.specs.Steps.{Does, Happens, Rules, Step, World, acts, asks
 use Rattle.vdcp_drive.specs.Traces.{kept_in}
 use Rattle.vdcp_drive.specs.declared.hooks.BrokenOff.{BrokenOff}
 use Rattle.vdcp_drive.specs.declared.hooks.BrokenOff.TheVariants as fault
+use Rattle.vdcp_drive.specs.declared.hooks.Kept.TheVariants as kept
 use Rattle.vdcp_drive.specs.declared.hooks.Next.TheVariants as next
 use Rattle.vdcp_drive.specs.declared.line.Ran.{Ran}
 use Rattle.vdcp_list.specs.Rests.{FromEvent, items_left}
 use Rattle.vdcp_journal_file.specs.Recorded.{recorder_rules}
 use Rattle.vdcp_journal_file.specs.Recording.{Recording}
 use Rattle.vdcp_run.specs.Ends.{Reports, is_unplayed, line_end_of}
-use Rattle.vdcp_operator.specs.Hands.{is_to_play}
-use Rattle.vdcp_run.specs.Asking.{Comes, Start, over, start_of}
-use Rattle.vdcp_run.specs.Session.{AsksFirst, HasHeld, IsClosed, IsWritten, Keeping, LeavesBefore, Onset, Plays, held, onset_after, playing_rules, signs_by, turns_in}
+use Rattle.vdcp_operator.specs.Hands.{holds_back, is_cued}
+use Rattle.vdcp_operator.specs.declared.on_list.OnList.{OnList}
+use Rattle.vdcp_run.specs.Asking.{Comes, Inquiring, Start, asking, over, start_of}
+use Rattle.vdcp_run.specs.Session.{AsksFirst, HasHeld, HeedsCalls, IsClosed, IsHeldBack, IsWritten, Keeping, LeavesBefore, Onset, Plays, held, list_kept_by, onset_after, playing_rules, signs_by, turns_in}
 use Rattle.vdcp_run.specs.declared.lack.Lack.{Lack}
 use Rattle.vdcp_run.specs.declared.run_end.LineEnd.{LineEnd}
 use Rattle.vdcp_run.specs.declared.run_end.RunEnd.{RunEnd}
@@ -46,6 +48,24 @@ comes_over items rules fold failures n turns is old new keep keep' answer left w
   ear_is = refl;
   outcome_is = ends;
 })
+
+-- the operator's calls on the list wait
+pub list_stays : {W : Type 0} (does : Act → W → W → Type 0) (plan : Plan) (steps : List Step) (old new : World W Inquiring)
+    → Happens (asking does plan) steps old new → new.keep.list ≡ old.keep.list
+list_stays does plan [] old new h = ap (λ (w : World _ Inquiring). w.keep.list) h
+list_stays does plan (acts a ∷ later) old new (next, (done, is), rest) =
+    list_stays does plan later next new rest ∙ ap (λ (w : World _ Inquiring). w.keep.list) is
+list_stays does plan (asks s n ∷ later) old new (next, (one, is), rest) =
+    list_stays does plan later next new rest ∙ ap (λ (i : Inquiring). i.list) one.1
+list_stays does plan (keeps (kept.Heard h) ∷ later) old new (next, (one, is), rest) =
+    list_stays does plan later next new rest ∙ ap (λ (i : Inquiring). i.list) one
+list_stays does plan (keeps kept.Silence ∷ later) old new (next, (one, is), rest) =
+    list_stays does plan later next new rest ∙ ap (λ (i : Inquiring). i.list) one
+list_stays does plan (keeps (kept.Sent c) ∷ later) old new (next, (one, is), rest) =
+    list_stays does plan later next new rest ∙ ap (λ (i : Inquiring). i.list) one
+list_stays does plan (keeps (kept.Called c) ∷ later) old new (next, (one, is), rest) =
+    list_stays does plan later next new rest ∙ ap (λ (i : Inquiring). i.list) one
+list_stays does plan (misses r ∷ later) old new (next, (one, is), rest) = absurd one
 
 -- ---- What a run keeps over its connection: its journal's recorder, and what came
 
@@ -95,6 +115,32 @@ module _ {W F : Type 0} (mode : Mode) (does : Act → W → W → Type 0) (safe 
   turns_so (keeps r ∷ later) old new (next, (kept, is), rest) = omega (arith, turns_so later next new rest, kept.2)
   turns_so (misses r ∷ later) old new (next, (lost, is), rest) = omega (arith, turns_so later next new rest, lost.2)
 
+  list_so : (steps : List Step) (old new : World W (Keeping F)) → Happens (playing_rules mode does safe) steps old new
+      → new.keep.list ≡ list_kept_by (kept_in steps) old.keep.list
+  list_so [] old new h = ap (λ (w : World W (Keeping F)). w.keep.list) h
+  list_so (acts a ∷ later) old new (next, (done, is), rest) = list_so later next new rest
+      ∙ ap (λ (w : World W (Keeping F)). list_kept_by (kept_in later) w.keep.list) is
+  list_so (asks s n ∷ later) old new (next, (asked, is), rest) = list_so later next new rest
+      ∙ ap (λ (k : Keeping F). list_kept_by (kept_in later) k.list) asked.0
+  list_so (keeps r ∷ later) old new (next, (kept, is), rest) =
+      list_so later next new rest ∙ ap (list_kept_by (kept_in later)) kept.3
+  list_so (misses r ∷ later) old new (next, (lost, is), rest) =
+      list_so later next new rest ∙ ap (list_kept_by (kept_in later)) lost.3
+
+  heeds_so : (steps : List Step) (old new : World W (Keeping F)) → Happens (playing_rules mode does safe) steps old new
+      → HeedsCalls old.keep.list steps
+  heeds_so [] old new h = tt
+  heeds_so (acts a ∷ later) old new (next, (done, is), rest) = subst (λ (list : OnList). HeedsCalls list later)
+      (ap (λ (w : World W (Keeping F)). w.keep.list) is) (heeds_so later next new rest)
+  heeds_so (asks s n ∷ later) old new (next, (asked, is), rest) = (
+    asked.2,
+    subst (λ (list : OnList). HeedsCalls list later) (ap (λ (k : Keeping F). k.list) asked.0) (heeds_so later next new rest),
+  )
+  heeds_so (keeps r ∷ later) old new (next, (kept, is), rest) =
+      subst (λ (list : OnList). HeedsCalls list later) kept.3 (heeds_so later next new rest)
+  heeds_so (misses r ∷ later) old new (next, (lost, is), rest) =
+      subst (λ (list : OnList). HeedsCalls list later) lost.3 (heeds_so later next new rest)
+
   -- a run that was left was left where it may be
 
   last_leaves : (steps : List Step) (s : State) (old new : World W (Keeping F))
@@ -120,6 +166,10 @@ module _ {W F : Type 0} (mode : Mode) (does : Act → W → W → Type 0) (safe 
       → answer ≡ Err fault.Left → LeavesBefore mode a'.state.stage next.Leave
   left_so fold plan unit count a a' old new answer h left = left_by fold plan unit count a a' old new answer
       (steps_of fold plan unit a h.run.events) h.run.more h.run.events _ h.happened h.run.ending left
+
+first_of : (a b : Bool) → IsTrue (a && b) → IsTrue a
+first_of true b is = refl
+first_of false b is = is
 
 -- ---- A driver has run
 
@@ -152,13 +202,21 @@ module _ {S E W F : Type 0} (items : S → List Item) (does : Act → W → W �
   unfolding run_recorded
   turns_then = turns_so old.controller.mode does safe (steps_in has_run.run) (over old.wire keep) (over new.wire keep') has_run.happened
 
+  list_then : keep'.list ≡ list_kept_by (kept_in (steps_in has_recorded.run)) keep.list
+  unfolding run_recorded
+  list_then = list_so old.controller.mode does safe (steps_in has_run.run) (over old.wire keep) (over new.wire keep') has_run.happened
+
+  heeds_then : HeedsCalls keep.list (steps_in has_recorded.run)
+  unfolding run_recorded
+  heeds_then = heeds_so old.controller.mode does safe (steps_in has_run.run) (over old.wire keep) (over new.wire keep') has_run.happened
+
   -- its journal was ended
   pub plays_so : keep.left ≡ turns → (end : RunEnd) → end.signs ≡ keep'.signs → end.left ≡ keep'.left → (kept : ℕ)
       → end.line ≡ line_end_of answer (is_unplayed new.controller.mode keep'.signs new.controller.state)
       (new.controller.source.from + new.controller.state.settled) kept
       → Reports new.controller.source.from new.controller.state end
       → IsClosed safe new.controller.state.stage end.line end.unkept keep'.recorder
-      → Plays does safe fold old.ear old.unit turns keep.signs (start_of items old.controller) (over old.wire keep.recorder)
+      → Plays does safe fold old.ear old.unit turns keep.signs keep.list (start_of items old.controller) (over old.wire keep.recorder)
       new.wire end
   plays_so first end signs left kept line reports closed = record {
     ran = answer;
@@ -176,6 +234,7 @@ module _ {S E W F : Type 0} (items : S → List Item) (does : Act → W → W �
     reports = subst (λ (from : ℕ). Reports from new.controller.state end)
         (ap (λ (c : View (FromEvent S)). c.source.from) h.leaves.controller) reports;
     signs_are = signs ∙ signs_then;
+    heeds = heeds_then;
     left_is = left ∙ turns_then ∙ ap (λ (n : ℕ). n - turns_in (steps_in has_recorded.run)) first;
     closed = closed;
   }
@@ -188,6 +247,7 @@ module _ {S E W F : Type 0} (items : S → List Item) (does : Act → W → W �
     world = over wire keep.recorder;
     turns = turns;
     signs = signs;
+    list = keep.list;
   }
 
   abbrev onset_behind : Option (Recording F) → (turns : ℕ) → Onset E W F
@@ -197,34 +257,50 @@ module _ {S E W F : Type 0} (items : S → List Item) (does : Act → W → W �
     world = over new.wire written;
     turns = turns;
     signs = keep'.signs;
+    list = keep'.list;
   }
 
-  onset_so : (written : Option (Recording F)) (left : ℕ) (ear : E) (wire : W) (count : ℕ) (first then : Signs)
-      → keep'.signs ≡ then → onset_behind written left
-      ≡ onset_after (onset_before ear wire count first) (auto_of new) (over new.wire keep'.recorder) written left then
-  onset_so written left ear wire count first then signs = ap₂ (λ (start : Start) (s : Signs). record {
-    start = start;
-    ear = new.ear;
-    world = over new.wire written;
-    turns = left;
-    signs = s;
-  }) (ap (start_of items) h.leaves.controller) signs
+  onset_so : (written : Option (Recording F)) (left : ℕ) (ear : E) (wire : W) (count : ℕ) (first then : Signs) (list : OnList)
+      → keep'.signs ≡ then → keep'.list ≡ list → onset_behind written left
+      ≡ onset_after (onset_before ear wire count first) (auto_of new) (over new.wire keep'.recorder) written left then list
+  onset_so written left ear wire count first then list signs lists =
+      let onset : Start → Signs → OnList → Onset E W F = λ start s l. record {
+        start = start;
+        ear = new.ear;
+        world = over new.wire written;
+        turns = left;
+        signs = s;
+        list = l;
+      } in
+      let behind : Start = record (start_of items old.controller) { state = new.controller.state } in
+      ap (λ (start : Start). onset start keep'.signs keep'.list) (ap (start_of items) h.leaves.controller)
+      ∙ ap (λ (s : Signs). onset behind s keep'.list) signs ∙ ap (onset behind then) lists
+
+  back_so : IsTrue (holds_back keep'.list.holds new.controller.state)
+      → IsHeldBack keep.list (steps_in has_recorded.run) new.controller.state
+  back_so is_held = record {
+    cued = first_of (is_cued new.controller.state.stage) _ is_held;
+    is_held = subst (λ (list : OnList). IsTrue (holds_back list.holds new.controller.state)) list_then is_held;
+    heeds = heeds_then;
+  }
 
   pub holds_on : keep.left ≡ turns → (settings : RunSettings) (is_held : Bool) (ear : E) (wire : W) (count : ℕ) (before : Signs)
-      → answer ≡ Err fault.Left → IsTrue (is_to_play new.controller.state.stage) → (written : Option (Recording F))
+      → answer ≡ Err fault.Left → IsTrue (holds_back keep'.list.holds new.controller.state) → (written : Option (Recording F))
       → IsWritten safe keep'.recorder written → (left : ℕ) → left ≤ keep'.left → (z : Onset E W F)
       → AsksFirst does fold (record settings { unit = old.unit }) is_held (onset_before ear wire count before) old.ear old.wire turns
       keep.signs None → HasHeld does safe fold (record settings { unit = old.unit }) z (onset_behind written left)
       → HasHeld does safe fold (record settings { unit = old.unit }) z (onset_before ear wire count before)
-  holds_on all settings is_held ear wire count before is to_play written wrote left few z first later =
+  holds_on all settings is_held ear wire count before is back written wrote left few z first later =
       let ran = subst (λ (r : Result Ran BrokenOff). (runs : HasRun (recorder_rules does safe) fold
       (plan_of (items_left items) old.controller) old.unit turns (auto_of old) (auto_of new) (over old.wire keep.recorder)
       (over new.wire keep'.recorder) r) × (keep'.signs ≡ signs_by (kept_in (steps_in runs.run)) keep.signs)
-      × (left ≤ turns - turns_in (steps_in runs.run))) is
-      (has_recorded, signs_then, omega (arith, few, turns_then, all)) in
-      held is_held old.ear old.wire turns keep.signs first (auto_of new) (over new.wire keep'.recorder) ran.0 to_play written wrote
+      × (left ≤ turns - turns_in (steps_in runs.run)) × IsHeldBack keep.list (steps_in runs.run) new.controller.state
+      × (keep'.list ≡ list_kept_by (kept_in (steps_in runs.run)) keep.list)) is
+      (has_recorded, signs_then, omega (arith, few, turns_then, all), back_so back, list_then) in
+      held is_held old.ear old.wire turns keep.signs first (auto_of new) (over new.wire keep'.recorder) ran.0 ran.3 written wrote
       (left, ran.2) (subst (HasHeld does safe fold (record settings { unit = old.unit }) z)
-      (onset_so written left ear wire count before (signs_by (kept_in (steps_in ran.0.run)) keep.signs) ran.1) later)
+      (onset_so written left ear wire count before (signs_by (kept_in (steps_in ran.0.run)) keep.signs)
+      (list_kept_by (kept_in (steps_in ran.0.run)) keep.list) ran.1 ran.4) later)
 
 pub least_left : (left most n : ℕ) → n ≡ min left most → n ≤ left
 least_left left most n is = grind arith

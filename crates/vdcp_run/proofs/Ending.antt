@@ -6,6 +6,7 @@ use Rattle.vdcp_drive.specs.declared.hearing.Hearing.TheVariants as hears
 use Rattle.vdcp_drive.specs.Ears.{Fold}
 use Rattle.vdcp_drive.specs.Steps.{World}
 use Rattle.vdcp_journal_file.specs.Recording.{Recording}
+use Rattle.vdcp_operator.specs.declared.on_list.OnList.{OnList}
 use Rattle.vdcp_run.specs.Asking.{Start}
 use Rattle.vdcp_run.specs.Run.{CameTo, IsAsrunMade, IsEarlier, IsEnd, IsEndWith, IsTry, later_after, latest_end, name_of}
 use Rattle.vdcp_run.specs.Session.{HasEnded, HasSession, Onset, TriesBy, had_ended, played, tried, unbegun, unwired}
@@ -27,46 +28,46 @@ tried_unfailed does safe fold settings x last end (played is_held ear wire left 
 tried_unfailed does safe fold settings x last end (unbegun is_held ear left signs line first is reports) = reports.unfailed
 
 tries_unfailed : {W F : Type 0} (hearing : Hearing) (does : Act → W → W → Type 0) (safe : F → Option (List ℕ))
-    (settings : RunSettings) (start : Start) (world : World W (Option (Recording F))) (last : W) (end : RunEnd)
-    → TriesBy hearing does safe settings start world last end → end.failed ≡ None
-tries_unfailed hears.AtSilences does safe settings start world last end h =
+    (settings : RunSettings) (start : Start) (list : OnList) (world : World W (Option (Recording F))) (last : W) (end : RunEnd)
+    → TriesBy hearing does safe settings start list world last end → end.failed ≡ None
+tries_unfailed hears.AtSilences does safe settings start list world last end h =
     tried_unfailed does safe _ settings h.onset last end h.ended
-tries_unfailed hears.AtOnce does safe settings start world last end h =
+tries_unfailed hears.AtOnce does safe settings start list world last end h =
     tried_unfailed does safe _ settings h.onset last end h.ended
 
-unfailed : {F : Type 0} (safe : F → Option (List ℕ)) (settings : RunSettings) (start : Start)
+unfailed : {Stream F : Type 0} (safe : F → Option (List ℕ)) (settings : RunSettings) (start : Start) (list : OnList)
     (recorder : Option (Recording F)) (before : Option Streamed) (end : RunEnd) (last : Option Streamed)
-    → HasSession safe settings start recorder before end last → end.failed ≡ None
-unfailed safe settings start recorder before end _ (had_ended ended line reports) = reports.unfailed
-unfailed safe settings start recorder before end _ (unwired line is so reports) = reports.unfailed
-unfailed safe settings start recorder before end _ (tried wire last is tries) =
-    tries_unfailed settings.hearing _ safe settings start _ last end tries
+    → HasSession Stream safe settings start list recorder before end last → end.failed ≡ None
+unfailed safe settings start list recorder before end _ (had_ended ended line reports) = reports.unfailed
+unfailed safe settings start list recorder before end _ (unwired line is so reports) = reports.unfailed
+unfailed safe settings start list recorder before end _ (tried wire last is tries) =
+    tries_unfailed settings.hearing _ safe settings start list _ last end tries
 
-module _ (settings last : RunSettings) (items : List Item) (wire left : Option Streamed)
-    (tries : IsTry settings items last wire) where
-  pub last_ends : (end : Result RunEnd Failure) → CameTo last items wire end left
-      → later_after last (length items) end ≡ None → IfOk end (IsEnd settings items)
+module _ {Stream : Type 0} (settings last : RunSettings) (items : List Item) (wire left : Option Streamed)
+    (tries : IsTry Stream settings items last wire) where
+  pub last_ends : (end : Result RunEnd Failure) → CameTo Stream last items wire end left
+      → later_after last (length items) end ≡ None → IfOk end (IsEnd Stream settings items)
   last_ends (Ok end) came over =
-      subst (λ (failed : Option Failure). IsEndWith settings items failed end)
-      (sym (unfailed _ last came.start came.recorder wire end came.last came.session)) (record {
+      subst (λ (failed : Option Failure). IsEndWith Stream settings items failed end)
+      (sym (unfailed _ last came.start _ came.recorder wire end came.last came.session)) (record {
         last = last;
         ends = record { wire = wire; tries = tries; left = left; tried = came };
         over = over;
       })
   last_ends (Err failure) came over = tt
 
-  pub latest_is : (end : Result RunEnd Failure) (earlier : Option RunEnd) → CameTo last items wire end left
-      → IfSome earlier (IsEarlier settings items)
-      → IfSome (latest_end end earlier) (IsEarlier settings items)
+  pub latest_is : (end : Result RunEnd Failure) (earlier : Option RunEnd) → CameTo Stream last items wire end left
+      → IfSome earlier (IsEarlier Stream settings items)
+      → IfSome (latest_end end earlier) (IsEarlier Stream settings items)
   latest_is (Ok end) earlier came before = (last, record { wire = wire; tries = tries; left = left; tried = came })
   latest_is (Err failure) earlier came before = before
 
   pub came_to_nothing : (failure : Failure) (before : RunEnd) (asrun : Option (Result SavedText Failure))
-      → CameTo last items wire (Err failure) left → later_after last (length items) (Err failure) ≡ None
-      → IsEarlier settings items before
+      → CameTo Stream last items wire (Err failure) left → later_after last (length items) (Err failure) ≡ None
+      → IsEarlier Stream settings items before
       → IfSome last.journal (λ journal. (from reported : ℕ)
       → IsAsrunMade last.rate (Some (journals.Again (name_of journal))) items from reported last.asrun asrun)
-      → IsEnd settings items (record before { asrun = asrun; failed = Some failure })
+      → IsEnd Stream settings items (record before { asrun = asrun; failed = Some failure })
   came_to_nothing failure before asrun came over earlier made = record {
     last = last;
     wire = wire;

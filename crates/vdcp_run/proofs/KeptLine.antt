@@ -1,8 +1,7 @@
 -- What a run that goes on behind an event that is left out has of the try before.
 use Rattle.std.proofs.Common.{◌≡◌, ◌∙◌, Bor, List, ℕ, ap, refl, subst, sym}
 use Rattle.std.specs.Option.{option_map}
-use Rattle.std.specs.Prelude.{◌≢◌, IfSome, ◌+◌, ◌&&◌, Bool, true, false, not, if◌then◌else◌, is_some, nat_le, nat_lt, None, Option, Some}
-use Rattle.vdcp_auto.specs.declared.outcome.Outcome.{Outcome}
+use Rattle.std.specs.Prelude.{◌≢◌, IfSome, ◌&&◌, Bool, true, false, not, if◌then◌else◌, is_some, nat_le, nat_lt, None, Option, Some}
 use Rattle.vdcp_drive.specs.declared.hearing.Hearing.{Hearing}
 use Rattle.vdcp_drive.specs.declared.hearing.Hearing.TheVariants as hears
 use Rattle.vdcp_drive.specs.declared.line.Ran.TheVariants as ran
@@ -11,12 +10,12 @@ use Rattle.vdcp_run.specs.declared.lack.Lack.{Lack}
 use Rattle.vdcp_run.specs.declared.run_end.LineEnd.{LineEnd}
 use Rattle.vdcp_run.specs.declared.run_end.LineEnd.TheVariants as line_end
 use Rattle.vdcp_run.specs.declared.run_end.RunEnd.{RunEnd}
-use Rattle.vdcp_run.specs.declared.run_end.Signs.{Signs}
 use Rattle.vdcp_run.specs.declared.settings.RunJournal.{RunJournal}
 use Rattle.vdcp_run.specs.declared.settings.RunJournal.TheVariants as journals
 use Rattle.vdcp_run.specs.declared.settings.RunSettings.{RunSettings}
 use Rattle.vdcp_run.specs.declared.settings.Staying.{Staying}
 use Rattle.vdcp_journal_file.specs.Recording.{Recording}
+use Rattle.vdcp_operator.specs.declared.on_list.OnList.{OnList}
 use Rattle.vdcp_run.specs.Asking.{Start}
 use Rattle.vdcp_run.specs.Session.{HasSession}
 use Rattle.vdcp_wire.specs.Streams.{Streamed, failures_of}
@@ -105,12 +104,12 @@ no_line_left true = refl
 no_line_left false = refl
 
 -- where there was no wire, none is left
-pub unkept_line : {F : Type 0} {safe : F → Option (List ℕ)} (settings : RunSettings) (count : ℕ) (end : RunEnd)
-    (line : Option Streamed) (start : Start) (recorder : Option (Recording F)) (before : Option Streamed) → line ≡ None
-    → HasSession safe settings start recorder before end None
-    → (last : Option Streamed) × HasSession safe settings start recorder before end last
+pub unkept_line : {Stream F : Type 0} {safe : F → Option (List ℕ)} (settings : RunSettings) (count : ℕ) (end : RunEnd)
+    (line : Option Streamed) (start : Start) (list : OnList) (recorder : Option (Recording F)) (before : Option Streamed) → line ≡ None
+    → HasSession Stream safe settings start list recorder before end None
+    → (last : Option Streamed) × HasSession Stream safe settings start list recorder before end last
     × (line ≡ line_left (keeps_line settings count end) last)
-unkept_line settings count end line start recorder before none session =
+unkept_line settings count end line start list recorder before none session =
     (None, session, none ∙ sym (no_line_left (keeps_line settings count end)))
 
 -- ---- the operator left it

@@ -4,7 +4,6 @@ use Rattle.std.specs.Option.{option_map}
 use Rattle.std.specs.Prelude.{◌+◌, ◌-◌, ◌<◌, ◌&&◌, Bool, true, false, if◌then◌else◌, length, nat_le, nat_lt, None, Option, Result, Ok, Err, Some, IfSome}
 use Rattle.vdcp_auto.specs.Plan.{Plan}
 use Rattle.vdcp_auto.specs.State.{State}
-use Rattle.vdcp_auto.specs.declared.outcome.Outcome.{Outcome}
 use Rattle.vdcp_drive.specs.declared.line.Ran.TheVariants as ran
 use Rattle.vdcp_journal.specs.Runs.{Run}
 use Rattle.vdcp_journal.specs.declared.row.Heading.{Heading}
@@ -18,7 +17,6 @@ use Rattle.vdcp_run.specs.Run.{BeginsBehind, CameTo, IsJournalRefused, IsPlaceRe
 use Rattle.vdcp_run.specs.declared.run_end.LineEnd.{LineEnd}
 use Rattle.vdcp_run.specs.declared.run_end.LineEnd.TheVariants as line_end
 use Rattle.vdcp_run.specs.declared.run_end.RunEnd.{RunEnd}
-use Rattle.vdcp_run.specs.declared.run_end.Signs.{Signs}
 use Rattle.vdcp_run.specs.declared.settings.RunJournal.{RunJournal}
 use Rattle.vdcp_run.specs.declared.settings.RunJournal.TheVariants as journals
 use Rattle.vdcp_run.specs.declared.settings.RunSettings.{RunSettings}
@@ -225,12 +223,12 @@ occupied_again before next (Some stay) (Some (journals.Again of)) name e again =
 occupied_again before next (Some stay) (Some (journals.Left of)) name e again =
     asks_again (nat_lt 1 before.listens) (going_on before (journals.Left of) (before.listens - 1)) next of name refl e again
 
-pub begins_behind : (before next : RunSettings) (items : List Item) (wire left : Option Streamed) (end : Result RunEnd Failure)
-    (name : Bor (List ℕ)) → CameTo before items wire end left → later_after before (length items) end ≡ Some next
+pub begins_behind : (Stream : Type 0) (before next : RunSettings) (items : List Item) (wire left : Option Streamed) (end : Result RunEnd Failure)
+    (name : Bor (List ℕ)) → CameTo Stream before items wire end left → later_after before (length items) end ≡ Some next
     → IsAnew name next.journal → BeginsBehind items end next
-begins_behind before next items wire left (Ok end) name came e again =
+begins_behind Stream before next items wire left (Ok end) name came e again =
     after_end before next (length items) before.stay before.journal end name e again
-begins_behind before next items wire left (Err failures.NotEmpty) name came e again =
+begins_behind Stream before next items wire left (Err failures.NotEmpty) name came e again =
     absurd (occupied_again before next before.stay before.journal name e again)
-begins_behind before next items wire left (Err failure) name came e again =
+begins_behind Stream before next items wire left (Err failure) name came e again =
     after_refusal before next items failure before.stay (unsure_event failure) refl refl came.0 e

@@ -279,6 +279,7 @@ module _ {W E : Type 0} (does : Act → W → W → Type 0) (fold : Fold E) (pla
   heeds_on : (c : Call) (a : Auto E) → At a.state.stage → At (heeds c a).state.stage
   heeds_on call.Take a h = h
   heeds_on call.Stop a h = h
+  heeds_on (call.List c) a h = h
 
   given_asks : (s : State) (i : Inquiring) (g : Option Command) → given plan s ≡ g → At s.stage → next_is.GoOn ≡ next_for i g
       → AskAll Asks (map keeps (given_notes g))

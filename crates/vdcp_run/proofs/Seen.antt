@@ -19,6 +19,7 @@ use Rattle.vdcp_drive.specs.declared.line.Ran.{Ran}
 use Rattle.vdcp_drive.specs.declared.hearing.Hearing.{Hearing}
 use Rattle.vdcp_drive.specs.declared.hearing.Hearing.TheVariants as hears
 use Rattle.vdcp_journal_file.specs.Recording.{Recording}
+use Rattle.vdcp_operator.specs.declared.on_list.OnList.{OnList}
 use Rattle.vdcp_run.specs.Session.{AsksFirst, HasEnded, HasHeld, HasTried, Limits, Onset, Plays, TriesBy, held, none, onset_of, played, signs_at_first, unbegun}
 use Rattle.vdcp_run.specs.Asking.{Asker, Comes, HasAsked, Start, asker_of}
 use Rattle.vdcp_run.specs.declared.run_end.LineEnd.{LineEnd}
@@ -78,7 +79,8 @@ module _ {W W' : Type 0} (does : Act → W → W → Type 0) (does' : Act → W'
       → HasAsked asker does' fold settings ear ear' (w wire) (w wire') left signs signs' line
   asked_seen fold None settings ear ear' wire wire' left signs signs' line h = (h.0, ap w h.1, h.2, h.3, h.4)
   asked_seen fold (Some asker) settings ear ear' wire wire' left signs signs' line h = record {
-    held = h.held;
+    waiting = h.waiting;
+    list = h.list;
     last = h.last;
     answer = h.answer;
     outcome = h.outcome;
@@ -90,12 +92,12 @@ module _ {W W' : Type 0} (does : Act → W → W → Type 0) (does' : Act → W'
 
   -- what is played
   module _ {F : Type 0} (safe : F → Option (List ℕ)) where
-    plays_seen : {E : Type 0} (fold : Fold E) (ear : E) (unit listens : ℕ) (signs : Signs) (start : Start)
+    plays_seen : {E : Type 0} (fold : Fold E) (ear : E) (unit listens : ℕ) (signs : Signs) (list : OnList) (start : Start)
         (world : World W (Option (Recording F))) (last : W) (end : RunEnd)
-        → Plays does safe fold ear unit listens signs start world last end
-        → Plays does' safe fold ear unit listens signs start (below world) (w last) end
+        → Plays does safe fold ear unit listens signs list start world last end
+        → Plays does' safe fold ear unit listens signs list start (below world) (w last) end
     unfolding run_seen
-    plays_seen fold ear unit listens signs start world last end plays = record {
+    plays_seen fold ear unit listens signs list start world last end plays = record {
       ran = plays.ran;
       auto = plays.auto;
       left = below plays.left;
@@ -106,12 +108,14 @@ module _ {W W' : Type 0} (does : Act → W → W → Type 0) (does' : Act → W'
       line_is = plays.line_is;
       reports = plays.reports;
       signs_are = plays.signs_are;
+      heeds = plays.heeds;
       left_is = plays.left_is;
       closed = plays.closed;
     }
 
     abbrev onset_below : {E : Type 0} → Onset E W F → Onset E W' F
-    onset_below x = record { start = x.start; ear = x.ear; world = below x.world; turns = x.turns; signs = x.signs }
+    onset_below x =
+        record { start = x.start; ear = x.ear; world = below x.world; turns = x.turns; signs = x.signs; list = x.list }
 
     asks_seen : {E : Type 0} (fold : Fold E) (settings : RunSettings) (is_held : Bool) (x : Onset E W F) (ear : E) (wire : W)
         (left : ℕ) (signs : Signs) (line : Option LineEnd) → AsksFirst does fold settings is_held x ear wire left signs line
@@ -132,7 +136,7 @@ module _ {W W' : Type 0} (does : Act → W → W → Type 0) (does' : Act → W'
         → HasEnded does safe fold settings x last end → HasEnded does' safe fold settings (onset_below x) (w last) end
     ended_seen fold settings x last end (played is_held ear wire left signs first plays) =
         played is_held ear (w wire) left signs (asks_seen fold settings is_held x ear wire left signs None first)
-        (plays_seen fold ear settings.unit left signs x.start (record x.world { wire = wire }) last end plays)
+        (plays_seen fold ear settings.unit left signs x.list x.start (record x.world { wire = wire }) last end plays)
     ended_seen fold settings x last end (unbegun is_held ear left signs line first is reports) =
         unbegun is_held ear left signs line (asks_seen fold settings is_held x ear last left signs (Some line) first) is reports
 
@@ -144,14 +148,14 @@ module _ {W W' : Type 0} (does : Act → W → W → Type 0) (does' : Act → W'
       ended = ended_seen fold settings tried.onset last end tried.ended;
     }
 
-    pub tries_by_seen : (hearing : Hearing) (settings : RunSettings) (start : Start)
+    pub tries_by_seen : (hearing : Hearing) (settings : RunSettings) (start : Start) (list : OnList)
         (world : World W (Option (Recording F))) (last : W) (end : RunEnd)
-        → TriesBy hearing does safe settings start world last end
-        → TriesBy hearing does' safe settings start (below world) (w last) end
-    tries_by_seen hears.AtSilences settings start world last end tries =
-        tries_seen ears.at_silences settings (onset_of start (ears.begun (holds [])) world settings.listens signs_at_first) last end tries
-    tries_by_seen hears.AtOnce settings start world last end tries =
-        tries_seen ears.at_once settings (onset_of start (holds []) world settings.listens signs_at_first) last end tries
+        → TriesBy hearing does safe settings start list world last end
+        → TriesBy hearing does' safe settings start list (below world) (w last) end
+    tries_by_seen hears.AtSilences settings start list world last end tries = tries_seen ears.at_silences settings
+        (onset_of start (ears.begun (holds [])) world settings.listens signs_at_first list) last end tries
+    tries_by_seen hears.AtOnce settings start list world last end tries =
+        tries_seen ears.at_once settings (onset_of start (holds []) world settings.listens signs_at_first list) last end tries
 
 -- ---- a connection
 

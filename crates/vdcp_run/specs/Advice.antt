@@ -7,7 +7,7 @@ use Rattle.vdcp_auto.specs.declared.phase.Mode.TheVariants.{Plain, Confirming}
 use Rattle.vdcp_run.specs.Run.{journal_left, name_of, told_outcome}
 use Rattle.vdcp_run.specs.declared.advice.Advice.{Advice}
 use Rattle.vdcp_run.specs.declared.advice.Next.{Next}
-use Rattle.vdcp_run.specs.declared.advice.Next.TheVariants.{Resume, OpenAgain, LoadedAgain, From, Loaded}
+use Rattle.vdcp_run.specs.declared.advice.Next.TheVariants.{Resume, Stay, OpenAgain, LoadedAgain, From, Loaded}
 use Rattle.vdcp_run.specs.declared.advice.Reason.{Reason}
 use Rattle.vdcp_run.specs.declared.advice.Reason.TheVariants as reasons
 use Rattle.vdcp_run.specs.declared.run_end.LineEnd.{LineEnd}
@@ -58,13 +58,23 @@ reason_with mode signs missing (Some (Refused k)) =
 reason_with mode signs missing (Some (Foreign k)) = Some (reasons.Foreign k)
 reason_with mode signs missing (Some (Strange k)) = Some (reasons.Strange k)
 
--- nothing was heard of the server for as long as a run that stays tries; or what the outcome means
+-- nothing was heard of the server for as long as a run that stays tries, the port isn't open any more, or the next event is left out;
+-- or what the outcome means
 abbrev pub reason_by : Mode → LineEnd → RunEnd → Option Reason
 reason_by mode (line_end.NotBegun why.GivenUp) end = Some reasons.Unreached
+reason_by mode (line_end.NotBegun why.Unheard) end = Some reasons.Unreached
+reason_by mode (line_end.NotBegun why.Unopened) end = Some reasons.Unopened
+reason_by mode (line_end.LeftOut kept) end = Some (reasons.LeftOut end.reported)
 reason_by mode line end = reason_with mode end.signs end.missing (told_outcome line end.outcome)
 
 abbrev pub reason_of : Mode → RunEnd → Option Reason
 reason_of mode end = reason_by mode end.line end
+
+-- after an event that is left out a run goes on if it stays; a port that isn't open is opened again; else as the outcome says
+abbrev pub next_by : LineEnd → Option Outcome → Option RunJournal → ℕ → Option Next
+next_by (line_end.LeftOut kept) outcome (Some journal) reported = Some (Stay (name_of journal))
+next_by (line_end.NotBegun why.Unopened) outcome journal reported = next_after (Some Denied) journal reported
+next_by line outcome journal reported = next_after (told_outcome line outcome) journal reported
 
 abbrev pub advice_of : Option Reason → Option Next → Option Advice
 advice_of reason None = None
@@ -72,7 +82,7 @@ advice_of reason (Some next) = Some (record { reason = reason; next = next })
 
 abbrev pub advice_after : RunSettings → RunEnd → Option Advice
 advice_after settings end = advice_of (reason_of settings.mode end)
-    (next_after (told_outcome end.line end.outcome) (journal_left end.unkept settings.journal) end.reported)
+    (next_by end.line end.outcome (journal_left end.unkept settings.journal) end.reported)
 
 -- the clip that the server doesn't have, if that ended the controller of these items
 abbrev pub missing_in : List Item → Option Outcome → Option ClipId

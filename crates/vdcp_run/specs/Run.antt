@@ -2,7 +2,7 @@
 use Rattle.std.specs.Borrow.{Bor}
 use Rattle.std.specs.declared.fs.File.{File as StdFile}
 use Rattle.std.specs.Option.{option_map}
-use Rattle.std.specs.Prelude.{ℕ, ◌≡◌, ◌⊎◌, ◌+◌, ◌-◌, ◌*◌, ◌<◌, ◌≤◌, Bool, true, false, not, ◌&&◌, ◌||◌, is_some, min, nat_le, nat_lt, List, drop, length, take, Option, None, Some, unwrap_or, Result, Ok, Err, IfSome, IsSome, if◌then◌else◌}
+use Rattle.std.specs.Prelude.{ℕ, ◌≡◌, ◌⊎◌, ◌+◌, ◌-◌, ◌*◌, ◌<◌, ◌≤◌, Bool, true, false, not, ◌&&◌, ◌||◌, is_some, min, nat_le, nat_lt, List, [], drop, length, take, Option, None, Some, unwrap_or, Result, Ok, Err, IfSome, IsSome, if◌then◌else◌}
 use Rattle.vdcp_value.specs.declared.part.Item.{Item}
 use Rattle.vdcp_value.specs.declared.rate.Rate.{Rate}
 use Rattle.vdcp_auto.specs.Course.{Reached}
@@ -15,6 +15,7 @@ use Rattle.vdcp_auto.specs.declared.outcome.Outcome.TheVariants.{Done, Stopped, 
 use Rattle.vdcp_auto.specs.declared.phase.Mode.{Mode}
 use Rattle.vdcp_auto.specs.declared.phase.Mode.TheVariants.{Plain, Confirming}
 use Rattle.vdcp_auto.specs.State.{State}
+use Rattle.vdcp_auto.specs.declared.list_call.ListCall.{ListCall}
 use Rattle.vdcp_drive.specs.declared.hearing.Hearing.{Hearing}
 use Rattle.vdcp_drive.specs.declared.hearing.Hearing.TheVariants as hears
 use Rattle.vdcp_drive.specs.declared.line.Ran.TheVariants as ran
@@ -29,12 +30,15 @@ use Rattle.vdcp_list.specs.Playlists.{IsListOf}
 use Rattle.vdcp_list.specs.Rests.{FromEvent}
 use Rattle.vdcp_list.specs.Rows.{FileBytes}
 use Rattle.vdcp_journal_file.specs.Recording.{BeganWith, IsTimedOut, IsUnbegun, Recording}
-use Rattle.vdcp_journal_file.specs.Resuming.{beginning_note, IsOpenedAgain, IsReplayed, IsUnopenedAgain, IsUnresumed, next_event, open_after, plan_of_run}
+use Rattle.vdcp_journal_file.specs.Resuming.{beginning_note, IsOpenedAgain, IsReplayed, IsUnopenedAgain, IsUnresumed, JournalShows, next_event, open_after, plan_of_run}
 use Rattle.vdcp_journal_file.specs.Showing.{IsAsrunOf, digest_of}
 use Rattle.vdcp_journal_file.specs.declared.again.Beginning.{Beginning}
 use Rattle.vdcp_journal_file.specs.declared.again.Beginning.TheVariants as beginnings
 use Rattle.vdcp_journal_file.specs.declared.pending.RecordFault.{RecordFault}
 use Rattle.vdcp_journal_file.specs.declared.pending.RecordFault.TheVariants as records
+use Rattle.vdcp_journal_file.specs.declared.reading.RunAirings.{RunAirings}
+use Rattle.vdcp_operator.specs.OnList.{list_by, sparing_each}
+use Rattle.vdcp_operator.specs.declared.on_list.OnList.{OnList}
 use Rattle.vdcp_run.specs.Asking.{Start}
 use Rattle.vdcp_run.specs.Ends.{is_unplayable}
 use Rattle.vdcp_run.specs.Session.{HasSession}
@@ -84,14 +88,18 @@ line_failure line_end.Unkept = None
 line_failure (line_end.NotBegun why.Occupied) = Some failures.NotEmpty
 line_failure (line_end.NotBegun why.Unanswered) = None
 line_failure (line_end.NotBegun why.Stopped) = None
+line_failure (line_end.NotBegun why.Unopened) = None
 line_failure (line_end.NotBegun why.GivenUp) = Some failures.Connect
+line_failure (line_end.NotBegun why.Unheard) = Some failures.Unanswered
 line_failure (line_end.LeftOut kept) = Some failures.Spent
 
--- how the run ended, as it is told: a port that didn't answer its questions, or not for too long, is lost, and a run that the
--- operator stopped without a command is stopped
+-- how the run ended, as it is told: a port that didn't answer its questions, or not for too long, or isn't open any more, is lost, and
+-- a run that the operator stopped without a command is stopped
 abbrev pub told_outcome : LineEnd → Option Outcome → Option Outcome
 told_outcome (line_end.NotBegun why.Unanswered) outcome = Some Lost
+told_outcome (line_end.NotBegun why.Unopened) outcome = Some Lost
 told_outcome (line_end.NotBegun why.GivenUp) outcome = Some Lost
+told_outcome (line_end.NotBegun why.Unheard) outcome = Some Lost
 told_outcome (line_end.NotBegun why.Stopped) outcome = Some Stopped
 told_outcome line outcome = outcome
 
@@ -107,6 +115,7 @@ name_of (journals.Left name) = name
 -- it ended by its line: the controller was lost, or else the line closed or failed before that had ended
 abbrev pub is_by_line : LineEnd → Option Outcome → Bool
 is_by_line (line_end.NotBegun why.GivenUp) outcome = false
+is_by_line (line_end.NotBegun why.Unheard) outcome = false
 is_by_line line (Some Lost) = true
 is_by_line (line_end.Ran ran.Closed) None = true
 is_by_line line_end.Failed None = true
@@ -116,8 +125,9 @@ is_by_line line outcome = false
 abbrev pub turns_left : RunSettings → RunEnd → ℕ
 turns_left settings end = min end.left (settings.listens - 1)
 
--- the controller was refused: by NAK 01, or by a port that is denied
+-- the controller was refused, or what asked before: by NAK 01, or by a port that is denied
 abbrev pub is_refused : LineEnd → Option Outcome → Bool
+is_refused (line_end.NotBegun why.Unopened) outcome = true
 is_refused (line_end.Ran ran.Ended) (Some Denied) = true
 is_refused (line_end.Ran ran.Ended) (Some (Refused k)) = true
 is_refused line outcome = false
@@ -472,17 +482,29 @@ HasRecorder unit None state recorder = recorder ≡ None
 HasRecorder unit (Some journal) state None = IsSome (outcome_of state.stage)
 HasRecorder unit (Some journal) state (Some recorder) = (recorder.name ≡ name_of journal) × (recorder.unit ≡ unit)
 
+-- The journal of a run of these items said this of the list before, call by call; a new one nothing.
+abbrev pub SaysOfList : RunSettings → List Item → Option RunJournal → List ListCall → Type 0
+SaysOfList settings items None calls = calls ≡ []
+SaysOfList settings items (Some (journals.New name)) calls = calls ≡ []
+SaysOfList settings items (Some journal) calls = (lines : FileBytes) × (runs : List RunAirings)
+    × JournalShows items (heading_for settings items) lines runs calls
+
 -- How a try of these items with these settings ended: a session played them from one on, over the wire that the try before left,
--- if it left one. If it has a journal, its controller begins as that says, and its exchanges were kept there. To the next try it
--- left this wire, if any.
-pub record IsTried (settings : RunSettings) (items : List Item) (before : Option Streamed) (end : RunEnd)
+-- if it left one. If it has a journal, its controller begins as that says, and its exchanges were kept there. The operator's calls on
+-- the list are those of the journal, but for the one that is wanted, and what the process heeded before. To the next
+-- try it left this wire, if any.
+pub record IsTried (Stream : Type 0) (settings : RunSettings) (items : List Item) (before : Option Streamed) (end : RunEnd)
     (left : Option Streamed) : Type 0 where
   pub start : Start
   pub recorder : Option (Recording StdFile)
   pub begun : IsBegun settings items settings.journal start recorder
   pub kept : HasRecorder settings.unit settings.journal start.state recorder
   pub last : Option Streamed
-  pub session : HasSession (λ file. None) settings start recorder before end last
+  pub calls : List ListCall
+  pub said : SaysOfList settings items settings.journal calls
+  pub heeded : OnList
+  pub session : HasSession Stream (λ file. None) settings start (list_by (sparing_each settings.wanted calls) heeded) recorder before end
+      last
   pub left_is : left ≡ line_left (keeps_line settings (length items) end) last
   pub asrun : HasAsrun settings items end
 
@@ -494,9 +516,9 @@ pub data IsUntried (settings : RunSettings) (items : List Item) (failure : Failu
   occupied : failure ≡ failures.NotEmpty → IsUntried settings items failure
 
 -- what a try came to, and the wire that it left
-abbrev pub CameTo : RunSettings → List Item → (before : Option Streamed) → Result RunEnd Failure → (left : Option Streamed) → Type 0
-CameTo settings items before (Ok end) left = IsTried settings items before end left
-CameTo settings items before (Err failure) left = IsUntried settings items failure × (left ≡ None)
+abbrev pub CameTo : (Stream : Type 0) → RunSettings → List Item → (before : Option Streamed) → Result RunEnd Failure → (left : Option Streamed) → Type 0
+CameTo Stream settings items before (Ok end) left = IsTried Stream settings items before end left
+CameTo Stream settings items before (Err failure) left = IsUntried settings items failure × (left ≡ None)
 
 -- the run sends an event again that may have aired
 abbrev pub SendsAgain : Option Staying → Type 0
@@ -515,27 +537,27 @@ BeginsBehind items (Err failure) next = (lines : FileBytes) × (run : Run) × (e
 
 -- with which settings and over which wire, if there is one yet, a run tries: with its own first, and then with those that follow
 -- from what the last try came to, over the wire that it left
-pub data IsTry (settings : RunSettings) (items : List Item) : RunSettings → Option Streamed → Type 0 where
-  first : IsTry settings items settings None
-  later : {before next : RunSettings} {wire left : Option Streamed} → IsTry settings items before wire
-      → (end : Result RunEnd Failure) → CameTo before items wire end left → later_after before (length items) end ≡ Some next
-      → IsTry settings items next left
+pub data IsTry (Stream : Type 0) (settings : RunSettings) (items : List Item) : RunSettings → Option Streamed → Type 0 where
+  first : IsTry Stream settings items settings None
+  later : {before next : RunSettings} {wire left : Option Streamed} → IsTry Stream settings items before wire
+      → (end : Result RunEnd Failure) → CameTo Stream before items wire end left → later_after before (length items) end ≡ Some next
+      → IsTry Stream settings items next left
 
 -- this is the end of a try that it made with these settings
-pub record EndsTry (settings : RunSettings) (items : List Item) (last : RunSettings) (end : RunEnd) : Type 0 where
+pub record EndsTry (Stream : Type 0) (settings : RunSettings) (items : List Item) (last : RunSettings) (end : RunEnd) : Type 0 where
   pub wire : Option Streamed
-  pub tries : IsTry settings items last wire
+  pub tries : IsTry Stream settings items last wire
   pub left : Option Streamed
-  pub tried : IsTried last items wire end left
+  pub tried : IsTried Stream last items wire end left
 
 -- this is the end of one of its tries
-abbrev pub IsEarlier : RunSettings → List Item → RunEnd → Type 0
-IsEarlier settings items end = (with_settings : RunSettings) × EndsTry settings items with_settings end
+abbrev pub IsEarlier : (Stream : Type 0) → RunSettings → List Item → RunEnd → Type 0
+IsEarlier Stream settings items end = (with_settings : RunSettings) × EndsTry Stream settings items with_settings end
 
 -- this is the end of its last try, after which it doesn't try again
-pub record IsLastTry (settings : RunSettings) (items : List Item) (end : RunEnd) : Type 0 where
+pub record IsLastTry (Stream : Type 0) (settings : RunSettings) (items : List Item) (end : RunEnd) : Type 0 where
   pub last : RunSettings
-  pub ends : EndsTry settings items last end
+  pub ends : EndsTry Stream settings items last end
   pub over : later_of last (length items) end ≡ None
 
 -- the last of two ends, if there is one
@@ -544,34 +566,34 @@ latest_end (Ok end) earlier = Some end
 latest_end (Err failure) earlier = earlier
 
 -- Its last try came to nothing, and it doesn't try again. This is the end of one before, with the as-run file of its journal.
-pub record CameToNothing (settings : RunSettings) (items : List Item) (failure : Failure) (end : RunEnd) : Type 0 where
+pub record CameToNothing (Stream : Type 0) (settings : RunSettings) (items : List Item) (failure : Failure) (end : RunEnd) : Type 0 where
   pub last : RunSettings
   pub wire : Option Streamed
-  pub tries : IsTry settings items last wire
+  pub tries : IsTry Stream settings items last wire
   pub untried : IsUntried last items failure
   pub over : later_after last (length items) (Err failure) ≡ None
   pub before : RunEnd
-  pub earlier : IsEarlier settings items before
+  pub earlier : IsEarlier Stream settings items before
   pub end_is : end ≡ record before { asrun = end.asrun; failed = Some failure }
   pub asrun : IfSome last.journal (λ journal. IsAsrunMade last.rate (Some (journals.Again (name_of journal))) items end.from
       end.reported last.asrun end.asrun)
 
-abbrev pub IsEndWith : RunSettings → List Item → Option Failure → RunEnd → Type 0
-IsEndWith settings items None end = IsLastTry settings items end
-IsEndWith settings items (Some failure) end = CameToNothing settings items failure end
+abbrev pub IsEndWith : (Stream : Type 0) → RunSettings → List Item → Option Failure → RunEnd → Type 0
+IsEndWith Stream settings items None end = IsLastTry Stream settings items end
+IsEndWith Stream settings items (Some failure) end = CameToNothing Stream settings items failure end
 
 -- this is the run's end
-abbrev pub IsEnd : RunSettings → List Item → RunEnd → Type 0
-IsEnd settings items end = IsEndWith settings items end.failed end
+abbrev pub IsEnd : (Stream : Type 0) → RunSettings → List Item → RunEnd → Type 0
+IsEnd Stream settings items end = IsEndWith Stream settings items end.failed end
 
 -- the file is a playlist, and this is the end of a controller that plays it, from an event on
-pub record IsPlayed (settings : RunSettings) (list : File) (end : RunEnd) : Type 0 where
+pub record IsPlayed (Stream : Type 0) (settings : RunSettings) (list : File) (end : RunEnd) : Type 0 where
   pub items : List Item
   pub lists : IsListOf settings.rate (bytes_of list) items
-  pub plays : IsEnd settings items end
+  pub plays : IsEnd Stream settings items end
 
 -- the list was played to its end, or until the operator stopped, and nothing failed
-pub record IsRun (settings : RunSettings) (list : File) : Type 0 where
+pub record IsRun (Stream : Type 0) (settings : RunSettings) (list : File) : Type 0 where
   pub end : RunEnd
-  pub played : IsPlayed settings list end
+  pub played : IsPlayed Stream settings list end
   pub whole : run_status end ≡ 0

@@ -1,5 +1,8 @@
 -- How long the first event is cued until that is told.
-use Rattle.std.specs.Prelude.{ℕ, ◌-◌, Bool, true, false, nat_lt, if◌then◌else◌}
+use Rattle.std.specs.Prelude.{ℕ, ◌-◌, Bool, true, false, nat_lt, if◌then◌else◌, Option, Some}
+use Rattle.vdcp_auto.specs.Replies.{is_done}
+use Rattle.vdcp_auto.specs.declared.exchange.Heard.{Heard}
+use Rattle.vdcp_auto.specs.declared.exchange.Heard.TheVariants as heard
 use Rattle.vdcp_drive.specs.declared.hearing.Hearing.{Hearing}
 use Rattle.vdcp_drive.specs.declared.hearing.Hearing.TheVariants as hears
 use Rattle.vdcp_run.specs.declared.stalling.Stall.{Stall}
@@ -9,6 +12,11 @@ use Rattle.vdcp_run.specs.declared.stalling.Stall.TheVariants.{Nothing, Since, T
 abbrev pub first_stall : Hearing → Stall
 first_stall hears.AtSilences = Told
 first_stall hears.AtOnce = Nothing
+
+-- a state that shows the cue done ends it
+abbrev pub stall_heard : Option Heard → Stall → Stall
+stall_heard (Some (heard.Reply r)) (Since begun) = if is_done r then Nothing else Since begun
+stall_heard h stall = stall
 
 -- five seconds after it was first seen so it is told, once
 abbrev pub stall_after : (cues : Bool) → Stall → (now : ℕ) → Stall

@@ -1,6 +1,6 @@
 //! What an operator is told of a run that didn't end as it was to: how it came to that, and what to type next.
 ghost use Rattle.std.specs.Prelude.{◌≡◌, None, Some, ℕ};
-ghost use Rattle.vdcp_run.specs.Advice.{advice_after, next_after, reason_of};
+ghost use Rattle.vdcp_run.specs.Advice.{advice_after, next_after, next_by, reason_of};
 ghost use Rattle.vdcp_run.specs.declared.advice.Next.TheVariants as next;
 
 use crate::lack::journal_left;
@@ -34,6 +34,10 @@ pub enum Reason {
     Unheard,
     /// Nothing was heard of the server for as long as the run tries.
     Unreached,
+    /// NAK 01h came for a question before the run went on.
+    Unopened,
+    /// The operator leaves out this event, and the run doesn't stay.
+    LeftOut(usize),
     Lost,
 }
 
@@ -41,6 +45,8 @@ pub enum Reason {
 pub enum Next<'a> {
     /// Go on with this journal.
     Resume(&'a str),
+    /// The same, in a run that stays.
+    Stay(&'a str),
     /// Go on after this journal's last run, and open the port again.
     OpenAgain(&'a str),
     /// The same once the server has the clip of this event, or without the event.
@@ -57,7 +63,7 @@ impl<'a> Advice<'a> {
         ensures { result ≡ advice_after settings.entry end.now }
     {
         let journal = journal_left(end.unkept, settings.journal);
-        match Next::after(end.told_outcome(), journal, end.reported) {
+        match Next::behind(end, journal) {
             Some(next) => Some(Advice {
                 reason: Reason::of(end, settings.mode),
                 next,
@@ -82,6 +88,18 @@ impl<'a> Advice<'a> {
 }
 
 impl<'a> Next<'a> {
+    fn behind(end: &RunEnd<'_>, journal: Option<RunJournal<'a>>) -> Option<Next<'a>>
+        ensures { result ≡ next_by end.now.line end.now.outcome journal.entry end.now.reported }
+    {
+        match (end.line, journal) {
+            (LineEnd::LeftOut(_), Some(journal)) => Some(Next::Stay(journal.name())),
+            (LineEnd::NotBegun(Why::Unopened), journal) => {
+                Next::after(Some(Outcome::Denied), journal, end.reported)
+            }
+            (_, journal) => Next::after(end.told_outcome(), journal, end.reported),
+        }
+    }
+
     fn after(
         outcome: Option<Outcome>,
         journal: Option<RunJournal<'a>>,
@@ -107,8 +125,11 @@ impl Reason {
     fn of(end: &RunEnd<'_>, mode: Mode) -> Option<Reason>
         ensures { result ≡ reason_of mode end.now }
     {
-        if end.line == LineEnd::NotBegun(Why::GivenUp) {
-            return Some(Reason::Unreached);
+        match end.line {
+            LineEnd::NotBegun(Why::GivenUp | Why::Unheard) => return Some(Reason::Unreached),
+            LineEnd::NotBegun(Why::Unopened) => return Some(Reason::Unopened),
+            LineEnd::LeftOut(_) => return Some(Reason::LeftOut(end.reported)),
+            LineEnd::Ran(_) | LineEnd::Failed | LineEnd::Unkept | LineEnd::NotBegun(_) => {}
         }
         let loses_cues = end.signs.cueing || mode == Mode::Confirming;
         match end.told_outcome()? {
@@ -174,6 +195,11 @@ impl fmt::Display for Reason {
                 f,
                 "nothing was heard of the server for as long as --stay says"
             ),
+            Reason::Unopened => write!(
+                f,
+                "the port isn't open any more: was the server restarted?"
+            ),
+            Reason::LeftOut(event) => write!(f, "event {event} is left out by hand"),
             Reason::Lost => write!(
                 f,
                 "the last commands had no answer: has the server stopped, or was the line cut? What is on air isn't known until it answers again"
@@ -186,6 +212,7 @@ impl fmt::Display for Next<'_> {
     fn fmt<W: fmt::Write>(&self, f: &mut fmt::Formatter<W>) -> fmt::Result {
         match *self {
             Next::Resume(name) => write!(f, "go on with --resume {}", NameText(name)),
+            Next::Stay(name) => write!(f, "go on with --resume {} --stay", NameText(name)),
             Next::OpenAgain(name) => {
                 write!(f, "go on with --resume {} --open-again", NameText(name))
             }

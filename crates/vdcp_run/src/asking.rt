@@ -5,18 +5,19 @@ ghost use Rattle.std.specs.Prelude.{◌≡◌, ◌≢◌, ◌≤◌, Bool, Err, 
 ghost use Rattle.vdcp_auto.specs.Plan.{View, plan_of};
 ghost use Rattle.vdcp_auto.specs.Turn as turns;
 ghost use Rattle.vdcp_list.specs.Rests.{FromEvent, items_left};
-ghost use Rattle.vdcp_operator.specs.Hands.{Asks as AsksHand, holds_play};
+ghost use Rattle.vdcp_operator.specs.Hands.{Asks as AsksHand, ends_by, holds_back};
 ghost use Rattle.vdcp_run.specs.declared.asking.Purpose.{Purpose};
-ghost use Rattle.vdcp_run.specs.Asking.{Comes, HasAsked, asker_of, asking, held_line, is_answered, is_called_off, is_opening, is_question, left_line, line_of, may_ask, over, ran_line, signs_asked, start_of};
+ghost use Rattle.vdcp_run.specs.Asking.{Comes, HasAsked, asker_of, asking, is_answered, is_called_off, is_opening, is_question, left_line, line_of, may_ask, over, ran_line, refused_line, signs_asked, start_of, waiting_line};
 
 use crate::console::Console;
 use crate::run_end::{LineEnd, Signs, Why};
 use crate::settings::RunSettings;
 use std::io;
 use std::rt::{Clock, Files};
-use vdcp_auto::{Controller, Heard, Outcome, Phase, Snapshot, Source, Standing};
+use vdcp_auto::{Controller, Heard, Mode, Outcome, Phase, Snapshot, Source, Standing};
 use vdcp_drive::{BrokenOff, Call, Driver, Ear, Hooks, KeepFault, Next, Ran};
 use vdcp_list::Rest;
+use vdcp_operator::{Ender, Said};
 use vdcp_wire::Wire;
 use vdcp_words::{Command, Reply};
 
@@ -24,9 +25,11 @@ use vdcp_words::{Command, Reply};
 pub enum Purpose {
     /// Whether something is cued or plays there. The operator's stop ends the asking.
     Vacancy,
-    /// When the clip before ends. Each call ends the asking.
+    /// In confirm mode, whether the server still has the port open. A take or stop ends the asking.
+    Port,
+    /// When the clip before ends. A take or stop ends the asking.
     ClipEnd,
-    /// What the port does while a PLAY is held. Each call ends the asking.
+    /// What the port does while the operator holds back what is cued. Each call ends the asking.
     Hold,
 }
 
@@ -75,8 +78,9 @@ impl<
     V: io::Write + Drop,
 > Console<'r, 'l, R, I, O, V> {
     /// If OPEN is next and the settings want it, asks whether the port is empty; before a PLAY that may have been lost is
-    /// sent again, asks when the clip before ends; before a PLAY that the operator holds, asks for the state. Only OPEN,
-    /// SELECT and STATUS go out; the operator's calls are held.
+    /// sent again, asks when the clip before ends; while the operator holds back what is cued, asks for the state; and in confirm
+    /// mode, where that is asked next, whether the port is open, since an automation that asks hears that it isn't. Only OPEN,
+    /// SELECT and STATUS go out; the operator's calls wait.
     pub fn ask_first<S: Source + Copy, E: Ear + Drop, W: Wire + Drop>(
         self,
         controller: &Controller<Rest<S>>,
@@ -87,12 +91,13 @@ impl<
     ) -> Asked<E, W, Self>
         requires unit { settings.unit ≤ 15 }
         requires works { W.failures wire ≡ 0 }
-        ensures asks { HasAsked (asker_of settings.entry.ask (holds_play self.entry.hand.holds controller.now.state)
+        ensures asks { HasAsked (asker_of settings.entry.ask (holds_back self.entry.hand.list.holds controller.now.state)
             (start_of S.items controller.now)) W.does E.fold settings.entry ear result.ear wire result.wire result.left
             signs result.signs result.line }
         ensures works { result.line ≢ Some LineEnd.Failed → W.failures result.wire ≡ 0 }
+        ensures list { result.console.hand.list ≡ self.entry.hand.list }
     {
-        let holds = self.hand.holds_play(controller);
+        let holds = self.hand.holds_back(controller);
         let Some((purpose, asker)) = asker_of(controller, settings.ask, holds) else {
             return Asked {
                 line: None,
@@ -137,14 +142,19 @@ fn asker_of<S: Source + Copy>(
     let snapshot = controller.snapshot();
     let rest = controller.source();
     let whole = *rest.whole();
-    let waits = match snapshot.standing {
-        Standing::Ready(Phase::Probe(event)) => Some((Purpose::ClipEnd, event)),
-        Standing::Ready(Phase::Play(event)) if holds => Some((Purpose::Hold, event)),
+    let waits = match (snapshot.standing, snapshot.mode) {
+        (Standing::Ready(Phase::Probe(event)), _) => Some((Purpose::ClipEnd, event)),
+        (Standing::Ready(Phase::Wait(event) | Phase::Play(event)), _) if holds => {
+            Some((Purpose::Hold, event))
+        }
+        (Standing::Ready(Phase::Wait(event)), Mode::Confirming) => Some((Purpose::Port, event)),
         _ => None,
     };
     if let Some((purpose, event)) = waits {
+        // (there NAK 01h ends an exchange)
         let waits = Snapshot {
             standing: Standing::Ready(Phase::Wait(event)),
+            mode: Mode::Plain,
             ..snapshot
         };
         let asker = Controller::of_snapshot(Rest::new(whole, rest.from()), &waits);
@@ -187,18 +197,21 @@ impl<
             (plan_of (items_left S.items) asker) settings.entry.unit settings.entry.listens asker.state ear result.ear
             (over wire (record {
               purpose = self.old.purpose;
-              held = self.old.console.hand.held;
+              waiting = self.old.console.hand.waiting.items;
+              list = self.old.console.hand.list;
               state = self.old.state;
               left = self.old.left;
               signs = self.old.signs;
             })) (over result.wire (record {
               purpose = self.new.purpose;
-              held = self.new.console.hand.held;
+              waiting = self.new.console.hand.waiting.items;
+              list = self.new.console.hand.list;
               state = self.new.state;
               left = self.new.left;
               signs = self.new.signs;
             })) result.ran result.outcome }
         ensures works { result.ran ≢ Err BrokenOff.Device → W.failures result.wire ≡ 0 }
+        ensures list { self.new.console.hand.list ≡ self.old.console.hand.list }
     {
         let driver = Driver::with_ear(asker, settings.unit, ear, wire);
         run_by(driver, settings.listens, self)
@@ -207,7 +220,8 @@ impl<
     fn may_ask(&self, command: Option<Command>) -> bool
         ensures { result ≡ may_ask (record {
           purpose = self.now.purpose;
-          held = self.now.console.hand.held;
+          waiting = self.now.console.hand.waiting.items;
+          list = self.now.console.hand.list;
           state = self.now.state;
           left = self.now.left;
           signs = self.now.signs;
@@ -223,44 +237,51 @@ impl<
         ensures { result ≡ is_answered self.now.purpose self.now.state }
     {
         match self.purpose {
-            Purpose::Vacancy => self.state.is_some(),
+            Purpose::Vacancy | Purpose::Port => self.state.is_some(),
             Purpose::ClipEnd | Purpose::Hold => false,
         }
     }
 
     fn is_called_off(&self) -> bool
-        ensures { result ≡ is_called_off self.now.purpose self.now.console.hand.held }
+        ensures { result ≡ is_called_off self.now.purpose self.now.console.hand.waiting.items }
     {
-        match (self.purpose, self.console.hand.held) {
-            (Purpose::Vacancy, held) => held == Some(Call::Stop),
-            (Purpose::ClipEnd | Purpose::Hold, held) => held.is_some(),
+        let hand = &self.console.hand;
+        match self.purpose {
+            Purpose::Vacancy => hand.held() == Some(Said::Stop),
+            // (a list call would send a PLAY again that the clip before would have to end for)
+            Purpose::Port | Purpose::ClipEnd => hand.is_called(),
+            Purpose::Hold => hand.held().is_some(),
         }
     }
 
-    // While the end of a clip is awaited or a PLAY is held, this waits until the state may be asked again.
+    // Unless the port is to be empty, this waits until the state may be asked again.
     fn heed(&mut self, asker: &Controller<Rest<S>>)
         ensures purpose { self.new.purpose ≡ self.old.purpose }
         ensures state { self.new.state ≡ self.old.state }
         ensures left { self.new.left ≡ self.old.left }
         ensures signs { self.new.signs ≡ self.old.signs }
-        ensures asks { self.old.purpose ≡ Purpose.Hold → self.old.console.hand.held ≡ None →
-            AsksHand S.items I.remaining asker.now self.old.console.hand.holds self.old.console.hand.page
-            self.old.console.hand.typed self.new.console.hand.held self.new.console.hand.holds self.new.console.hand.page
-            self.new.console.hand.typed }
+        ensures list { self.new.console.hand.list ≡ self.old.console.hand.list }
+        ensures asks { self.old.purpose ≡ Purpose.Hold → AsksHand (ends_by Ender.Each) S.items I.remaining asker.now
+            self.old.console.hand.list self.old.console.hand.waiting.items self.old.console.hand.page self.old.console.hand.typed
+            self.new.console.hand.waiting.items self.new.console.hand.page self.new.console.hand.typed }
     {
         match self.purpose {
             Purpose::Vacancy => {
                 self.console.hand.heed(self.controller);
             }
-            Purpose::ClipEnd => self.console.hand.held = self.console.hand.call(self.controller),
-            Purpose::Hold => self.console.hand.held = self.console.hand.call(asker),
+            Purpose::Port | Purpose::ClipEnd => self
+                .console
+                .hand
+                .await_poll(self.controller, Ender::TakeOrStop),
+            Purpose::Hold => self.console.hand.await_poll(asker, Ender::Each),
         }
     }
 
     fn line_of(&self, ran: Result<Ran, BrokenOff>, outcome: Option<Outcome>) -> Option<LineEnd>
         ensures { result ≡ line_of (record {
           purpose = self.now.purpose;
-          held = self.now.console.hand.held;
+          waiting = self.now.console.hand.waiting.items;
+          list = self.now.console.hand.list;
           state = self.now.state;
           left = self.now.left;
           signs = self.now.signs;
@@ -270,8 +291,9 @@ impl<
             (Err(BrokenOff::Device | BrokenOff::Unkept), _) => Some(LineEnd::Failed),
             (Err(BrokenOff::Left), Purpose::Vacancy) => self.left_line(),
             (Ok(ran), Purpose::Vacancy) => ran_line(ran, outcome),
-            (Ok(ran), Purpose::Hold) => held_line(ran, outcome),
-            (_, Purpose::ClipEnd | Purpose::Hold) => None,
+            (Ok(ran), Purpose::Port | Purpose::Hold) => waiting_line(ran, outcome),
+            (Ok(Ran::Ended), Purpose::ClipEnd) => refused_line(outcome),
+            (_, Purpose::Port | Purpose::ClipEnd | Purpose::Hold) => None,
         }
     }
 
@@ -290,7 +312,8 @@ impl<
     fn left_line(&self) -> Option<LineEnd>
         ensures { result ≡ left_line (record {
           purpose = self.now.purpose;
-          held = self.now.console.hand.held;
+          waiting = self.now.console.hand.waiting.items;
+          list = self.now.console.hand.list;
           state = self.now.state;
           left = self.now.left;
           signs = self.now.signs;
@@ -319,13 +342,22 @@ fn ran_line(ran: Ran, outcome: Option<Outcome>) -> Option<LineEnd>
     }
 }
 
-fn held_line(ran: Ran, outcome: Option<Outcome>) -> Option<LineEnd>
-    ensures { result ≡ held_line ran outcome }
+fn waiting_line(ran: Ran, outcome: Option<Outcome>) -> Option<LineEnd>
+    ensures { result ≡ waiting_line ran outcome }
 {
     match (ran, outcome) {
         (Ran::Closed | Ran::Spent, _) => Some(LineEnd::Ran(ran)),
         (Ran::Ended, Some(Outcome::Lost)) => Some(LineEnd::NotBegun(Why::Unanswered)),
-        (Ran::Ended, _) => None,
+        (Ran::Ended, _) => refused_line(outcome),
+    }
+}
+
+fn refused_line(outcome: Option<Outcome>) -> Option<LineEnd>
+    ensures { result ≡ refused_line outcome }
+{
+    match outcome {
+        Some(Outcome::Refused(_)) => Some(LineEnd::NotBegun(Why::Unopened)),
+        _ => None,
     }
 }
 
@@ -377,7 +409,8 @@ impl<
 
     ghost journal = { λ i. record {
       purpose = i.purpose;
-      held = i.console.hand.held;
+      waiting = i.console.hand.waiting.items;
+      list = i.console.hand.list;
       state = i.state;
       left = i.left;
       signs = i.signs;
@@ -420,13 +453,13 @@ impl<
         if let Heard::Reply(Reply::State(_, Some(state))) = heard {
             self.state = Some(state);
         }
-        self.signs.note_answer(heard);
+        self.signs.note_heard(heard);
     }
 
     fn see(&mut self, controller: &Controller<Rest<S>>) {
         match self.purpose {
             Purpose::Vacancy => self.console.see(self.controller),
-            Purpose::ClipEnd | Purpose::Hold => self.console.see(controller),
+            Purpose::Port | Purpose::ClipEnd | Purpose::Hold => self.console.see(controller),
         }
     }
 }

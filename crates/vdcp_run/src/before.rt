@@ -1,16 +1,16 @@
 //! What a journal says of the events before the one with which a run goes on.
 ghost use Rattle.std.specs.Prelude.{◌≡◌, All, slice_get};
-ghost use Rattle.vdcp_run.specs.Before.{IsSaidBy, is_this, kept_by, said_after, said_of, said_or};
+ghost use Rattle.vdcp_run.specs.Before.{IsSaidBy, ends_missing, ends_refused, is_this, kept_by, said_after, said_of, said_or, why_by, why_left_out};
 
 use crate::in_list::reported_in_list;
 use jiff::Timestamp;
 use std::alloc::Global;
 use std::str::{self, FromStr};
-use vdcp_auto::{Controller, Source};
+use vdcp_auto::{Controller, Outcome, Source};
 use vdcp_journal::{Airing, Moment};
 use vdcp_journal_file::RunAirings;
 use vdcp_list::Rest;
-use vdcp_operator::{EventBefore, ROWS_BEFORE, Record};
+use vdcp_operator::{EventBefore, ROWS_BEFORE, Reason, Record};
 
 /// What the runs of a journal show of an event.
 #[derive(Clone, Copy)]
@@ -62,8 +62,53 @@ fn event_before(runs: &[RunAirings], event: usize) -> EventBefore
     EventBefore {
         number: event as u64,
         kept: kept_by(said),
+        why: why_by(said, runs, event),
         at,
         until,
+    }
+}
+
+fn why_by(said: Said, runs: &[RunAirings], event: usize) -> Option<Reason>
+    ensures { result ≡ why_by said runs.now event }
+{
+    match said {
+        Said::LeftOut => Some(why_left_out(runs, event)),
+        Said::MayHaveAired | Said::Aired(_) => None,
+    }
+}
+
+fn why_left_out(runs: &[RunAirings], event: usize) -> Reason
+    ensures { result ≡ why_left_out runs.now event }
+{
+    match runs {
+        [] => Reason::ByHand,
+        [run, later @ ..] => {
+            if ends_missing(run, event) {
+                Reason::Missing
+            } else if ends_refused(run, event) {
+                Reason::Refused
+            } else {
+                why_left_out(later, event)
+            }
+        }
+    }
+}
+
+fn ends_missing(run: &RunAirings, event: usize) -> bool
+    ensures { result ≡ ends_missing run.now.ended event }
+{
+    match &run.ended {
+        Ok((first, Some(Outcome::Missing(_)))) => *first == event,
+        _ => false,
+    }
+}
+
+fn ends_refused(run: &RunAirings, event: usize) -> bool
+    ensures { result ≡ ends_refused run.now.ended event }
+{
+    match &run.ended {
+        Ok((first, Some(Outcome::Refused(_)))) => *first == event,
+        _ => false,
     }
 }
 

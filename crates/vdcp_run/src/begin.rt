@@ -1,9 +1,9 @@
 //! What a run begins with: its controller, and the recorder of its journal.
 ghost use Rattle.std.specs.Option.{option_map};
-ghost use Rattle.std.specs.Prelude.{◌≡◌, ◌⊎◌, ◌≤◌, IfErr, IfOk, IfSome, IsSome, IsSomeAnd, Some, length};
+ghost use Rattle.std.specs.Prelude.{◌≡◌, ◌⊎◌, ◌≤◌, [], IfErr, IfOk, IfSome, IsSome, IsSomeAnd, Some, length};
 ghost use Rattle.vdcp_journal_file.specs.Recording.{BeganWith, IsUnbegun};
 ghost use Rattle.vdcp_journal_file.specs.Resuming.{said_event};
-ghost use Rattle.vdcp_run.specs.Run.{HasRecorder, IsAgain, IsApart, IsBegun, IsPlaceRefused, IsUnkept, first_event, beginning_of, heading_for, name_of, new_controller};
+ghost use Rattle.vdcp_run.specs.Run.{HasRecorder, IsAgain, IsApart, IsBegun, IsPlaceRefused, IsUnkept, SaysOfList, first_event, beginning_of, heading_for, name_of, new_controller};
 ghost use Rattle.vdcp_run.specs.Asking.{start_of};
 
 use crate::place::{Apart, test_place};
@@ -32,6 +32,7 @@ pub fn begin<'a, 'r, 's, R: Files<File = File> + Clock + AllocGlobal, S: Source>
         (start_of (λ s. S.items s.now) r.0.controller) r.0.recorder) }
     ensures kept { IfOk result (λ r. HasRecorder settings.entry.unit settings.entry.journal r.0.controller.state r.0.recorder) }
     ensures list { IfOk result (λ r. S.items r.0.controller.source.source.now ≡ S.items source.now) }
+    ensures calls { IfOk result (λ r. SaysOfList settings.entry (S.items source.now) settings.entry.journal r.0.calls.items) }
     ensures apart { IfOk result (λ r. IfSome settings.entry.journal (λ journal.
         IsSomeAnd r.1 (IsApart settings.entry.asrun (name_of journal)))) }
     ensures refused { IfErr result (IsUnkept settings.entry (S.items source.now) settings.entry.journal) }
@@ -42,6 +43,7 @@ pub fn begin<'a, 'r, 's, R: Files<File = File> + Clock + AllocGlobal, S: Source>
                 controller: new_controller(source, settings),
                 recorder: None,
                 runs: Vec::new(rt.alloc()),
+                calls: Vec::new(rt.alloc()),
             };
             Ok((begun, None))
         }
@@ -63,6 +65,7 @@ fn begin_kept<'a, 'r, 's, R: Files<File = File> + Clock + AllocGlobal, S: Source
         (start_of (λ s. S.items s.now) r.0.controller) r.0.recorder) }
     ensures kept { IfOk result (λ r. HasRecorder settings.entry.unit (Some journal.entry) r.0.controller.state r.0.recorder) }
     ensures list { IfOk result (λ r. S.items r.0.controller.source.source.now ≡ S.items source.now) }
+    ensures calls { IfOk result (λ r. SaysOfList settings.entry (S.items source.now) (Some journal.entry) r.0.calls.items) }
     ensures apart { IfOk result (λ r. IsSomeAnd r.1 (IsApart settings.entry.asrun (name_of journal.entry))) }
     ensures refused { IfErr result (IsUnkept settings.entry (S.items source.now) (Some journal.entry)) }
 {
@@ -96,6 +99,8 @@ fn begin_after<'a, 'r, 's, R: Files<File = File> + Clock + AllocGlobal, S: Sourc
         (start_of (λ s. S.items s.now) r.0.controller) r.0.recorder) }
     ensures kept { IfOk result (λ r. HasRecorder settings.entry.unit (Some journal.entry) r.0.controller.state r.0.recorder) }
     ensures list { IfOk result (λ r. S.items r.0.controller.source.source.now ≡ S.items source.now) }
+    ensures calls { IsAgain journal.entry → IfOk result (λ r.
+        SaysOfList settings.entry (S.items source.now) (Some journal.entry) r.0.calls.items) }
     ensures apart { IfOk result (λ r. IsSomeAnd r.1 (IsApart settings.entry.asrun (name_of journal.entry))) }
     ensures refused { IsAgain journal.entry → IfErr result (IsUnkept settings.entry (S.items source.now) (Some journal.entry)) }
 {
@@ -135,6 +140,7 @@ fn begin_new<'a, 'r, 's, R: Files<File = File> + Clock + AllocGlobal, S: Source>
         (λ recorder. (recorder.name ≡ name.entry) × (recorder.unit ≡ heading.now.unit))) }
     ensures from { IfOk result (λ r. IfSome r.0.recorder (BeganWith (option_map Note.From settings.entry.from))) }
     ensures kept { IfOk result (λ r. IsSome r.0.recorder) }
+    ensures calls { IfOk result (λ r. r.0.calls.items ≡ []) }
     ensures apart { IfOk result (λ r. IsSomeAnd r.1 (IsApart settings.entry.asrun name.entry)) }
     ensures refused { IfErr result (λ failure. IsUnbegun name.entry failure
         ⊎ IsPlaceRefused settings.entry.asrun failure) }
@@ -146,6 +152,7 @@ fn begin_new<'a, 'r, 's, R: Files<File = File> + Clock + AllocGlobal, S: Source>
                 controller: new_controller(source, settings),
                 recorder: Some(recorder),
                 runs: Vec::new(rt.alloc()),
+                calls: Vec::new(rt.alloc()),
             };
             Ok((begun, Some(apart)))
         }

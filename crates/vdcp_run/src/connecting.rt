@@ -1,5 +1,5 @@
 //! How a run connects; one that stays tries until somebody takes the connection.
-ghost use Rattle.std.specs.Prelude.{IfErr, IfSome};
+ghost use Rattle.std.specs.Prelude.{◌≡◌, IfErr, IfSome};
 ghost use Rattle.vdcp_run.specs.Session.{IsUnconnected};
 
 use crate::console::Console;
@@ -12,8 +12,8 @@ use std::net::{Net, OpenStream, SocketAddr, SocketAddrV4};
 use std::rt::{Clock, Files};
 use std::time::Duration;
 use vdcp_auto::{Controller, Source};
-use vdcp_drive::Call;
 use vdcp_list::Rest;
+use vdcp_operator::Said;
 
 /// How many seconds a connection may take to come about.
 const CONNECTING: u64 = 5;
@@ -29,15 +29,17 @@ impl<
     O: io::Write + Drop,
     V: io::Write + Drop,
 > Session<'r, 'l, R, I, O, V> {
-    /// Connects once it is time. The error is `GivenUp` if nobody takes the connection then, or, in a run that stays, if that
-    /// tries only for so long; and `Stopped` if it stays and the operator stops before somebody does.
+    /// Connects once it is time. The error is `GivenUp` if nobody takes the connection then; in a run that stays, `GivenUp` or,
+    /// if the last one was taken, `Unheard`, if it tries only for so long, and `Stopped` if the operator stops before somebody
+    /// takes one.
     pub fn connect<S: Source>(
         &mut self,
         address: SocketAddrV4,
         controller: &Controller<Rest<S>>,
         settings: RunSettings<'_>,
     ) -> Result<R::Stream, Why>
-        ensures { IfErr result (λ why. IfSome settings.entry.stay (λ stay. IsUnconnected stay.patience why)) }
+        ensures unconnected { IfErr result (λ why. IfSome settings.entry.stay (λ stay. IsUnconnected stay.patience why)) }
+        ensures list { self.new.console.hand.list ≡ self.old.console.hand.list }
     {
         self.console.hand.note_connecting();
         let stream = match settings.stay {
@@ -68,7 +70,9 @@ impl<
         &mut self,
         address: SocketAddrV4,
         controller: &Controller<Rest<S>>,
-    ) -> Option<R::Stream> {
+    ) -> Option<R::Stream>
+        ensures { self.new.hand.list ≡ self.old.hand.list }
+    {
         match self.await_time(address, controller) {
             Some(stream) => Some(stream),
             None => connect(self.rt, address, CONNECTING).ok(),
@@ -83,7 +87,8 @@ impl<
         pace: &mut Pace<'r, R>,
         patience: Option<u32>,
     ) -> Result<R::Stream, Why>
-        ensures { IfErr result (IsUnconnected patience) }
+        ensures unconnected { IfErr result (IsUnconnected patience) }
+        ensures list { self.new.hand.list ≡ self.old.hand.list }
     {
         if self.stops_meanwhile(controller, pace) {
             return Err(Why::Stopped);
@@ -100,7 +105,7 @@ impl<
         let mut is_told = false;
         'tries: for _ in 0..u64::MAX {
             if pace.is_spent(patience) {
-                return Err(Why::GivenUp);
+                return Err(if is_told { Why::GivenUp } else { Why::Unheard });
             }
             match connect(self.rt, address, CONNECTING_AGAIN) {
                 Ok(stream) => return Ok(stream),
@@ -125,7 +130,9 @@ impl<
         &mut self,
         controller: &Controller<Rest<S>>,
         pace: &mut Pace<'r, R>,
-    ) -> bool {
+    ) -> bool
+        ensures { self.new.hand.list ≡ self.old.hand.list }
+    {
         'pieces: for _ in 0..u64::MAX {
             if pace.wait_piece() {
                 return false;
@@ -138,9 +145,11 @@ impl<
         false
     }
 
-    // Another call than stop is held, and requests for the page are answered.
-    fn has_stopped<S: Source>(&mut self, controller: &Controller<Rest<S>>) -> bool {
-        self.hand.heed(controller) == Some(Call::Stop)
+    // Another call than stop waits, and requests for the page are answered.
+    fn has_stopped<S: Source>(&mut self, controller: &Controller<Rest<S>>) -> bool
+        ensures { self.new.hand.list ≡ self.old.hand.list }
+    {
+        self.hand.heed(controller) == Some(Said::Stop)
     }
 
     // A run that waits for its start connects at once, to tell early if the server isn't there. That connection is kept,
@@ -149,7 +158,9 @@ impl<
         &mut self,
         address: SocketAddrV4,
         controller: &Controller<Rest<S>>,
-    ) -> Option<R::Stream> {
+    ) -> Option<R::Stream>
+        ensures { self.new.hand.list ≡ self.old.hand.list }
+    {
         let early = if self.hand.awaits_start() {
             self.connect_early(address)
         } else {

@@ -2,8 +2,13 @@
 ghost use Rattle.std.specs.Prelude.{ℕ, ◌≡◌, ◌≢◌, ◌⊎◌, ◌+◌, IsFalse, IsTrue, Some, false};
 ghost use Rattle.vdcp_run.specs.Ends.{Reports};
 ghost use Rattle.vdcp_run.specs.Run.{HasAsrun};
-ghost use Rattle.vdcp_operator.specs.Hands.{holds_play};
-ghost use Rattle.vdcp_operator.specs.LeftOut.{IsNextKept};
+ghost use Rattle.vdcp_auto.specs.Plan.{plan_of};
+ghost use Rattle.vdcp_auto.specs.Turn.{awaited};
+ghost use Rattle.vdcp_list.specs.Rests.{items_left};
+ghost use Rattle.vdcp_operator.specs.Hands.{asks_state, given_now, holds_back};
+ghost use Rattle.vdcp_operator.specs.LeftOut.{IsNextKept, ahead_of};
+ghost use Rattle.vdcp_operator.specs.Waiting.{first_call};
+ghost use Rattle.vdcp_drive.specs.declared.hooks.Call.{Call};
 ghost use Rattle.vdcp_run.specs.Session.{IsBeforeEvent, LeavesBefore};
 
 use crate::in_list::reported_in_list;
@@ -57,7 +62,11 @@ impl<
             log,
             rt,
             progress: match terminal {
-                Some(terminal) => Some(Progress::new(rt, terminal, settings.silence)),
+                Some(terminal) => {
+                    let mut progress = Progress::new(rt, terminal, settings.silence);
+                    progress.set_rate(settings.rate);
+                    Some(progress)
+                }
                 None => None,
             },
             stalling: Stalling::new(rt, settings.hearing),
@@ -77,6 +86,7 @@ impl<
     pub fn note_end(&mut self, heard: Option<Heard>)
         ensures { self.new.hand ≡ self.old.hand }
     {
+        self.stalling.note_end(heard);
         if let Some(progress) = &mut self.progress {
             progress.note_end(heard);
         }
@@ -93,29 +103,31 @@ impl<
             ));
         }
         if let Some(progress) = &mut self.progress {
+            progress.set_holds(self.hand.holds());
             progress.see(controller);
         }
     }
 
     /// What a run does next, as the operator wants. It is left if the next event is left out, as long as no PLAY may have put
-    /// it to air, or if its PLAY is held. A take is for an event that isn't left out: before one that is, it is held.
+    /// it to air, or if what is cued is held back. A take is for an event that isn't left out: before one that is, it waits on.
     pub fn next<S: Source>(&mut self, controller: &Controller<Rest<S>>) -> Next
         ensures before { LeavesBefore controller.now.mode controller.now.state.stage result }
-        ensures holds { result ≡ Next.GoOn → holds_play self.new.hand.holds controller.now.state ≡ false }
+        ensures holds { result ≡ Next.GoOn → holds_back self.old.hand.list.holds controller.now.state ≡ false }
         ensures kept { result ≡ Next.GoOn → IsBeforeEvent controller.now.mode controller.now.state.stage →
             controller.now.state.stop ≡ false →
-            IsNextKept self.new.hand.left_out (controller.now.source.from + controller.now.state.settled)
+            IsNextKept self.old.hand.list.left_out (controller.now.source.from + controller.now.state.settled)
             (controller.now.source.from + controller.now.state.settled) }
         ensures take { result ≡ Next.Call Call.Take → controller.now.state.stop ≡ false →
-            IsNextKept self.new.hand.left_out (controller.now.source.from + controller.now.state.settled)
+            IsNextKept self.old.hand.list.left_out (controller.now.source.from + controller.now.state.settled)
             (controller.now.source.from + controller.now.state.settled) }
-        ensures held { self.old.hand.held ≡ Some Call.Take →
-            (result ≡ Next.Call Call.Take) ⊎ (self.new.hand.held ≡ Some Call.Take) }
+        ensures said { (call : Call) → result ≡ Next.Call call →
+            given_now (asks_state (awaited (plan_of (items_left S.items) controller.now) controller.now.state))
+            (first_call self.old.hand.list.left_out (ahead_of S.items controller.now) self.new.hand.waiting.items) ≡ Some call }
+        ensures list { self.new.hand.list ≡ self.old.hand.list }
     {
         match self.hand.call(controller) {
-            Some(Call::Take) if self.leaves_out_next(controller) => self.hand.held = Some(
-                Call::Take,
-            ),
+            // (a take that waits on)
+            Some(Call::Take) if self.leaves_out_next(controller) => {}
             Some(call) => return Next::Call(call),
             None => {}
         }
@@ -128,24 +140,24 @@ impl<
 
     fn leaves_here<S: Source>(&self, controller: &Controller<Rest<S>>) -> bool
         ensures before { IsTrue result → LeavesBefore controller.now.mode controller.now.state.stage Next.Leave }
-        ensures holds { IsTrue (holds_play self.now.hand.holds controller.now.state) → IsTrue result }
+        ensures holds { IsTrue (holds_back self.now.hand.list.holds controller.now.state) → IsTrue result }
         ensures kept { IsFalse result → IsBeforeEvent controller.now.mode controller.now.state.stage →
             controller.now.state.stop ≡ false →
-            IsNextKept self.now.hand.left_out (controller.now.source.from + controller.now.state.settled)
+            IsNextKept self.now.hand.list.left_out (controller.now.source.from + controller.now.state.settled)
             (controller.now.source.from + controller.now.state.settled) }
     {
         let leaves_out = is_before_event(controller) && self.leaves_out_next(controller);
-        leaves_out || self.hand.holds_play(controller)
+        leaves_out || self.hand.holds_back(controller)
     }
 
     // Whether the next event is left out, unless the run is to stop.
     fn leaves_out_next<S: Source>(&self, controller: &Controller<Rest<S>>) -> bool
         ensures left_out { IsTrue result → (kept : ℕ)
-            × IsNextKept self.now.hand.left_out (controller.now.source.from + controller.now.state.settled) kept
+            × IsNextKept self.now.hand.list.left_out (controller.now.source.from + controller.now.state.settled) kept
             × (kept ≢ controller.now.source.from + controller.now.state.settled) }
         ensures stops { IsTrue result → controller.now.state.stop ≡ false }
         ensures kept { IsFalse result → controller.now.state.stop ≡ false →
-            IsNextKept self.now.hand.left_out (controller.now.source.from + controller.now.state.settled)
+            IsNextKept self.now.hand.list.left_out (controller.now.source.from + controller.now.state.settled)
             (controller.now.source.from + controller.now.state.settled) }
     {
         let event = reported_in_list(controller);
@@ -153,7 +165,9 @@ impl<
     }
 
     /// Tells how the run goes on after this try.
-    pub fn tell_again(&mut self, end: &Result<RunEnd<'_>, Failure<'_>>, later: RunSettings<'_>) {
+    pub fn tell_again(&mut self, end: &Result<RunEnd<'_>, Failure<'_>>, later: RunSettings<'_>)
+        ensures { self.new.hand.list ≡ self.old.hand.list }
+    {
         let end = match end {
             Ok(end) => end,
             Err(Failure::NotEmpty) => {
@@ -167,27 +181,31 @@ impl<
         };
         self.is_occupied = false;
         if let LineEnd::LeftOut(kept) = end.line {
-            self.tell(&format_args!("left out: by hand; going on with event {kept}"));
+            self.alarm(&format_args!("left out: by hand; going on with event {kept}"));
             return;
         }
         let (event, outcome) = (end.reported, OutcomeText(end.told_outcome()));
         match (end.line.failure(), later.journal) {
             (Some(failure), _) => self.tell_down(&format_args!("{failure}; connecting again")),
             (None, Some(RunJournal::Older(_))) => self.tell_down(&"lost; connecting again"),
-            (None, _) if later.leaves_out() => self.tell(&format_args!("left out: {outcome}")),
-            (None, _) => self.tell(&format_args!("port lost: going on with event {event}")),
+            (None, _) if later.leaves_out() => self.alarm(&format_args!("left out: {outcome}")),
+            (None, _) => self.alarm(&format_args!("port lost: going on with event {event}")),
         }
     }
 
     // It is asked again each second, and told once.
-    fn tell_occupied(&mut self) {
+    fn tell_occupied(&mut self)
+        ensures { self.new.hand.list ≡ self.old.hand.list }
+    {
         if !self.is_occupied {
-            self.tell(&"port not empty: asking again");
+            self.alarm(&"port not empty: asking again");
             self.is_occupied = true;
         }
     }
 
-    fn tell_unsure(&self, failure: &Failure<'_>, later: RunSettings<'_>) {
+    fn tell_unsure(&mut self, failure: &Failure<'_>, later: RunSettings<'_>)
+        ensures { self.new.hand.list ≡ self.old.hand.list }
+    {
         match later.stay {
             Some(
                 Staying {
@@ -195,21 +213,25 @@ impl<
                     ..
                 },
             ) => {
-                self.tell(&format_args!("sent again: {failure}"));
+                self.alarm(&format_args!("sent again: {failure}"));
             }
-            _ => self.tell(&format_args!("left out: {failure}")),
+            _ => self.alarm(&format_args!("left out: {failure}")),
         }
     }
 
-    pub fn tell_down<T: fmt::Display>(&mut self, why: &T) {
-        self.tell(&format_args!("line down: {why}"));
+    pub fn tell_down<T: fmt::Display>(&mut self, why: &T)
+        ensures { self.new.hand.list ≡ self.old.hand.list }
+    {
+        self.alarm(&format_args!("line down: {why}"));
         self.is_down = true;
     }
 
     /// Tells that there is a connection, if it was told that there is none.
-    pub fn tell_up(&mut self) {
+    pub fn tell_up(&mut self)
+        ensures { self.new.hand.list ≡ self.old.hand.list }
+    {
         if self.is_down {
-            self.tell(&"line up");
+            self.alarm(&"line up");
             self.is_down = false;
         }
         if let Some(progress) = &mut self.progress {
@@ -226,6 +248,14 @@ impl<
         {
             progress.see_down();
         }
+    }
+
+    // Tells it, and the page has the same words.
+    fn alarm<T: fmt::Display>(&mut self, words: &T)
+        ensures { self.new.hand.list ≡ self.old.hand.list }
+    {
+        self.tell(words);
+        self.hand.set_alarm(words);
     }
 
     /// Tells a line in place of the progress line.

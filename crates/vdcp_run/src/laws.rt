@@ -32,9 +32,9 @@ pub fn only_questions_are_asked<E: Ear, W: Wire>()
 /// A run that stays and begins anew in its journal sends no event again that has aired, and one that may have aired only if the
 /// settings say so. It begins with the first event that isn't reported; or behind it, if that event may have aired, can't be
 /// played, or is left out by the operator.
-pub fn a_new_run_begins_behind()
+pub fn a_new_run_begins_behind<S>()
     ensures behind { (before next : RunSettings) (items : List Item) (wire left : Option Streamed) (end : Result RunEnd Failure)
-        (name : Bor (List ℕ)) → CameTo before items wire end left → later_after before (length items) end ≡ Some next
+        (name : Bor (List ℕ)) → CameTo S before items wire end left → later_after before (length items) end ≡ Some next
         → (next.journal ≡ Some (journals.Again name)) ⊎ (next.journal ≡ Some (journals.Left name)) → BeginsBehind items end next }
     // Its journal says that the operator left the run before only if that is so, and all of this run's rows are written.
     ensures left { (before next : RunSettings) (count : ℕ) (end : RunEnd) (name : Bor (List ℕ))
@@ -49,7 +49,7 @@ pub fn a_line_is_left_at_rest()
 {}
 
 /// A run that doesn't stay makes one try: with the settings that it has.
-pub fn a_run_makes_one_try()
+pub fn a_run_makes_one_try<S>()
     ensures { (settings last : RunSettings) (items : List Item) (wire : Option Streamed) → settings.stay ≡ None
-        → IsTry settings items last wire → last ≡ settings }
+        → IsTry S settings items last wire → last ≡ settings }
 {}

@@ -26,14 +26,13 @@ impl<
     O: io::Write + Drop,
     V: io::Write + Drop,
 > Hooks<Rest<S>> for Playing<'_, '_, '_, R, F, I, O, V> {
-    ghost use Rattle.std.specs.Prelude.{◌≡◌, ◌-◌};
-    ghost use Rattle.vdcp_run.specs.Session.{Keeping, KeepsOn, LeavesBefore, LosesIn};
+    ghost use Rattle.vdcp_run.specs.Session.{AsksIn, Keeping, KeepsOn, LosesIn};
 
     ghost Journal = { Keeping F };
 
-    ghost journal = { λ p. record { recorder = p.recorder; signs = p.signs; left = p.left } };
+    ghost journal = { λ p. record { recorder = p.recorder; signs = p.signs; left = p.left; list = p.console.hand.list } };
 
-    ghost asks = { λ plan state n old new. (new ≡ record old { left = old.left - 1 }) × LeavesBefore plan.mode state.stage n };
+    ghost asks = { λ plan. AsksIn plan.mode };
 
     ghost adds = { KeepsOn F.safe };
 
@@ -47,6 +46,7 @@ impl<
     fn keep_call(&mut self, call: Call) -> Result<(), KeepFault> {
         Hooks::<Rest<S>>::keep_call(&mut self.recorder, call)?;
         self.signs.note_call(call);
+        self.console.hand.heed_call(call);
         Ok(())
     }
 

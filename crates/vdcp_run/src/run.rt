@@ -71,7 +71,7 @@ pub fn do_run<
     requires unit { settings.unit ≤ 15 }
     requires some { 1 ≤ settings.limit }
     requires few { settings.limit ≤ 1000 }
-    ensures { result ≡ 0 → IsRun settings.entry (file list.entry.name (L.remaining list.entry.reader)) }
+    ensures { result ≡ 0 → IsRun R.Stream settings.entry (file list.entry.name (L.remaining list.entry.reader)) }
 {
     match run_shown(rt, address, list, settings, showing, hand) {
         Ok(end) => {
@@ -107,7 +107,7 @@ fn run_shown<
     requires unit { settings.unit ≤ 15 }
     requires some { 1 ≤ settings.limit }
     requires few { settings.limit ≤ 1000 }
-    ensures { IfOk result (IsPlayed settings.entry (file list.entry.name (L.remaining list.entry.reader))) }
+    ensures { IfOk result (IsPlayed R.Stream settings.entry (file list.entry.name (L.remaining list.entry.reader))) }
 {
     let Showing {
         terminal,
@@ -138,7 +138,7 @@ impl<
         requires some { 1 ≤ settings.limit }
         requires few { settings.limit ≤ 1000 }
         requires new { self.line ≡ None }
-        ensures { IfOk result (IsPlayed settings.entry (file list.entry.name (L.remaining list.entry.reader))) }
+        ensures { IfOk result (IsPlayed R.Stream settings.entry (file list.entry.name (L.remaining list.entry.reader))) }
     {
         let Ok(address) = address_of(address) else {
             return Err(Failure::Address);
@@ -163,7 +163,7 @@ impl<
         requires few { settings.limit ≤ 1000 }
         requires listed { first_event settings.from ≤ length (items_of events.now) }
         requires new { self.line ≡ None }
-        ensures { IfOk result (IsEnd settings.entry (items_of events.now)) }
+        ensures { IfOk result (IsEnd R.Stream settings.entry (items_of events.now)) }
     {
         let mut settings = settings;
         let mut earlier = None;
@@ -197,7 +197,7 @@ impl<
         requires few { settings.limit ≤ 1000 }
         requires listed { first_event settings.from ≤ length (items_of events.now) }
         requires works { IfSome self.line (λ wire. failures_of wire.connection ≡ 0) }
-        ensures came { CameTo settings.entry (items_of events.now) self.entry.line result.0 result.1.line }
+        ensures came { CameTo R.Stream settings.entry (items_of events.now) self.entry.line result.0 result.1.line }
         ensures works { IfSome result.1.line (λ wire. failures_of wire.connection ≡ 0) }
     {
         let rt = self.console.rt;

@@ -1,8 +1,7 @@
 //! How a run ended, what is printed of that, and its exit status.
-ghost use Rattle.std.specs.Prelude.{◌≡◌, ◌≤◌, ◌||◌, IfOk, IfSome, not};
+ghost use Rattle.std.specs.Prelude.{◌≡◌, ◌≤◌, IfOk, IfSome};
 ghost use Rattle.vdcp_drive.specs.declared.hooks.Kept.TheVariants as kept;
 ghost use Rattle.vdcp_run.specs.Advice.{missing_in};
-ghost use Rattle.vdcp_run.specs.Asking.{is_answer};
 ghost use Rattle.vdcp_run.specs.Ends.{Reports, is_unplayable, line_end_of};
 ghost use Rattle.vdcp_run.specs.Session.{no_signs, signs_after, signs_at_first};
 ghost use Rattle.vdcp_run.specs.Run.{HasAsrun, asrun_failure, behind_left_out, has_lost_port, is_by_line, is_lost, is_refused, journal_behind, keeps_line, line_failure, run_status, told_outcome};
@@ -42,10 +41,14 @@ pub enum Why {
     Occupied,
     /// The port didn't answer what it was asked.
     Unanswered,
+    /// It answered that by NAK 01h: it isn't open.
+    Unopened,
     /// The operator stopped before.
     Stopped,
-    /// Nothing was heard of the server for as long as the run tries.
+    /// Nobody took a connection for as long as the run tries.
     GivenUp,
+    /// One was taken, and nothing was heard for as long.
+    Unheard,
 }
 
 impl LineEnd {
@@ -81,8 +84,9 @@ impl LineEnd {
             LineEnd::Failed => Some(Failure::LineFailed),
             LineEnd::NotBegun(Why::Occupied) => Some(Failure::NotEmpty),
             LineEnd::NotBegun(Why::GivenUp) => Some(Failure::Connect),
+            LineEnd::NotBegun(Why::Unheard) => Some(Failure::Unanswered),
             LineEnd::Ran(Ran::Ended) | LineEnd::Unkept => None,
-            LineEnd::NotBegun(Why::Unanswered | Why::Stopped) => None,
+            LineEnd::NotBegun(Why::Unanswered | Why::Unopened | Why::Stopped) => None,
         }
     }
 }
@@ -141,13 +145,6 @@ impl Signs {
         self.heard = true;
         self.unopened = self.unopened
             && matches!(heard, Heard::Reply(Reply::Nak(_) | Reply::Present(_)));
-        self.note_answer(heard);
-    }
-
-    /// What came for a command may not be its answer.
-    pub fn note_answer(&mut self, heard: Heard)
-        ensures { self.new ≡ record self.old { unanswered = not (is_answer heard) || self.old.unanswered } }
-    {
         let is_answer = match heard {
             Heard::Reply(Reply::Nak(errors)) => errors == 0x01,
             Heard::Reply(_) => true,
@@ -165,7 +162,7 @@ impl Signs {
     pub fn note_call(&mut self, call: Call)
         ensures { self.new ≡ signs_after (kept.Called call) self.old }
     {
-        self.stopped = self.stopped || call == Call::Stop;
+        self.stopped = self.stopped || matches!(call, Call::Stop);
     }
 
     /// Whether a controller that ended so did since the server doesn't have the clip of its next event, or, in plain mode,
@@ -223,13 +220,14 @@ impl<'a> RunEnd<'a> {
         out.flush()
     }
 
-    /// The printed outcome: Lost if the port didn't answer its questions, or nothing was heard for too long; Stopped if the
-    /// operator stopped meanwhile.
+    /// The printed outcome: Lost if the port didn't answer its questions, or isn't open any more, or nothing was heard for too
+    /// long; Stopped if the operator stopped meanwhile.
     pub fn told_outcome(&self) -> Option<Outcome>
         ensures { result ≡ told_outcome self.now.line self.now.outcome }
     {
         match self.line {
-            LineEnd::NotBegun(Why::Unanswered | Why::GivenUp) => Some(Outcome::Lost),
+            LineEnd::NotBegun(Why::Unanswered | Why::Unopened) => Some(Outcome::Lost),
+            LineEnd::NotBegun(Why::GivenUp | Why::Unheard) => Some(Outcome::Lost),
             LineEnd::NotBegun(Why::Stopped) => Some(Outcome::Stopped),
             LineEnd::NotBegun(Why::Occupied) => self.outcome,
             LineEnd::Ran(_) | LineEnd::Failed | LineEnd::Unkept | LineEnd::LeftOut(_) =>
@@ -242,7 +240,7 @@ impl<'a> RunEnd<'a> {
         ensures { result ≡ is_by_line self.now.line (told_outcome self.now.line self.now.outcome) }
     {
         match (self.line, self.told_outcome()) {
-            (LineEnd::NotBegun(Why::GivenUp), _) => false,
+            (LineEnd::NotBegun(Why::GivenUp | Why::Unheard), _) => false,
             (_, Some(Outcome::Lost)) => true,
             (LineEnd::Ran(Ran::Closed) | LineEnd::Failed, None) => true,
             _ => false,
@@ -264,6 +262,7 @@ impl<'a> RunEnd<'a> {
         ensures { result ≡ is_refused self.now.line self.now.outcome }
     {
         match (self.line, self.outcome) {
+            (LineEnd::NotBegun(Why::Unopened), _) => true,
             (LineEnd::Ran(Ran::Ended), Some(Outcome::Denied | Outcome::Refused(_))) => true,
             _ => false,
         }

@@ -2,6 +2,7 @@
 ghost use Rattle.std.specs.Duration.{as_nanos};
 ghost use Rattle.std.specs.Prelude.{◌≡◌, ◌≢◌, ◌⊎◌, ◌≤◌, ◌*◌, ◌^◌, ◌-◌, IfErr, IfOk, IfSome, IsSome, None, Option, Some, length};
 ghost use Rattle.vdcp_auto.specs.Turn.{outcome_of};
+ghost use Rattle.vdcp_operator.specs.OnList.{list_by, sparing_each};
 ghost use Rattle.vdcp_run.specs.Ends.{Reports};
 ghost use Rattle.vdcp_run.specs.Run.{HasAsrun, keeps_line, line_left};
 ghost use Rattle.vdcp_run.specs.Asking.{over, start_of};
@@ -45,7 +46,8 @@ impl<
     O: io::Write + Drop,
     V: io::Write + Drop,
 > Session<'r, 'l, R, I, O, V> {
-    /// Plays the list, over the line that the try before left or a new connection, and hands the session back. If the
+    /// Plays the list, held and without what is left out if the journal says so, over the line that the try before left or a new
+    /// connection, and hands the session back. If the
     /// controller has ended already nothing is sent: a run that stays goes on from there as if it had ended just now.
     /// The failure is `Connect` if nobody takes the connection in time and the run doesn't stay, and `NotEmpty` if the port
     /// is asked and isn't empty.
@@ -58,8 +60,10 @@ impl<
         requires unit { settings.unit ≤ 15 }
         requires some { 1 ≤ settings.limit }
         requires works { IfSome self.line (λ wire. failures_of wire.connection ≡ 0) }
-        ensures session { IfOk result.0 (λ end. (last : Option Streamed) × HasSession (λ _. None) settings.entry
-            (start_of S.items begun.entry.controller) begun.entry.recorder self.entry.line end last
+        ensures session { IfOk result.0 (λ end. (last : Option Streamed) × HasSession R.Stream (λ _. None) settings.entry
+            (start_of S.items begun.entry.controller) (list_by (sparing_each settings.entry.wanted begun.entry.calls.items)
+            self.entry.console.hand.list)
+            begun.entry.recorder self.entry.line end last
             × (result.1.line ≡ line_left (keeps_line settings.entry (length (S.items begun.entry.controller.source.source)) end) last)) }
         ensures works { IfSome result.1.line (λ wire. failures_of wire.connection ≡ 0) }
         ensures asrun { IfOk result.0 (HasAsrun settings.entry (S.items begun.entry.controller.source.source)) }
@@ -70,13 +74,23 @@ impl<
             controller,
             recorder,
             runs,
+            calls,
         } = begun;
         let Session {
             console,
             pace,
             line,
         } = self;
-        let mut session = Session::unconnected(console, pace);
+        let mut session = Session {
+            console,
+            pace,
+            line: None,
+        };
+        // (what this process heeded before is among these)
+        session
+            .console
+            .hand
+            .set_list_calls(calls.as_slice(), settings.wanted);
         if controller.outcome().is_some() {
             let (end, session) = session.end_again(&controller, settings);
             return (Ok(end), session);
@@ -128,9 +142,10 @@ impl<
         settings: RunSettings<'_>,
     ) -> Result<StreamWire<R::Stream, &'r R>, LineEnd>
         requires works { IfSome before (λ wire. failures_of wire.connection ≡ 0) }
-        ensures wire { IfOk result (IsWire settings.entry before.entry) }
+        ensures wire { IfOk result (IsWire R.Stream settings.entry before.entry) }
         ensures works { IfOk result (λ wire. failures_of wire.connection ≡ 0) }
         ensures unwired { IfErr result (λ line. IfSome settings.entry.stay (λ stay. IsUnwired (Some stay) line)) }
+        ensures list { self.new.console.hand.list ≡ self.old.console.hand.list }
     {
         if let Some(wire) = before {
             return Ok(wire);
@@ -237,7 +252,7 @@ impl<
         requires unit { settings.unit ≤ 15 }
         requires some { 1 ≤ settings.limit }
         requires works { W.failures wire ≡ 0 }
-        ensures session { TriesOver W.does F.safe settings.entry (start_of S.items controller) wire result.2
+        ensures session { TriesOver W.does F.safe settings.entry (start_of S.items controller) self.entry.hand.list wire result.2
             recorder.entry result.0 }
         ensures works { result.0.line ≢ LineEnd.Failed → W.failures result.2 ≡ 0 }
         ensures asrun { HasAsrun settings.entry (S.items controller.source.source) result.0 }

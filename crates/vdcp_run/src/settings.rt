@@ -26,6 +26,8 @@ pub struct RunSettings<'a> {
     pub listens: u32,
     /// The event that a new controller begins with; without one it is event 0.
     pub from: Option<usize>,
+    /// An event that is wanted, though a call of the journal leaves it out: the one that a person begins with.
+    pub wanted: Option<usize>,
     /// The name of the as-run file.
     pub asrun: Option<&'a str>,
     pub journal: Option<RunJournal<'a>>,

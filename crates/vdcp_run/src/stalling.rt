@@ -1,13 +1,16 @@
 //! A run whose first cue isn't done for long says so.
 ghost use Rattle.std.specs.Prelude.{◌≡◌, ◌↔◌, Bool, IsTrue, true};
+ghost use Rattle.vdcp_auto.specs.Replies.{is_done};
 ghost use Rattle.vdcp_auto.specs.State.{Awaiting};
 ghost use Rattle.vdcp_auto.specs.declared.phase.Phase.{Phase};
-ghost use Rattle.vdcp_run.specs.Stalls.{first_stall, stall_after};
+ghost use Rattle.vdcp_run.specs.Stalls.{first_stall, stall_after, stall_heard};
 
 use std::rt::Clock;
-use vdcp_auto::{Controller, Phase, Source, Standing};
+use vdcp_auto::{Controller, Heard, Phase, Source, Standing};
 use vdcp_drive::Hearing;
 use vdcp_wire::Stopwatch;
+use vdcp_words::Reply;
+use vdcp_words::state::CUE_DONE;
 
 // In nanoseconds.
 const PATIENCE: u64 = 5_000_000_000;
@@ -21,8 +24,8 @@ enum Stall {
     Told,
 }
 
-/// Sees, once, that the first cue isn't done after five seconds. (A run that hears at silences isn't looked at: a server
-/// may count by these.)
+/// Tells once that the first cue isn't done after five seconds. (Not of a run that hears at silences: by these a server
+/// may count frames.)
 #[derive(Drop)]
 pub struct Stalling<'r, R: Clock> {
     stopwatch: Stopwatch<&'r R>,
@@ -40,6 +43,13 @@ impl<'r, R: Clock> Stalling<'r, R> {
                 Hearing::AtOnce => Stall::Nothing,
             },
         }
+    }
+
+    /// A state that shows the cue done ends a stall: what is cued waits for the clip before, or is held.
+    pub fn note_end(&mut self, heard: Option<Heard>)
+        ensures { self.new ≡ record self.old { stall = stall_heard heard self.old.stall } }
+    {
+        self.stall = stall_after_end(heard, self.stall);
     }
 
     /// Whether a stall is to be told now.
@@ -60,6 +70,25 @@ fn is_cued_first<S: Source>(controller: &Controller<S>) -> bool
         controller.snapshot().standing,
         Standing::Awaiting(Phase::Wait(0))
     )
+}
+
+fn stall_after_end(heard: Option<Heard>, stall: Stall) -> Stall
+    ensures { result ≡ stall_heard heard stall }
+{
+    match (heard, stall) {
+        (_, Stall::Nothing | Stall::Told) => stall,
+        (Some(Heard::Reply(reply)), Stall::Since(_)) if is_done(reply) => Stall::Nothing,
+        (_, Stall::Since(_)) => stall,
+    }
+}
+
+fn is_done(reply: Reply) -> bool
+    ensures { result ≡ is_done reply }
+{
+    match reply {
+        Reply::State(_, Some(state)) => state & CUE_DONE != 0,
+        _ => false,
+    }
 }
 
 fn stall_after(cues: bool, stall: Stall, now: u64) -> Stall

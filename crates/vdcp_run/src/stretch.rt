@@ -2,7 +2,7 @@
 ghost use Rattle.std.specs.Prelude.{ℕ, Bool, ◌≡◌, ◌≢◌, ◌<◌, ◌≤◌, ◌+◌, Err, IfErr, IfNone, IfOk, IfSome, IsSomeAnd, IsTrue, None};
 ghost use Rattle.vdcp_auto.specs.Turn.{is_awaiting};
 ghost use Rattle.vdcp_drive.specs.declared.hooks.BrokenOff.{BrokenOff};
-ghost use Rattle.vdcp_operator.specs.Hands.{is_to_play};
+ghost use Rattle.vdcp_operator.specs.Hands.{holds_back};
 ghost use Rattle.vdcp_operator.specs.LeftOut.{IsNextKept};
 ghost use Rattle.vdcp_run.specs.Asking.{over, start_of};
 ghost use Rattle.vdcp_run.specs.Ends.{Reports, is_unplayed, line_end_of};
@@ -19,7 +19,7 @@ use crate::run_end::{LineEnd, RunEnd};
 use crate::settings::RunSettings;
 use std::io;
 use std::rt::{Clock, Files};
-use vdcp_auto::{Controller, Phase, Source, Standing};
+use vdcp_auto::{Controller, Source};
 use vdcp_drive::{BrokenOff, Driver, Ear, Hooks, Ran};
 use vdcp_journal_file::{Disk, RecordFault, Recorder};
 use vdcp_list::Rest;
@@ -64,7 +64,8 @@ impl<
         requires unit { settings.unit ≤ 15 }
         requires works { W.failures self.wire ≡ 0 }
         ensures session { HasTried W.does F.safe E.fold settings.entry (onset_of (start_of S.items self.entry.controller) self.entry.ear
-            (over self.entry.wire self.entry.playing.recorder) self.entry.playing.left self.entry.playing.signs) result.2 result.0 }
+            (over self.entry.wire self.entry.playing.recorder) self.entry.playing.left self.entry.playing.signs
+            self.entry.playing.console.hand.list) result.2 result.0 }
         ensures works { result.0.line ≢ LineEnd.Failed → W.failures result.2 ≡ 0 }
         ensures asrun { HasAsrun settings.entry (S.items self.entry.controller.source.source) result.0 }
     {
@@ -86,15 +87,17 @@ impl<
         requires works { W.failures self.wire ≡ 0 }
         ensures held { IfOk result (λ next. (z : Onset E W F)
             → HasHeld W.does F.safe E.fold settings.entry z (onset_of (start_of S.items next.controller) next.ear
-            (over next.wire next.playing.recorder) next.playing.left next.playing.signs)
+            (over next.wire next.playing.recorder) next.playing.left next.playing.signs next.playing.console.hand.list)
             → HasHeld W.does F.safe E.fold settings.entry z (onset_of (start_of S.items self.entry.controller) self.entry.ear
-            (over self.entry.wire self.entry.playing.recorder) self.entry.playing.left self.entry.playing.signs)) }
+            (over self.entry.wire self.entry.playing.recorder) self.entry.playing.left self.entry.playing.signs
+            self.entry.playing.console.hand.list)) }
         ensures works { IfOk result (λ next. W.failures next.wire ≡ 0) }
         ensures list { IfOk result (λ next. next.controller.source ≡ self.entry.controller.source) }
         ensures fewer { IfOk result (λ next. next.playing.left < self.entry.playing.left) }
         ensures ended { IfErr result (λ end.
             HasEnded W.does F.safe E.fold settings.entry (onset_of (start_of S.items self.entry.controller) self.entry.ear
-            (over self.entry.wire self.entry.playing.recorder) self.entry.playing.left self.entry.playing.signs) end.2 end.0) }
+            (over self.entry.wire self.entry.playing.recorder) self.entry.playing.left self.entry.playing.signs
+            self.entry.playing.console.hand.list) end.2 end.0) }
         ensures ended_works { IfErr result (λ end. end.0.line ≢ LineEnd.Failed → W.failures end.2 ≡ 0) }
         ensures asrun { IfErr result (λ end. HasAsrun settings.entry (S.items self.entry.controller.source.source) end.0) }
     {
@@ -160,16 +163,17 @@ impl<
         requires works { W.failures driver.wire ≡ 0 }
         requires unit { driver.unit ≡ settings.unit }
         ensures held { IfOk result (λ next. (is_held : Bool) (ear : E) (wire : W) (signs : Signs) (z : Onset E W F)
-            → (let x : Onset E W F = onset_of (start_of S.items driver.controller) ear (over wire self.entry.recorder) most signs in
+            → (let x : Onset E W F = onset_of (start_of S.items driver.controller) ear (over wire self.entry.recorder) most signs
+            self.entry.console.hand.list in
             AsksFirst W.does E.fold settings.entry is_held x driver.ear driver.wire self.entry.left self.entry.signs None
             → HasHeld W.does F.safe E.fold settings.entry z (onset_of (start_of S.items next.controller) next.ear
-            (over next.wire next.playing.recorder) next.playing.left next.playing.signs)
+            (over next.wire next.playing.recorder) next.playing.left next.playing.signs next.playing.console.hand.list)
             → HasHeld W.does F.safe E.fold settings.entry z x)) }
         ensures works { IfOk result (λ next. W.failures next.wire ≡ 0) }
         ensures list { IfOk result (λ next. next.controller.source ≡ driver.controller.source) }
         ensures fewer { IfOk result (λ next. next.playing.left < most) }
         ensures ended { IfErr result (λ end. Plays W.does F.safe E.fold driver.ear driver.unit self.entry.left
-            self.entry.signs (start_of S.items driver.controller) (over driver.wire self.entry.recorder) end.2 end.0) }
+            self.entry.signs self.entry.console.hand.list (start_of S.items driver.controller) (over driver.wire self.entry.recorder) end.2 end.0) }
         ensures ended_works { IfErr result (λ end. end.0.line ≢ LineEnd.Failed → W.failures end.2 ≡ 0) }
         ensures asrun { IfErr result (λ end. HasAsrun settings.entry (S.items driver.controller.source.source) end.0) }
     {
@@ -199,7 +203,7 @@ impl<
     ) -> LineEnd
         ensures { (kept : ℕ) × (result ≡ line_end_of ran (is_unplayed controller.now.mode self.now.signs controller.now.state)
             (controller.now.source.from + controller.now.state.settled) kept)
-            × IsNextKept self.now.console.hand.left_out (controller.now.source.from + controller.now.state.settled) kept }
+            × IsNextKept self.now.console.hand.list.left_out (controller.now.source.from + controller.now.state.settled) kept }
     {
         let snapshot = controller.snapshot();
         let outcome = controller.outcome();
@@ -219,13 +223,14 @@ impl<
         ran: Result<Ran, BrokenOff>,
         controller: &Controller<Rest<S>>,
     ) -> bool
-        ensures { IsTrue result → (ran ≡ Err BrokenOff.Left) × IsTrue (is_to_play controller.now.state.stage)
-            × IsNextKept self.now.console.hand.left_out (controller.now.source.from + controller.now.state.settled)
+        ensures { IsTrue result → (ran ≡ Err BrokenOff.Left)
+            × IsTrue (holds_back self.now.console.hand.list.holds controller.now.state)
+            × IsNextKept self.now.console.hand.list.left_out (controller.now.source.from + controller.now.state.settled)
             (controller.now.source.from + controller.now.state.settled) }
     {
-        let reported = reported_in_list(controller);
+        let (hand, reported) = (&self.console.hand, reported_in_list(controller));
         let is_left = ran == Err(BrokenOff::Left);
-        is_left && self.console.hand.next_kept(reported) == reported && is_to_play(controller)
+        is_left && hand.next_kept(reported) == reported && hand.holds_back(controller)
     }
 
     fn end<S: Source + Copy, E: Ear + Drop, W: Wire + Drop>(
@@ -253,15 +258,6 @@ impl<
         let (_, _, wire) = driver.into_parts();
         (end, console, wire)
     }
-}
-
-fn is_to_play<S: Source>(controller: &Controller<S>) -> bool
-    ensures { result ≡ is_to_play controller.now.state.stage }
-{
-    matches!(
-        controller.snapshot().standing,
-        Standing::Ready(Phase::Play(_))
-    )
 }
 
 // Writes all that waits to the journal, if there is one; or tells why it isn't whole.

@@ -1,4 +1,6 @@
-use Rattle.vdcp_run.proofs.Begun.{begun_again, unkept_again}
+use Rattle.std.proofs.Common.{subst}
+use Rattle.vdcp_journal_file.specs.Resuming.{JournalShows}
+use Rattle.vdcp_run.proofs.Begun.{begun_again, says_again, unkept_again}
 use Rattle.vdcp_run.proofs.begin.begin_after.Goals as goal
 use Rattle.vdcp_run.specs.Asking.{start_of}
 
@@ -14,3 +16,11 @@ returns-in-Err-clause-refused g c again =
     unkept_again (g.S.Source.items c.args.source.now) c.args.settings c.args.journal c.name.result c.args.heading.now
     c.beginning_of-beginning.result c.in-Err.failure again c.name.ensures c.requires.heading c.beginning_of-beginning.ensures.said
     c.in-Err.ensures.unopened
+
+pub returns-in-Ok-clause-calls : goal.returns-in-Ok-clause-calls
+returns-in-Ok-clause-calls g c again =
+    let begun = c.in-Ok.begun in
+    let shown = c.in-Ok.ensures.shows in
+    says_again (g.S.Source.items c.args.source.now) c.args.settings c.args.journal begun.calls.items again shown.0 begun.runs.items
+    (subst (λ heading. JournalShows (g.S.Source.items c.args.source.now) heading shown.0 begun.runs.items begun.calls.items)
+    c.requires.heading shown.1)

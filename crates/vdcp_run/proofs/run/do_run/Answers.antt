@@ -8,9 +8,9 @@ use Rattle.vdcp_run.specs.declared.run_end.RunEnd.{RunEnd}
 use Rattle.vdcp_run.specs.declared.settings.RunSettings.{RunSettings}
 
 -- a run that was told with status 0
-whole_run : {E : Type 0} (settings : RunSettings) (list : File) (end : RunEnd) (told : Result ℕ E)
-    → IsPlayed settings list end → IfOk told (λ status. status ≡ run_status end) → result_unwrap_or told 3 ≡ 0
-    → IsRun settings list
+whole_run : {Stream E : Type 0} (settings : RunSettings) (list : File) (end : RunEnd) (told : Result ℕ E)
+    → IsPlayed Stream settings list end → IfOk told (λ status. status ≡ run_status end) → result_unwrap_or told 3 ≡ 0
+    → IsRun Stream settings list
 whole_run settings list end (Ok status) played is none = record { end = end; played = played; whole = sym is ∙ none }
 whole_run settings list end (Err e) played is none = absurd (omega (arith, none))
 

@@ -25,6 +25,8 @@ returns g c =
       hand_is = refl;
       ahead = c.ahead_of.ensures;
       down = ap (λ (p : RunPage). p.down) c.follow-event.ensures.rest;
+      alarm = c.as_str.ensures.value ∙ ap (λ (p : RunPage). p.alarm.bytes) c.follow-event.ensures.rest;
+      alarms = ap (λ (p : RunPage). p.alarms) c.follow-event.ensures.rest;
     })
     (record {
       rows = sym c.as_slice.ensures.value;

@@ -17,7 +17,7 @@ tries-init g c = record {
   tries = (
     None,
     first,
-    subst (λ (wire : Option Streamed). CameTo c.args.settings (items_of c.args.events.now) wire c.try_events-end.result.0
+    subst (λ (wire : Option Streamed). CameTo g.row.R-Stream.Denot c.args.settings (items_of c.args.events.now) wire c.try_events-end.result.0
         c.try_events-end.result.1.line) c.requires.new c.try_events-end.ensures.came,
   );
   earlier = tt;
@@ -41,7 +41,7 @@ tries-preserved g c =
             (subst (λ n. later_after c.tries.settings n c.tries.end ≡ Some c.in-Some.later) count (sym c.in-Some.ensures.later)),
         c.try_events-next.ensures.came,
       );
-      earlier = subst (λ end. IfSome end (IsEarlier c.args.settings (items_of c.args.events.now))) (sym c.latest_end-earlier.ensures)
+      earlier = subst (λ end. IfSome end (IsEarlier g.row.R-Stream.Denot c.args.settings (items_of c.args.events.now))) (sym c.latest_end-earlier.ensures)
           (latest_is c.args.settings c.tries.settings (items_of c.args.events.now) before.tries.0 c.tries.session.line before.tries.1
           c.tries.end c.tries.earlier before.tries.2 before.earlier);
     }
@@ -63,6 +63,6 @@ returns g c =
     let ends = last_ends c.args.settings c.tries.settings (items_of c.args.events.now) c.tries.invariant.tries.0 c.tries.session.line
     c.tries.invariant.tries.1 c.tries.end c.tries.invariant.tries.2 over in
     elim c.match-end.branch [
-      | in_default-2 w ↦ subst (λ r. IfOk r (IsEnd c.args.settings (items_of c.args.events.now))) (sym w.result-is) tt
-      | in_default-2-2 w ↦ subst (λ r. IfOk r (IsEnd c.args.settings (items_of c.args.events.now))) (sym w.result-is) ends
+      | in_default-2 w ↦ subst (λ r. IfOk r (IsEnd g.row.R-Stream.Denot c.args.settings (items_of c.args.events.now))) (sym w.result-is) tt
+      | in_default-2-2 w ↦ subst (λ r. IfOk r (IsEnd g.row.R-Stream.Denot c.args.settings (items_of c.args.events.now))) (sym w.result-is) ends
     ]

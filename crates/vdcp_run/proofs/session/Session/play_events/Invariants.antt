@@ -13,9 +13,9 @@ invariant-tries g l = record {
   few : l.settings.limit ≤ 1000;
   listed : first_event l.settings.from ≤ length (items_of l.events);
   works : IfSome l.session.line (λ wire. failures_of wire.connection ≡ 0);
-  tries : (wire : Option Streamed) × IsTry l.initial.settings (items_of l.events) l.settings wire
-      × CameTo l.settings (items_of l.events) wire l.end l.session.line;
-  earlier : IfSome l.earlier (IsEarlier l.initial.settings (items_of l.events));
+  tries : (wire : Option Streamed) × IsTry g.row.R-Stream.Denot l.initial.settings (items_of l.events) l.settings wire
+      × CameTo g.row.R-Stream.Denot l.settings (items_of l.events) wire l.end l.session.line;
+  earlier : IfSome l.earlier (IsEarlier g.row.R-Stream.Denot l.initial.settings (items_of l.events));
 }
 
 abbrev pub decreases-tries : goal.decreases-tries

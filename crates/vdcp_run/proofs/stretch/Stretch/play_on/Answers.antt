@@ -19,7 +19,7 @@ returns-in-Err-clause-session g c =
     let at = c.stretches.stretch in
     record {
       onset = onset_of (start_of g.S.Source.items at.controller) at.ear (over at.wire at.playing.recorder) at.playing.left
-          at.playing.signs;
+          at.playing.signs at.playing.console.hand.list;
       held = c.stretches.invariant.held _ none;
       ended = c.in-Err.ensures.ended;
     }
