@@ -29,7 +29,7 @@ use Rattle.vdcp_laws.proofs.Journaled.{asked, given_awaited, one_silence, plan_s
 use Rattle.vdcp_laws.proofs.Running.{given_last, last_more, no_notes}
 use Rattle.vdcp_laws.specs.Announced.{Announces, came_again, played_notes}
 use Rattle.vdcp_laws.specs.Below.{UnitStays}
-use Rattle.vdcp_laws.specs.Kills.{IsRun, begun, happened, heard_notes, end_notes, notes_of, played, silence_notes, stray_notes}
+use Rattle.vdcp_laws.specs.Kills.{IsRun, begun, happened, said, heard_notes, end_notes, notes_of, played, silence_notes, stray_notes}
 use Rattle.vdcp_world.specs.LateLine.GoingOn.{IsNoTick, gone_on}
 use Rattle.vdcp_world.specs.LateLine.LateChannel.{LateChannel, after_late_event, after_late_events, command_bursts, oldest}
 use Rattle.vdcp_world.specs.LateLine.LateEvent.{LateEvent}
@@ -443,6 +443,8 @@ again_of stays h _ _ (happened {c} {notes} run (event.StrayNak byte) of_run) las
     plays
 again_of stays h _ _ (happened {c} {notes} run e of_run) last plays =
     passes stays h c notes e tt refl refl refl (again_of stays h c notes run) last plays
+again_of stays h _ _ (said {c} {notes} run call on) last plays =
+    absurd (none_some (sym (last_more None notes (note.List call ∷ [])) ∙ last))
 
 -- So it may go on with that PLAY.
 

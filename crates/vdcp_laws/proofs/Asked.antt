@@ -16,7 +16,7 @@ use Rattle.vdcp_wire.specs.Acts.{Act}
 use Rattle.vdcp_wire.specs.Wires.{Arrival, bytes, silence, close}
 use Rattle.vdcp_drive.specs.Auto.{Auto, Event, after, arrivals, arrives, calls}
 use Rattle.vdcp_drive.specs.Auto as auto
-use Rattle.vdcp_drive.specs.Ears.{ear_after}
+use Rattle.vdcp_drive.specs.Ears.{Fold, ear_after}
 use Rattle.vdcp_drive.specs.Hearing.{at_once}
 use Rattle.vdcp_drive.specs.Leaves.{IsRun, steps_in}
 use Rattle.vdcp_drive.specs.Reading.{Held, completed, held_after, held_after_silence}
@@ -26,9 +26,10 @@ use Rattle.vdcp_drive.specs.declared.hooks.BrokenOff.{BrokenOff}
 use Rattle.vdcp_drive.specs.declared.hooks.Kept.{Kept}
 use Rattle.vdcp_drive.specs.declared.hooks.Kept.TheVariants as row
 use Rattle.vdcp_drive.specs.declared.line.Ran.{Ran}
+use Rattle.vdcp_journal_file.specs.Recorded.{note_for}
 use Rattle.vdcp_laws.specs.Automation.{Prompt, end_notes, hears_all, holding, receives}
 use Rattle.vdcp_laws.specs.OneConnection.{hears_in}
-use Rattle.vdcp_laws.specs.TwoEnds.{AreLed, Ends, asked_first, bytes_in, note_for, notes_ended, notes_heard, sending, sent_down, with_automation, with_up}
+use Rattle.vdcp_laws.specs.TwoEnds.{AreLed, Ends, asked_first, bytes_in, notes_ended, notes_heard, sending, sent_down, with_automation, with_up}
 use Rattle.vdcp_laws.proofs.Asks.{MayAsk, asks_all}
 use Rattle.vdcp_laws.proofs.Joining.{sent_more}
 use Rattle.vdcp_laws.proofs.Carrying.{Last, Side, acts_both, came_both, heard_up, last_so, led_first, listening, sent_both}
@@ -47,7 +48,7 @@ passes plan came p none = ap (λ (o : Option Command). record {
 pub no_notes : (plan : Plan) (came : Option Heard) (s : State) → awaited plan s ≡ None → notes_ended plan came s ≡ []
 no_notes plan came s none = ap (λ (o : Option Command). map note_for (end_notes (exchange_of plan.mode came o))) none
 
-passes_all : (plan : Plan) (unit : ℕ) (ms : List Content) (p : Prompt) → awaited plan p.state ≡ None
+pub passes_all : (plan : Plan) (unit : ℕ) (ms : List Content) (p : Prompt) → awaited plan p.state ≡ None
     → hears_all plan unit ms p ≡ p
 passes_all plan unit [] p none = refl
 passes_all plan unit (m ∷ ms) p none =
@@ -147,35 +148,34 @@ ear_so plan unit a (arrives what ∷ later) = ear_so plan unit (auto.listens at_
 ear_so plan unit a (calls c ∷ later) = ear_so plan unit (auto.heeds c a) later
 
 -- vdcp_drive::laws::steps_are_exchanges
-pub record Steps : Type 0 where
-  pub bytes : (plan : Plan) (unit : ℕ) (a : Auto Held) (events : List Event)
-      → sent_in (acts_in (steps_of at_once plan unit a events))
-      ≡ bytes_of unit (commands_kept (kept_in (steps_of at_once plan unit a events)))
-  pub came : (plan : Plan) (unit : ℕ) (a : Auto Held) (events : List Event)
-      → came_in (acts_in (steps_of at_once plan unit a events)) ≡ arrivals events
+pub record Steps {E : Type 0} (fold : Fold E) : Type 0 where
+  pub bytes : (plan : Plan) (unit : ℕ) (a : Auto E) (events : List Event)
+      → sent_in (acts_in (steps_of fold plan unit a events))
+      ≡ bytes_of unit (commands_kept (kept_in (steps_of fold plan unit a events)))
+  pub came : (plan : Plan) (unit : ℕ) (a : Auto E) (events : List Event)
+      → came_in (acts_in (steps_of fold plan unit a events)) ≡ arrivals events
 
-module _ (law : Steps) (plan : Plan) (unit count : ℕ) (a a' : Auto Held) (answer : Result Ran BrokenOff)
-    (run : IsRun at_once plan unit count a a' answer) where
-  pub ending : Last plan unit (after at_once plan unit a run.events).state answer run.more
-  ending = last_so plan unit count run.events (after at_once plan unit a run.events) a' answer run.more run.ending
+module _ {E : Type 0} {fold : Fold E} (law : Steps fold) (plan : Plan) (unit count : ℕ) (a a' : Auto E)
+    (answer : Result Ran BrokenOff) (run : IsRun fold plan unit count a a' answer) where
+  pub ending : Last plan unit (after fold plan unit a run.events).state answer run.more
+  ending = last_so plan unit count run.events (after fold plan unit a run.events) a' answer run.more run.ending
 
   pub came_of_run : came_in (acts_in (steps_in run)) ≡ arrivals run.events
   came_of_run =
-      let steps : List Step = steps_of at_once plan unit a run.events in
+      let steps : List Step = steps_of fold plan unit a run.events in
       ap came_in (acts_both steps run.more) ∙ came_both (acts_in steps) (acts_in run.more)
       ∙ ap₂ (λ (l k : List Arrival). l ++ k) (law.came plan unit a run.events) ending.none ∙ append-nil (arrivals run.events)
 
-  pub ear_of_run : a'.ear ≡ ear_over unit (came_in (acts_in (steps_in run))) a.ear
-  ear_of_run =
-      stays (left_at plan unit count run.events (after at_once plan unit a run.events) a' answer run.more run.ending)
-      ∙ ear_so plan unit a run.events ∙ ap (λ (l : List Arrival). ear_over unit l a.ear) (sym came_of_run) where
-        stays : {b : Auto Held} → (a' ≡ b) ⊎ (a' ≡ auto.gives b) → a'.ear ≡ b.ear
-        stays (inl left) = ap (λ (x : Auto Held). x.ear) left
-        stays (inr left) = ap (λ (x : Auto Held). x.ear) left
+  pub ear_left : a'.ear ≡ (after fold plan unit a run.events).ear
+  ear_left =
+      stays (left_at plan unit count run.events (after fold plan unit a run.events) a' answer run.more run.ending) where
+        stays : {b : Auto E} → (a' ≡ b) ⊎ (a' ≡ auto.gives b) → a'.ear ≡ b.ear
+        stays (inl left) = ap (λ (x : Auto E). x.ear) left
+        stays (inr left) = ap (λ (x : Auto E). x.ear) left
 
   pub part_of_run : bytes_of unit (commands_kept (kept_in (steps_in run))) ≡ sent_in (acts_in (steps_in run)) ++ ending.unsent
   part_of_run =
-      let steps : List Step = steps_of at_once plan unit a run.events in
+      let steps : List Step = steps_of fold plan unit a run.events in
       let first : List Command = commands_kept (kept_in steps) in
       ap (λ (l : List Kept). bytes_of unit (commands_kept l)) (rows_both steps run.more)
       ∙ ap (bytes_of unit) (commands_both (kept_in steps) (kept_in run.more))
@@ -184,3 +184,9 @@ module _ (law : Steps) (plan : Plan) (unit count : ℕ) (a a' : Auto Held) (answ
       ∙ sym (append_assoc (sent_in (acts_in steps)) (sent_in (acts_in run.more)) ending.unsent)
       ∙ ap (λ (l : List ℕ). l ++ ending.unsent)
       (sym (ap sent_in (acts_both steps run.more) ∙ sent_both (acts_in steps) (acts_in run.more)))
+
+pub ear_of_run : (law : Steps at_once) (plan : Plan) (unit count : ℕ) (a a' : Auto Held) (answer : Result Ran BrokenOff)
+    → (run : IsRun at_once plan unit count a a' answer) → a'.ear ≡ ear_over unit (came_in (acts_in (steps_in run))) a.ear
+ear_of_run law plan unit count a a' answer run =
+    ear_left law plan unit count a a' answer run ∙ ear_so plan unit a run.events
+    ∙ ap (λ (l : List Arrival). ear_over unit l a.ear) (sym (came_of_run law plan unit count a a' answer run))

@@ -92,3 +92,6 @@ probes plan k = (question.State, refl)
 
 pub waits : (plan : Plan) (k : ℕ) → MayAsk plan (Ready (phase.Play k)) (command.Status 1)
 waits plan k = (question.State, refl)
+
+pub awaits : (plan : Plan) (k : ℕ) → MayAsk plan (Ready (phase.Wait k)) (command.Status 1)
+awaits plan k = (question.State, refl)

@@ -16,6 +16,7 @@ use Rattle.vdcp_drive.specs.Turns.{Turn}
 use Rattle.vdcp_drive.specs.declared.hearing.Hearing.TheVariants.{AtOnce}
 use Rattle.vdcp_drive.specs.Auto.{AreMade, Auto, Event, after, log_of}
 use Rattle.vdcp_drive.specs.Auto as auto
+use Rattle.vdcp_drive.specs.Ears.{Fold}
 use Rattle.vdcp_drive.specs.Hearing.{at_once}
 use Rattle.vdcp_drive.specs.Leaves.{Ending, by_itself, by_hooks, in_keep, in_drop, in_send, in_listen, IsRun}
 use Rattle.vdcp_drive.specs.Reading.{Held}
@@ -26,6 +27,7 @@ use Rattle.vdcp_drive.specs.declared.hooks.BrokenOff.TheVariants as fault
 use Rattle.vdcp_drive.specs.declared.hooks.Kept.{Kept}
 use Rattle.vdcp_drive.specs.declared.hooks.Next.TheVariants as next_turn
 use Rattle.vdcp_drive.specs.declared.line.Ran.{Ran}
+use Rattle.vdcp_journal_file.specs.Recorded.{note_for}
 use Rattle.vdcp_laws.specs.Automation.{Prompt}
 use Rattle.vdcp_laws.specs.Carried.{AreCarried, MayGive, driver_of, next, nothing}
 use Rattle.vdcp_laws.specs.Carried as carried
@@ -33,7 +35,7 @@ use Rattle.vdcp_laws.specs.EndsHeadline.{EndsHeadline}
 use Rattle.vdcp_laws.specs.Mended.{behind}
 use Rattle.vdcp_laws.specs.OneConnection.{ends_at, ends_by, hears_in}
 use Rattle.vdcp_laws.specs.TwoEnds as two
-use Rattle.vdcp_laws.specs.TwoEnds.{AreJoined, AreLed, CanJoin, Ends, aired_now, log_now, new_ends, note_for, sent_down}
+use Rattle.vdcp_laws.specs.TwoEnds.{AreJoined, AreLed, CanJoin, Ends, aired_now, log_now, new_ends, sent_down}
 use Rattle.vdcp_laws.proofs.Bytes.{none_before}
 use Rattle.vdcp_laws.proofs.Carrying.{Leads, Side, events_side, given_side, head_of, no_act, sent_both, tail_of}
 use Rattle.vdcp_laws.proofs.Leading.{IsFront, IsQuiet, side_led}
@@ -43,8 +45,8 @@ use Rattle.vdcp_laws.proofs.OneRun.{automation_so, led_on, stays}
 use Rattle.vdcp_laws.proofs.Servers.{ServedSo}
 use Rattle.vdcp_laws.proofs.Same.{led_log, led_so}
 
-pub left_at : (plan : Plan) (unit count : ℕ) (events : List Event) (a a' : Auto Held) (answer : Result Ran BrokenOff)
-    (more : List Step) → Ending at_once plan unit count events a answer more a' → (a' ≡ a) ⊎ (a' ≡ auto.gives a)
+pub left_at : {E : Type 0} {fold : Fold E} (plan : Plan) (unit count : ℕ) (events : List Event) (a a' : Auto E)
+    (answer : Result Ran BrokenOff) (more : List Step) → Ending fold plan unit count events a answer more a' → (a' ≡ a) ⊎ (a' ≡ auto.gives a)
 left_at plan unit count events a a' answer more (by_itself r is to m left) = inl left
 left_at plan unit count events a a' answer more (by_hooks is g m left) = inl left
 left_at plan unit count events a a' answer more (in_keep r is g m left) = inl left
@@ -53,8 +55,8 @@ left_at plan unit count events a a' answer more (in_send c front rest is g parts
 left_at plan unit count events a a' answer more (in_listen is m left) = inr left
 
 -- a run that was left by its hooks
-pub left_by_hooks : (plan : Plan) (unit count : ℕ) (events : List Event) (a a' : Auto Held) (answer : Result Ran BrokenOff)
-    (more : List Step) → Ending at_once plan unit count events a answer more a' → answer ≡ Err fault.Left
+pub left_by_hooks : {E : Type 0} {fold : Fold E} (plan : Plan) (unit count : ℕ) (events : List Event) (a a' : Auto E)
+    (answer : Result Ran BrokenOff) (more : List Step) → Ending fold plan unit count events a answer more a' → answer ≡ Err fault.Left
     → (a' ≡ a) × (more ≡ asks a.state next_turn.Leave ∷ [])
 left_by_hooks plan unit count events a a' answer more (by_itself r is to m left) at = absurd (cc (sym is ∙ at))
 left_by_hooks plan unit count events a a' answer more (by_hooks is g m left) at = (left, m)

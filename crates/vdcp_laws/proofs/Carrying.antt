@@ -1,5 +1,5 @@
 -- The automation's side of a connection, act by act of its wire: where that leaves both ends, the server's turns aside.
-use Rattle.std.proofs.Common.{ℕ, ◌≡◌, false, List, [], ◌∷◌, ◌++◌, map, refl, sym, ap, subst, ◌∙◌, append_assoc, append-nil, arith}
+use Rattle.std.proofs.Common.{ℕ, ◌≡◌, Bool, true, false, List, [], ◌∷◌, ◌++◌, map, refl, sym, ap, subst, ◌∙◌, append_assoc, append-nil, arith}
 use Rattle.std.proofs.lemmas.Grind.{flat_map-append}
 use Rattle.std.specs.Option.{option_to_list}
 use Rattle.std.specs.Prelude.{◌≢◌, Option, None, Some, Result, Err}
@@ -11,24 +11,24 @@ use Rattle.vdcp_wire.specs.Acts.{Act, sends, brings, drops, fails}
 use Rattle.vdcp_wire.specs.Wires.{Arrival, bytes, silence, close}
 use Rattle.vdcp_drive.specs.Auto.{AreMade, Auto, Event, after, arrives, calls, ended}
 use Rattle.vdcp_drive.specs.Auto as auto
-use Rattle.vdcp_drive.specs.Ears.{inputs}
+use Rattle.vdcp_drive.specs.Ears.{Fold, inputs}
 use Rattle.vdcp_drive.specs.Hearing.{at_once}
 use Rattle.vdcp_drive.specs.Leaves.{Ending, IsRun, by_itself, by_hooks, in_keep, in_drop, in_send, in_listen, steps_in}
 use Rattle.vdcp_drive.specs.Reading.{Held}
-use Rattle.vdcp_drive.specs.Steps.{Step, acts, asks, keeps, misses, command_bytes, ended_notes, given_notes, opening, round, sending, steps_of}
+use Rattle.vdcp_drive.specs.Steps.{Step, acts, asks, keeps, misses, command_bytes, dropping, ended_notes, given_notes, opening, round, sending, steps_of}
 use Rattle.vdcp_drive.specs.Traces.{acts_in, bytes_of, came_in, commands_kept, kept_in, sent_in}
 use Rattle.vdcp_drive.specs.Turns.{Turn}
-use Rattle.vdcp_drive.specs.declared.hooks.Call.TheVariants as call
 use Rattle.vdcp_drive.specs.declared.hooks.Kept.{Kept}
+use Rattle.vdcp_drive.specs.declared.hooks.Kept.TheVariants as row
 use Rattle.vdcp_drive.specs.declared.hooks.BrokenOff.{BrokenOff}
 use Rattle.vdcp_drive.specs.declared.hooks.BrokenOff.TheVariants as fault
 use Rattle.vdcp_drive.specs.declared.hooks.Next.TheVariants as next
 use Rattle.vdcp_drive.specs.declared.line.Ran.{Ran}
 use Rattle.vdcp_laws.specs.Automation.{gives, listens}
 use Rattle.vdcp_laws.specs.Carried.{driver_of}
-use Rattle.vdcp_laws.specs.OneConnection.{ends_by, hears_in, heeds_in}
+use Rattle.vdcp_laws.specs.OneConnection.{ends_by, hears_in}
 use Rattle.vdcp_laws.specs.TwoEnds as two
-use Rattle.vdcp_laws.specs.TwoEnds.{Ends, bytes_in, sent_down, with_command}
+use Rattle.vdcp_laws.specs.TwoEnds.{Ends, bytes_in, sent_down, with_call, with_command}
 use Rattle.vdcp_laws.proofs.Bytes.{none_before}
 use Rattle.vdcp_laws.proofs.Fronts.{head_so, tail_so}
 use Rattle.vdcp_laws.proofs.Joining.{sent_more}
@@ -59,7 +59,7 @@ sent_both (brings what ∷ xs) ys = sent_both xs ys
 sent_both (drops ∷ xs) ys = sent_both xs ys
 sent_both (fails ∷ xs) ys = sent_both xs ys
 
-keeps_nothing : (ks : List Kept) → acts_in (map keeps ks) ≡ []
+pub keeps_nothing : (ks : List Kept) → acts_in (map keeps ks) ≡ []
 keeps_nothing [] = refl
 keeps_nothing (k ∷ ks) = keeps_nothing ks
 
@@ -110,12 +110,20 @@ none_sent plan unit s answer more none given_none = record {
   all = λ no. refl;
 }
 
-listen_fails : (plan : Plan) (unit : ℕ) (a : Auto Held) (answer : Result Ran BrokenOff) (o : Option Command)
+listen_fails : {E : Type 0} (plan : Plan) (unit : ℕ) (a : Auto E) (answer : Result Ran BrokenOff) (first : Bool) (o : Option Command)
     → given plan a.state ≡ o → Last plan unit a.state answer
-    ((asks a.state next.GoOn ∷ (map keeps (given_notes o) ++ map acts (sending false unit o))) ++ acts fails ∷ [])
-listen_fails plan unit a answer None is =
+    ((asks a.state next.GoOn ∷ (map keeps (given_notes o) ++ map acts (sending first unit o))) ++ acts fails ∷ [])
+listen_fails plan unit a answer first None is =
     record { none = refl; others = []; given_is = ap option_to_list is; unsent = []; part = refl; all = λ no. refl }
-listen_fails plan unit a answer (Some c) is = record {
+listen_fails plan unit a answer true (Some c) is = record {
+  none = refl;
+  others = [];
+  given_is = ap option_to_list is;
+  unsent = [];
+  part = sym (append-nil (command_bytes unit c ++ []));
+  all = λ no. refl;
+}
+listen_fails plan unit a answer false (Some c) is = record {
   none = refl;
   others = [];
   given_is = ap option_to_list is;
@@ -124,26 +132,49 @@ listen_fails plan unit a answer (Some c) is = record {
   all = λ no. refl;
 }
 
-pub last_so : (plan : Plan) (unit count : ℕ) (events : List Event) (a a' : Auto Held) (answer : Result Ran BrokenOff)
-    (more : List Step) → Ending at_once plan unit count events a answer more a' → Last plan unit a.state answer more
+send_fails : {E : Type 0} (plan : Plan) (unit : ℕ) (a : Auto E) (answer : Result Ran BrokenOff) (first : Bool) (c : Command)
+    (front rest : List ℕ) → given plan a.state ≡ Some c → command_bytes unit c ≡ front ++ rest → answer ≡ Err fault.Device
+    → Last plan unit a.state answer
+    (asks a.state next.GoOn ∷ keeps (row.Sent c) ∷ map acts (dropping first ++ sends front ∷ []))
+send_fails plan unit a answer true c front rest g parts is = record {
+  none = refl;
+  others = [];
+  given_is = ap option_to_list g;
+  unsent = rest;
+  part = append-nil (command_bytes unit c) ∙ parts ∙ ap (λ (l : List ℕ). l ++ rest) (sym (append-nil front));
+  all = λ no. absurd (no is);
+}
+send_fails plan unit a answer false c front rest g parts is = record {
+  none = refl;
+  others = [];
+  given_is = ap option_to_list g;
+  unsent = rest;
+  part = append-nil (command_bytes unit c) ∙ parts ∙ ap (λ (l : List ℕ). l ++ rest) (sym (append-nil front));
+  all = λ no. absurd (no is);
+}
+
+pub last_so : {E : Type 0} {fold : Fold E} (plan : Plan) (unit count : ℕ) (events : List Event) (a a' : Auto E)
+    (answer : Result Ran BrokenOff) (more : List Step) → Ending fold plan unit count events a answer more a'
+    → Last plan unit a.state answer more
 last_so plan unit count events a a' answer more (by_itself r is to m left) =
     subst (Last plan unit a.state answer) (sym m) (none_sent plan unit a.state answer [] refl refl)
 last_so plan unit count events a a' answer more (by_hooks is g m left) =
     subst (Last plan unit a.state answer) (sym m) (none_sent plan unit a.state answer _ refl refl)
 last_so plan unit count events a a' answer more (in_keep r is g m left) =
     subst (Last plan unit a.state answer) (sym m) (none_sent plan unit a.state answer _ refl refl)
-last_so plan unit count events a a' answer more (in_drop c is dropping g m left) = absurd (grind (arith, dropping))
-last_so plan unit count events a a' answer more (in_send c front rest is g parts m left) =
+last_so plan unit count events a a' answer more (in_drop c is dropping g m left) =
     subst (Last plan unit a.state answer) (sym m) (record {
       none = refl;
       others = [];
       given_is = ap option_to_list g;
-      unsent = rest;
-      part = append-nil (command_bytes unit c) ∙ parts ∙ ap (λ (l : List ℕ). l ++ rest) (sym (append-nil front));
+      unsent = command_bytes unit c;
+      part = append-nil (command_bytes unit c);
       all = λ no. absurd (no is);
     })
-last_so plan unit count events a a' answer more (in_listen is m left) =
-    subst (Last plan unit a.state answer) (sym m) (listen_fails plan unit a answer (given plan a.state) refl)
+last_so {fold} plan unit count events a a' answer more (in_send c front rest is g parts m left) =
+    subst (Last plan unit a.state answer) (sym m) (send_fails plan unit a answer fold.drops c front rest g parts is)
+last_so {fold} plan unit count events a a' answer more (in_listen is m left) =
+    subst (Last plan unit a.state answer) (sym m) (listen_fails plan unit a answer fold.drops (given plan a.state) refl)
 
 -- What comes up to ends.
 
@@ -160,7 +191,7 @@ heard_by : (plan : Plan) (unit : ℕ) (a : Arrival) (e : Ends)
     → (hears_in plan unit a e).automation ≡ listens plan unit a e.automation
 heard_by plan unit a e = grind arith
 
-heard_down : (plan : Plan) (unit : ℕ) (a : Arrival) (e : Ends)
+pub heard_down : (plan : Plan) (unit : ℕ) (a : Arrival) (e : Ends)
     → sent_down unit (hears_in plan unit a e) ≡ sent_down unit e
 heard_down plan unit a e = grind arith
 
@@ -378,14 +409,10 @@ pub events_side : (plan : Plan) (unit : ℕ) (R : Ends → Ends → Type 0) (lea
     → Side plan unit R e (sent_down unit e)
     (acts_in (steps_of at_once plan unit (driver_of e.automation) events) ++ out) last
 events_side plan unit R leads out last [] e made s = s
-events_side plan unit R leads out last (calls call.Take ∷ later) e made s =
-    led_first plan unit R e (heeds_in call.Take e) (sent_down unit e) _ _
-    (λ first downs j. leads.on (two.took made.0) tt j) refl refl
-    (events_side plan unit R leads out last later (heeds_in call.Take e) made.1 s)
-events_side plan unit R leads out last (calls call.Stop ∷ later) e made s =
-    led_first plan unit R e (heeds_in call.Stop e) (sent_down unit e) _ _
-    (λ first downs j. leads.on (two.halted made.0) tt j) refl refl
-    (events_side plan unit R leads out last later (heeds_in call.Stop e) made.1 s)
+events_side plan unit R leads out last (calls c ∷ later) e made s =
+    led_first plan unit R e (with_call c e) (sent_down unit e) _ _
+    (λ first downs j. leads.on (two.calls c made.0) tt j) refl refl
+    (events_side plan unit R leads out last later (with_call c e) made.1 s)
 events_side plan unit R leads out last (arrives what ∷ later) e made s =
     let now : Ends = with_command plan e in
     let then : Ends = hears_in plan unit what now in

@@ -10,23 +10,28 @@ use Rattle.vdcp_port.specs.Clock.{ClockedPort}
 use Rattle.vdcp_auto.specs.Course.{logged}
 use Rattle.vdcp_auto.specs.Plan.{Plan}
 use Rattle.vdcp_auto.specs.State.{State}
-use Rattle.vdcp_auto.specs.Turn.{came_to, ended_by, given, is_ready, outcome_of, stopped, taken, ticked}
+use Rattle.vdcp_auto.specs.Turn.{came_to, ended_by, given, is_ready, outcome_of, taken, ticked}
 use Rattle.vdcp_auto.specs.declared.exchange.Exchange.{Exchange}
 use Rattle.vdcp_auto.specs.declared.exchange.Heard.{Heard}
 use Rattle.vdcp_journal.specs.declared.row.Note.{Note}
 use Rattle.vdcp_journal.specs.declared.row.Note.TheVariants as note
+use Rattle.vdcp_journal_file.specs.Recorded.{note_for}
+use Rattle.vdcp_drive.specs.Auto.{called}
 use Rattle.vdcp_drive.specs.Serving.{Service}
+use Rattle.vdcp_drive.specs.declared.hooks.Call.{Call}
+use Rattle.vdcp_drive.specs.declared.hooks.Call.TheVariants as call
+use Rattle.vdcp_drive.specs.declared.hooks.Kept.TheVariants as kept
 use Rattle.vdcp_laws.specs.Announced.{Announces, came_again}
 use Rattle.vdcp_laws.specs.Below.{Laws}
 use Rattle.vdcp_laws.specs.Kills as kills
-use Rattle.vdcp_laws.specs.Kills.{IsRun, happened, silence_notes}
+use Rattle.vdcp_laws.specs.Kills.{IsRun, happened, said, silence_notes}
 use Rattle.vdcp_drive.specs.Reading.{holds}
 use Rattle.vdcp_drive.specs.ServerEars.{in_stream}
 use Rattle.vdcp_world.specs.LateLine.LateChannel.{AsksOnly, LateChannel, IsQuestion, after_late_event, command_bursts, made_anew, new_late_channel}
 use Rattle.vdcp_world.specs.LateLine.LateEvent as event
-use Rattle.vdcp_laws.specs.TwoEnds.{AreJoined, begun, went_on, gave, asks, came_up, came_down, waited, passed, paused, shut, took, halted, resumed, restarted}
+use Rattle.vdcp_laws.specs.TwoEnds.{AreJoined, begun, went_on, gave, asks, came_up, came_down, waited, passed, paused, shut, calls, resumed, restarted}
 use Rattle.vdcp_laws.specs.TwoEnds.{GoesOn, as_announced, as_noted}
-use Rattle.vdcp_laws.specs.TwoEnds.{CanJoin, Ends, IsLateChannel, aired_now, connected_anew, log_now, new_ends, port_now, sent_down, with_take, heard_again}
+use Rattle.vdcp_laws.specs.TwoEnds.{CanJoin, Ends, IsLateChannel, aired_now, connected_anew, log_now, new_ends, port_now, sent_down, with_call, heard_again}
 use Rattle.vdcp_laws.proofs.Bytes.{nothing_unfinished}
 use Rattle.vdcp_laws.proofs.Noting.{are_reached}
 use Rattle.vdcp_laws.proofs.Queues.{Takes, bytes_to, logged_behind, loses_down, loses_up, messages_to, nothing_taken, with_queues}
@@ -147,14 +152,23 @@ connects law plan port e c d q b run same is unit clips =
       fewer = omega arith;
     }
 
--- What an automation goes on as that is killed.
+-- The operator's calls.
 
-pub takes : (plan : Plan) (port : ClockedPort) (e : Ends) (c : LateChannel)
+runs_called : (c : LateChannel) (notes : List Note) (x : Call) → IsRun c notes → outcome_of c.state.stage ≡ None
+    → IsRun (record c { state = called x c.state }) (notes ++ note_for (kept.Called x) ∷ [])
+runs_called c notes call.Take run on = happened run event.Take on
+runs_called c notes call.Stop run on = happened run event.Stop on
+runs_called c notes (call.List x) run on = said run x on
+
+pub heeds : (plan : Plan) (port : ClockedPort) (e : Ends) (c : LateChannel) (x : Call)
     → outcome_of e.automation.state.stage ≡ None → IsBeside plan port e c
-    → IsBeside plan port (with_take e) (after_late_event c event.Take)
-takes plan port e c on b =
-    wishes plan port e c (taken c.state) (taken e.automation.state) (note.Take ∷ []) b (ap taken b.state_is)
-    (happened b.run event.Take (ap (λ (s : State). outcome_of s.stage) b.state_is ∙ on))
+    → IsBeside plan port (with_call x e) (record c { state = called x c.state })
+heeds plan port e c x on b =
+    wishes plan port e c (called x c.state) (called x e.automation.state) (note_for (kept.Called x) ∷ []) b
+    (ap (called x) b.state_is)
+    (runs_called c e.notes x b.run (ap (λ (s : State). outcome_of s.stage) b.state_is ∙ on))
+
+-- What an automation goes on as that is killed.
 
 -- what was heard last is heard once more, after a take
 hears_again : (law : Laws) (plan : Plan) (port : ClockedPort) (asked : List Command) (e : Ends) (c : LateChannel)
@@ -239,15 +253,9 @@ beside law plan port asked _ can (went_on {e} j paused) =
 beside law plan port asked _ can (went_on {e} j shut) =
     let r = beside law plan port asked e can j in
     record { channel = r.channel; beside = shuts law plan port e r.channel r.beside }
-beside law plan port asked _ can (went_on {e} j (took on)) =
-    let r = beside law plan port asked e can j in record { channel = _; beside = takes plan port e r.channel on r.beside }
-beside law plan port asked _ can (went_on {e} j (halted on)) =
-    let r = beside law plan port asked e can j in record {
-      channel = _;
-      beside = wishes plan port e r.channel (stopped r.channel.state) (stopped e.automation.state) (note.Stop ∷ []) r.beside
-          (ap stopped r.beside.state_is)
-          (happened r.beside.run event.Stop (ap (λ (s : State). outcome_of s.stage) r.beside.state_is ∙ on));
-    }
+beside law plan port asked _ can (went_on {e} j (calls x on)) =
+    let r = beside law plan port asked e can j in
+    record { channel = _; beside = heeds plan port e r.channel x on r.beside }
 beside law plan port asked _ can (went_on {e} j (resumed {on} goes)) =
     let r = beside law plan port asked e can j in
     let g = goes_beside law plan port asked e on r.channel can (ready law plan port asked e can j) r.beside goes in

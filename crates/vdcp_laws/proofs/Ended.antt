@@ -13,7 +13,7 @@ use Rattle.vdcp_laws.specs.Automation.{Prompt, hears, hears_all}
 use Rattle.vdcp_drive.specs.Reading.{completed}
 use Rattle.vdcp_world.specs.LateLine.LateHeadline.{is_late_complete}
 use Rattle.vdcp_laws.specs.TwoEnds.{AreJoined, AreLed, CanJoin, Ends, GoesOn, Step, aired_now, as_announced, as_noted, begun, went_on}
-use Rattle.vdcp_laws.specs.TwoEnds.{gave, asks, came_up, came_down, waited, passed, paused, shut, took, halted, resumed, restarted}
+use Rattle.vdcp_laws.specs.TwoEnds.{gave, asks, came_up, came_down, waited, passed, paused, shut, calls, resumed, restarted}
 use Rattle.vdcp_laws.proofs.Commands.{hears_comes, still}
 use Rattle.vdcp_laws.proofs.Headline.{Laws, of_ends}
 
@@ -72,8 +72,7 @@ step_rests plan unit e _ o waited is =
 step_rests plan unit e _ o passed is = (is, refl)
 step_rests plan unit e _ o paused is = (is, refl)
 step_rests plan unit e _ o shut is = (is, refl)
-step_rests plan unit e _ o (took on) is = (is, refl)
-step_rests plan unit e _ o (halted on) is = (is, refl)
+step_rests plan unit e _ o (calls c on) is = absurd (cc (sym on ∙ ap outcome_of is))
 step_rests plan unit e _ o (resumed {on} goes) is =
     then_timed_out plan o e.automation.state on.automation.state (goes_rests plan e on o goes is)
 step_rests plan unit e _ o (restarted {on} goes) is =

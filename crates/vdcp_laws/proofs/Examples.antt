@@ -35,6 +35,7 @@ use Rattle.vdcp_drive.specs.Serving.{begins, items_in, hook_steps}
 use Rattle.vdcp_drive.specs.Turns.{Turn, arrivals, frame, listen}
 use Rattle.vdcp_drive.specs.declared.hearing.Hearing.TheVariants.{AtOnce}
 use Rattle.vdcp_drive.specs.Auto.{Event, arrives, calls}
+use Rattle.vdcp_auto.specs.declared.list_call.ListCall.TheVariants.{Hold}
 use Rattle.vdcp_drive.specs.declared.hooks.Call.TheVariants as call
 use Rattle.vdcp_world.specs.InTime.{not_yets}
 use Rattle.vdcp_laws.specs.InTime as timely
@@ -204,13 +205,15 @@ two_of_six_say_not_yet : (clip_length : Timecode) → (length (log_now (polled_i
     × (not_yets (log_now (polled_in_time clip_length).0) ≡ 2)
 two_of_six_say_not_yet clip_length = (refl, refl)
 
--- the operator takes and stops before a command goes out: then STOP goes out first
+-- the operator holds the list, takes and stops before a command goes out: then STOP goes out first
 abbrev stop_bytes : List ℕ
 stop_bytes = 0x02 ∷ 0x02 ∷ 0x10 ∷ 0x00 ∷ 0xF0 ∷ []
 
-a_run_with_calls : (length : Timecode) → ComesTo length (calls call.Take ∷ calls call.Stop ∷ []) (listen (bytes stop_bytes) ∷ [])
+a_run_with_calls : (length : Timecode)
+    → ComesTo length (calls (call.List Hold) ∷ calls call.Take ∷ calls call.Stop ∷ []) (listen (bytes stop_bytes) ∷ [])
 a_run_with_calls length =
-    ends.went_on (ends.went_on (ends.went_on (ends.went_on ends.begun (ends.took refl)) (ends.halted refl)) ends.gave)
+    ends.went_on (ends.went_on (ends.went_on (ends.went_on (ends.went_on ends.begun
+    (ends.calls (call.List Hold) refl)) (ends.calls call.Take refl)) (ends.calls call.Stop refl)) ends.gave)
     (ends.came_down stop_bytes [] refl)
 
 it_airs : (length : Timecode) → items_in (hook_steps (begins AtOnce (port length)) cut_downs) ≡ whole clip ∷ []

@@ -16,12 +16,13 @@ use Rattle.vdcp_port.specs.Clips.{is_playable}
 use Rattle.vdcp_port.specs.Clock.{ClockedPort}
 use Rattle.vdcp_auto.specs.Plan.{Plan}
 use Rattle.vdcp_auto.specs.State.{Stage, Ready, Awaiting, Ended, State}
-use Rattle.vdcp_auto.specs.Turn.{given, given_in, is_awaiting, outcome_of, stopped, ticked}
+use Rattle.vdcp_auto.specs.Turn.{given, given_in, is_awaiting, outcome_of, ticked}
 use Rattle.vdcp_auto.specs.declared.exchange.Exchange.{Exchange}
 use Rattle.vdcp_journal.specs.declared.row.Note.{Note}
 use Rattle.vdcp_journal.specs.declared.row.Note.TheVariants as note
 use Rattle.vdcp_drive.specs.Reading.{Held, completed}
 use Rattle.vdcp_drive.specs.Serving.{Service}
+use Rattle.vdcp_drive.specs.declared.hooks.Call.TheVariants as call
 use Rattle.vdcp_world.specs.AnyPort.{CanRun}
 use Rattle.vdcp_world.specs.Headline.{Headline, Means}
 use Rattle.vdcp_world.specs.Channel.{Channel, after_event, after_events, channel_to, down_behind, up_behind}
@@ -33,15 +34,14 @@ use Rattle.vdcp_world.specs.LateLine.LateEvent as late
 use Rattle.vdcp_world.specs.LateLine.LateEvent.{LateEvent}
 use Rattle.vdcp_world.specs.declared.event.Event.{Event}
 use Rattle.vdcp_world.specs.declared.event.Event.TheVariants as event
-use Rattle.vdcp_laws.specs.Kills.{happened}
 use Rattle.vdcp_laws.specs.InTime as timely
 use Rattle.vdcp_laws.specs.InTime.{AreChannel, AreNewInTime, CutsShort, HasCome, IsInTime, IsNoStopNote, IsNoTakeNote}
 use Rattle.vdcp_laws.specs.TwoEnds as two
 use Rattle.vdcp_laws.specs.TwoEnds.{AreJoined, CanJoin, Ends, Step, aired_now, log_now, new_ends, notes_ended, notes_given, notes_heard, with_command, with_down}
 use Rattle.vdcp_laws.proofs.Bytes.{fits_rest, spelt, spelt_both}
-use Rattle.vdcp_laws.proofs.Connecting.{begins, ready, takes}
+use Rattle.vdcp_laws.proofs.Connecting.{begins, heeds, ready}
 use Rattle.vdcp_laws.specs.Below as below
-use Rattle.vdcp_laws.proofs.Joining.{Comes, IsBeside, comes_down, comes_up, gives_next, passes, pauses, shuts, times_out, wishes}
+use Rattle.vdcp_laws.proofs.Joining.{Comes, IsBeside, comes_down, comes_up, gives_next, passes, pauses, shuts, times_out}
 use Rattle.vdcp_laws.proofs.Queues.{Takes, downs_of, ups_of}
 
 -- and vdcp_world::laws::{what_loses_nothing_plays_the_list, any_port_keeps_the_headline, no_cut_without_a_take}
@@ -278,15 +278,14 @@ module _ (law : Laws) (plan : Plan) (port : ClockedPort) (can : CanRun plan port
       (pauses law.ends plan port e (late_of (channel t)) t.beside)
   takes_step e e' j t two.shut timed =
       goes_still plan port e t e' [] (sym (append-nil e.notes)) (shuts law.ends plan port e (late_of (channel t)) t.beside)
-  takes_step e e' j t (two.took on) timed =
+  takes_step e e' j t (two.calls call.Take on) timed =
       goes_with plan port e t e' (note.Take ∷ []) refl event.Take tt (λ _. tt)
-      (λ all. absurd (All-head IsNoTakeNote note.Take [] all)) (takes plan port e (late_of (channel t)) on t.beside)
-  takes_step e e' j t (two.halted on) timed =
+      (λ all. absurd (All-head IsNoTakeNote note.Take [] all)) (heeds plan port e (late_of (channel t)) call.Take on t.beside)
+  takes_step e e' j t (two.calls call.Stop on) timed =
       goes_with plan port e t e' (note.Stop ∷ []) refl event.Stop tt (λ all. All-head IsNoStopNote note.Stop [] all)
-      (λ _. refl)
-      (wishes plan port e (late_of (channel t)) (stopped (channel t).state) (stopped e.automation.state) (note.Stop ∷ [])
-      t.beside (ap stopped t.beside.state_is)
-      (happened t.beside.run late.Stop (ap (λ (s : State). outcome_of s.stage) t.beside.state_is ∙ on)))
+      (λ _. refl) (heeds plan port e (late_of (channel t)) call.Stop on t.beside)
+  takes_step e e' j t (two.calls (call.List c) on) timed =
+      goes_still plan port e t e' (note.List c ∷ []) refl (heeds plan port e (late_of (channel t)) (call.List c) on t.beside)
   takes_step e e' j t (two.asks question d is) timed = absurd timed
   takes_step e e' j t (two.resumed goes) timed = absurd timed
   takes_step e e' j t (two.restarted goes) timed = absurd timed

@@ -17,7 +17,7 @@ use Rattle.vdcp_journal.specs.Thinned.{notes_in}
 use Rattle.vdcp_journal.specs.declared.row.Note.{Note}
 use Rattle.vdcp_journal.specs.declared.row.Note.TheVariants as note
 use Rattle.vdcp_journal.specs.declared.row.Row.{Row}
-use Rattle.vdcp_laws.specs.Kills.{IsRun, IsOfRun, begun, happened, end_notes, heard_notes, notes_of, silence_notes, stray_notes}
+use Rattle.vdcp_laws.specs.Kills.{IsRun, IsOfRun, begun, happened, said, end_notes, heard_notes, notes_of, silence_notes, stray_notes}
 use Rattle.vdcp_world.specs.LateLine.LateChannel.{LateChannel, IsLateReached, after_late_event, after_late_events, oldest}
 use Rattle.vdcp_world.specs.LateLine.LateEvent.{LateEvent}
 use Rattle.vdcp_world.specs.LateLine.LateEvent as event
@@ -74,6 +74,7 @@ journaled _ _ (happened {c} {notes} run e of_run) =
     ∙ after_more c.plan start notes (notes_of c e)
     ∙ ap (λ state. after_notes c.plan state (notes_of c e)) (journaled c notes run)
     ∙ noted c e of_run
+journaled _ _ (said {c} {notes} run call on) = after_more c.plan start notes (note.List call ∷ []) ∙ journaled c notes run
 
 -- Each of its notes tells what the controller does.
 
@@ -81,7 +82,7 @@ abbrev pub AllTold : Plan → State → List Note → Type 0
 AllTold plan state [] = Unit {0}
 AllTold plan state (note ∷ notes) = Tells plan state note × AllTold plan (after_call_if plan (call_of note) state) notes
 
-rows_told : (plan : Plan) (state : State) (rows : List Row) → AllTold plan state (notes_in rows)
+pub rows_told : (plan : Plan) (state : State) (rows : List Row) → AllTold plan state (notes_in rows)
     → AreTold plan state rows
 rows_told plan state [] told = tt
 rows_told plan state (row ∷ rows) told =
@@ -137,6 +138,8 @@ run_told _ _ (begun plan port down up can_start) = tt
 run_told _ _ (happened {c} {notes} run e of_run) =
     more_told c (after_late_event c e).plan notes (notes_of c e) (plan_stays c e) run (run_told c notes run)
     (event_told c e of_run)
+run_told _ _ (said {c} {notes} run call on) =
+    more_told c c.plan notes (note.List call ∷ []) refl run (run_told c notes run) (on, tt)
 
 pub told : (c : LateChannel) (rows : List Row) → IsRun c (notes_in rows) → AreTold c.plan start rows
 told c rows run = rows_told c.plan start rows (run_told c (notes_in rows) run)
@@ -179,3 +182,4 @@ pub run_reached : ((c : LateChannel) (events : List LateEvent) → IsLateReached
 run_reached leads _ _ (begun plan port down up can_start) =
     record { plan = plan; port = port; down = down; up = up; events = []; can_start = can_start; led = refl }
 run_reached leads _ _ (happened {c} {notes} run e of_run) = leads c (e ∷ []) (run_reached leads c notes run)
+run_reached leads _ _ (said {c} {notes} run call on) = run_reached leads c notes run

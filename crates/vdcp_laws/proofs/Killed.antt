@@ -17,8 +17,9 @@ use Rattle.vdcp_words.specs.declared.command.Command.{Command}
 use Rattle.vdcp_words.specs.declared.command.Command.TheVariants as command
 use Rattle.vdcp_drive.specs.Serving.{begins, items_in, left_by, hook_steps}
 use Rattle.vdcp_drive.specs.declared.hearing.Hearing.TheVariants as hearing
-use Rattle.vdcp_laws.specs.TwoEnds.{AreJoined, Ends, IsLateChannel, IsSince, aired_now, at_once, connected_anew, heard_again, later, note_for, notes_ended, notes_given, port_now, went_on, with_command, with_kept}
-use Rattle.vdcp_laws.specs.TwoEnds.{gave, asks, came_up, came_down, waited, passed, paused, shut, took, halted, resumed, restarted}
+use Rattle.vdcp_journal_file.specs.Recorded.{note_for}
+use Rattle.vdcp_laws.specs.TwoEnds.{AreJoined, Ends, IsLateChannel, IsSince, aired_now, at_once, connected_anew, heard_again, later, notes_ended, notes_given, port_now, went_on, with_command, with_kept}
+use Rattle.vdcp_laws.specs.TwoEnds.{gave, asks, came_up, came_down, waited, passed, paused, shut, calls, resumed, restarted}
 use Rattle.vdcp_laws.specs.Announced.{Announces, came_again, played_notes}
 use Rattle.vdcp_laws.specs.Automation.{end_notes}
 use Rattle.vdcp_laws.proofs.Announced.{ends_again, sent_of}
@@ -52,8 +53,7 @@ keeps_on plan port asked kept _ j (later {e} since paused none) =
     let k = keeps_on plan port asked kept e j since in (went_on k.0 paused, k.1, k.2, k.3)
 keeps_on plan port asked kept _ j (later {e} since shut none) =
     let k = keeps_on plan port asked kept e j since in (went_on k.0 shut, k.1, k.2, k.3)
-keeps_on plan port asked kept _ j (later {e} since (took on) none) = keeps_on plan port asked kept e j since
-keeps_on plan port asked kept _ j (later {e} since (halted on) none) = keeps_on plan port asked kept e j since
+keeps_on plan port asked kept _ j (later {e} since (calls c on) none) = keeps_on plan port asked kept e j since
 
 pub kept_joined : (plan : Plan) (port : ClockedPort) (asked : List Command) (kept now : Ends) → AreJoined plan port asked kept
     → IsSince plan port.state.unit kept now → AreJoined plan port asked (with_kept kept now)

@@ -20,17 +20,17 @@ use Rattle.vdcp_drive.specs.Steps.{Step, given_notes, steps_of}
 use Rattle.vdcp_drive.specs.Traces.{acts_in, bytes_of, kept_in, sent_in}
 use Rattle.vdcp_drive.specs.declared.hooks.Kept.{Kept}
 use Rattle.vdcp_drive.specs.declared.hooks.Kept.TheVariants as kept
-use Rattle.vdcp_journal_file.specs.Recorded.{WaitsSince, is_end}
+use Rattle.vdcp_journal_file.specs.Recorded.{WaitsSince, is_end, note_for}
 use Rattle.vdcp_journal_file.specs.Recording.{notes_seen, rows_left, seen_before}
 use Rattle.vdcp_journal_file.specs.declared.pending.Pending.{Pending}
 use Rattle.vdcp_laws.specs.Carried.{MayGive, driver_of, next, nothing}
-use Rattle.vdcp_laws.specs.Mended.{AreOfJoined}
+use Rattle.vdcp_laws.specs.Mended.{AreOfJoined, AreRejoined}
 use Rattle.vdcp_laws.specs.OneConnection.{ends_by}
-use Rattle.vdcp_laws.specs.TwoEnds.{AreJoined, CanJoin, Ends, aired_now, note_for, port_now}
+use Rattle.vdcp_laws.specs.TwoEnds.{CanJoin, Ends, aired_now, port_now}
 use Rattle.vdcp_laws.proofs.Bytes.{none_before}
 use Rattle.vdcp_laws.proofs.Carrying.{sent_both}
 use Rattle.vdcp_laws.proofs.Mended.{Below}
-use Rattle.vdcp_laws.proofs.Unwritten.{Sends, before_last, last_behind, last_mapped, last_of, unheard, with_last}
+use Rattle.vdcp_laws.proofs.Unwritten.{Sends, before_last, last_behind, last_mapped, last_of, no_end, unheard, with_last}
 use Rattle.vdcp_laws.proofs.Waiting.{heard_since, is_safe}
 
 -- The last note is the last of the rows that were written or wait.
@@ -97,15 +97,14 @@ given_last plan unit now last noted _ _ k (next out unsent none part) is ends = 
   by (Some c) so =
       let last_so : Some (kept.Sent c) ≡ Some k =
       sym (last_behind noted (kept.Sent c) []) ∙ ap (λ (o : Option Command). last_of (noted ++ given_notes o)) (sym so) ∙ is in
-      let no : Some false ≡ Some true =
-      ap (λ (o : Option Kept). option_map_or (λ (x : Kept). Some (is_end (note_for x))) o None) last_so ∙ ap (λ (b : Bool). Some b) ends in absurd (cc no)
+      absurd (no_end (kept.Sent c) k refl last_so ends)
 
 -- Where a kill leaves the ends: these are joined, with this port and what aired, and these notes came to theirs.
 
 pub record LeftBy (plan : Plan) (port : ClockedPort) (asked : List Command) (left : ClockedPort) (aired : List Item)
     (notes : List Note) (kept : List Kept) : Type 0 where
   pub ends : Ends
-  pub joined : AreJoined plan port asked ends
+  pub joined : AreRejoined plan port asked ends
   pub port_is : port_now ends ≡ left
   pub aired_are : aired_now ends ≡ aired
   pub notes_are : ends.notes ≡ notes ++ map note_for kept

@@ -35,6 +35,8 @@ mod SeveralRuns
 mod Running
 mod Unsilent
 mod Untorn
+mod Bursts
+mod Silences
 mod AsrunRows
 mod LossyGoings
 mod Asks
@@ -46,3 +48,8 @@ mod Tried
 mod HeldPlays
 mod Frames
 mod Staying
+mod Limits
+mod RaisedEnds
+mod Rejoined
+mod Calm
+mod LostGoesOn

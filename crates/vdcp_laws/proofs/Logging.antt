@@ -10,19 +10,23 @@ use Rattle.vdcp_auto.specs.Course.{logged}
 use Rattle.vdcp_auto.specs.Heard.{heard_as}
 use Rattle.vdcp_auto.specs.Plan.{Plan}
 use Rattle.vdcp_auto.specs.State.{State}
-use Rattle.vdcp_auto.specs.Turn.{awaited, came_to, ended_by, ended_in, exchange_of, given, stopped, taken, ticked}
+use Rattle.vdcp_auto.specs.Turn.{awaited, came_to, ended_by, ended_in, exchange_of, given, ticked}
 use Rattle.vdcp_auto.specs.declared.exchange.Exchange.{Exchange}
 use Rattle.vdcp_auto.specs.declared.exchange.Heard.{Heard}
 use Rattle.vdcp_journal.specs.Resume.{ended_at, exchange_with, log_from, log_of, open_after}
 use Rattle.vdcp_journal.specs.declared.row.Note.{Note}
-use Rattle.vdcp_journal.specs.declared.row.Note.TheVariants as note
 use Rattle.vdcp_journal.specs.declared.row.Row.{Row}
+use Rattle.vdcp_drive.specs.Auto as auto
 use Rattle.vdcp_drive.specs.Steps.{end_of, given_notes}
+use Rattle.vdcp_drive.specs.declared.hooks.Call.{Call}
+use Rattle.vdcp_drive.specs.declared.hooks.Call.TheVariants as call
+use Rattle.vdcp_drive.specs.declared.hooks.Kept.TheVariants as kept
+use Rattle.vdcp_journal_file.specs.Recorded.{note_for}
 use Rattle.vdcp_laws.specs.Automation.{end_notes}
 use Rattle.vdcp_laws.specs.Automation.{Prompt, hears, hears_all}
 use Rattle.vdcp_drive.specs.Reading.{completed}
-use Rattle.vdcp_laws.specs.TwoEnds.{AreJoined, begun, went_on, gave, asks, came_up, came_down, waited, passed, paused, shut, took, halted, resumed, restarted}
-use Rattle.vdcp_laws.specs.TwoEnds.{Ends, GoesOn, as_announced, as_noted, log_now, note_for, notes_ended, notes_given, notes_heard, with_command, with_heard, with_take}
+use Rattle.vdcp_laws.specs.TwoEnds.{AreJoined, begun, went_on, gave, asks, came_up, came_down, waited, passed, paused, shut, calls, resumed, restarted}
+use Rattle.vdcp_laws.specs.TwoEnds.{Ends, GoesOn, as_announced, as_noted, log_now, notes_ended, notes_given, notes_heard, with_call, with_command, with_heard}
 use Rattle.vdcp_laws.proofs.Commands.{awaits_none_in, ends_alone, exchange_is, hears_comes}
 
 -- the command that is open after notes, and the exchanges that they end
@@ -148,12 +152,11 @@ logs_on plan e state log notes l s =
           ∙ sym (closed_more None e.notes notes),
     )
 
-wish_leads : (plan : Plan) (s t : State) (log : List Exchange) → awaited plan t ≡ awaited plan s
-    → (Leads plan s t log log (note.Take ∷ [])) × (Leads plan s t log log (note.Stop ∷ []))
-wish_leads plan s t log is = (
-  record { open_is = sym is; closed_is = sym (append-nil log) },
-  record { open_is = sym is; closed_is = sym (append-nil log) },
-)
+call_leads : (plan : Plan) (s : State) (log : List Exchange) (c : Call)
+    → Leads plan s (auto.called c s) log log (note_for (kept.Called c) ∷ [])
+call_leads plan s log call.Take = record { open_is = refl; closed_is = sym (append-nil log) }
+call_leads plan s log call.Stop = record { open_is = refl; closed_is = sym (append-nil log) }
+call_leads plan s log (call.List c) = record { open_is = refl; closed_is = sym (append-nil log) }
 
 time_leads : (plan : Plan) (p : Prompt)
     → Leads plan p.state (came_to plan None p.state) p.log (logged p.log (ended_by plan None p.state))
@@ -167,11 +170,11 @@ gave_logged plan e logged_so =
     (given_leads plan p.state p.log (given plan p.state) refl) in
     record { open_is = l.0; closed_is = l.1 }
 
-took_logged : (plan : Plan) (e : Ends) → IsLogged plan e → IsLogged plan (with_take e)
-took_logged plan e logged_so =
+called_logged : (plan : Plan) (c : Call) (e : Ends) → IsLogged plan e → IsLogged plan (with_call c e)
+called_logged plan c e logged_so =
     let p : Prompt = e.automation in
-    let l = logs_on plan e (taken p.state) p.log (note.Take ∷ []) logged_so
-    (wish_leads plan p.state (taken p.state) p.log refl).0 in
+    let l = logs_on plan e (auto.called c p.state) p.log (note_for (kept.Called c) ∷ []) logged_so
+    (call_leads plan p.state p.log c) in
     record { open_is = l.0; closed_is = l.1 }
 
 heard_logged : (plan : Plan) (h : Heard) (e : Ends) → IsLogged plan e → IsLogged plan (with_heard plan h e)
@@ -185,8 +188,9 @@ heard_logged plan h e logged_so =
 goes_logged : (plan : Plan) (e on : Ends) → IsLogged plan e → GoesOn plan e on → IsLogged plan on
 goes_logged plan e _ l as_noted = l
 goes_logged plan e _ l (as_announced h a) =
-    gave_logged plan (with_heard plan h (with_take (with_command plan e)))
-    (heard_logged plan h (with_take (with_command plan e)) (took_logged plan (with_command plan e) (gave_logged plan e l)))
+    gave_logged plan (with_heard plan h (with_call call.Take (with_command plan e)))
+    (heard_logged plan h (with_call call.Take (with_command plan e))
+    (called_logged plan call.Take (with_command plan e) (gave_logged plan e l)))
 
 connects_logged : (plan : Plan) (e : Ends) → IsLogged plan e
     → (open_through None (e.notes ++ notes_ended plan None e.automation.state)
@@ -224,12 +228,7 @@ are_logged plan port asked _ (went_on {e} j paused) =
     let l = are_logged plan port asked e j in record { open_is = l.open_is; closed_is = l.closed_is }
 are_logged plan port asked _ (went_on {e} j shut) =
     let l = are_logged plan port asked e j in record { open_is = l.open_is; closed_is = l.closed_is }
-are_logged plan port asked _ (went_on {e} j (took on)) = took_logged plan e (are_logged plan port asked e j)
-are_logged plan port asked _ (went_on {e} j (halted on)) =
-    let p : Prompt = e.automation in
-    let l = logs_on plan e (stopped p.state) p.log (note.Stop ∷ []) (are_logged plan port asked e j)
-    (wish_leads plan p.state (stopped p.state) p.log refl).1 in
-    record { open_is = l.0; closed_is = l.1 }
+are_logged plan port asked _ (went_on {e} j (calls c on)) = called_logged plan c e (are_logged plan port asked e j)
 are_logged plan port asked _ (went_on {e} j (resumed {on} goes)) =
     let l = connects_logged plan on (goes_logged plan e on (are_logged plan port asked e j) goes) in
     record { open_is = l.0; closed_is = l.1 }

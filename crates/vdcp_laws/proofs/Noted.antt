@@ -20,10 +20,11 @@ use Rattle.vdcp_drive.specs.Traces.{kept_in}
 use Rattle.vdcp_drive.specs.Turns.{Turn}
 use Rattle.vdcp_drive.specs.declared.hooks.Kept.{Kept}
 use Rattle.vdcp_drive.specs.declared.hooks.Kept.TheVariants as kept
+use Rattle.vdcp_journal_file.specs.Recorded.{note_for}
 use Rattle.vdcp_laws.specs.Automation.{Prompt, gives, hears, listens}
 use Rattle.vdcp_laws.specs.Carried.{driver_of}
-use Rattle.vdcp_laws.specs.OneConnection.{ends_at, ends_by, hears_in, heeds_in}
-use Rattle.vdcp_laws.specs.TwoEnds.{Ends, note_for, notes_given, notes_heard, with_command}
+use Rattle.vdcp_laws.specs.OneConnection.{ends_at, ends_by, hears_in}
+use Rattle.vdcp_laws.specs.TwoEnds.{Ends, notes_given, notes_heard, with_call, with_command}
 use Rattle.vdcp_laws.proofs.OneRun.{automation_so}
 use Rattle.vdcp_laws.proofs.Same.{led_so, listens_so}
 
@@ -34,11 +35,11 @@ rows_both (keeps r ∷ xs) ys = ap (λ (l : List Kept). r ∷ l) (rows_both xs y
 rows_both (acts a ∷ xs) ys = rows_both xs ys
 rows_both (misses r ∷ xs) ys = rows_both xs ys
 
-rows_of_acts : (xs : List Act) → kept_in (map acts xs) ≡ []
+pub rows_of_acts : (xs : List Act) → kept_in (map acts xs) ≡ []
 rows_of_acts [] = refl
 rows_of_acts (x ∷ xs) = rows_of_acts xs
 
-rows_of_rows : (xs : List Kept) → kept_in (map keeps xs) ≡ xs
+pub rows_of_rows : (xs : List Kept) → kept_in (map keeps xs) ≡ xs
 rows_of_rows [] = refl
 rows_of_rows (x ∷ xs) = ap (λ (l : List Kept). x ∷ l) (rows_of_rows xs)
 
@@ -60,7 +61,7 @@ heard_rows plan unit (m ∷ ms) p =
     simp (map-append, heard_rows plan unit ms (hears plan unit m p))
 
 -- what one arrival adds to the journal
-arrival_notes : (plan : Plan) (unit : ℕ) (what : Arrival) (e : Ends) → (hears_in plan unit what e).notes
+pub arrival_notes : (plan : Plan) (unit : ℕ) (what : Arrival) (e : Ends) → (hears_in plan unit what e).notes
     ≡ e.notes ++ map note_for (ended_notes (auto.ended plan (inputs at_once unit what e.automation.held) e.automation.state))
 arrival_notes plan unit (bytes piece) e =
     ap (λ (l : List Note). e.notes ++ l) (heard_rows plan unit (completed e.automation.held piece) e.automation)
@@ -77,9 +78,9 @@ moved plan unit close e = refl
 pub noted : (plan : Plan) (unit : ℕ) (e : Ends) (events : List Event) → (ends_by plan unit e events).notes
     ≡ e.notes ++ map note_for (kept_in (steps_of at_once plan unit (driver_of e.automation) events))
 noted plan unit e [] = sym (append-nil e.notes)
-noted plan unit e (calls c ∷ later) = noted plan unit (heeds_in c e) later
+noted plan unit e (calls c ∷ later) = noted plan unit (with_call c e) later
     ∙ append_assoc e.notes (note_for (kept.Called c) ∷ [])
-    (map note_for (kept_in (steps_of at_once plan unit (driver_of (heeds_in c e).automation) later)))
+    (map note_for (kept_in (steps_of at_once plan unit (driver_of (with_call c e).automation) later)))
 noted plan unit e (arrives what ∷ later) =
     let a : Auto Held = driver_of e.automation in
     let next : Ends = hears_in plan unit what (with_command plan e) in

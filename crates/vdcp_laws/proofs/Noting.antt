@@ -16,7 +16,8 @@ use Rattle.vdcp_auto.specs.declared.exchange.Heard.{Heard}
 use Rattle.vdcp_auto.specs.declared.phase.Mode.{Mode}
 use Rattle.vdcp_laws.specs.Automation.{Prompt, hears, hears_all}
 use Rattle.vdcp_drive.specs.Reading.{completed}
-use Rattle.vdcp_laws.specs.TwoEnds.{AreJoined, begun, went_on, gave, asks, came_up, came_down, waited, passed, paused, shut, took, halted, resumed, restarted}
+use Rattle.vdcp_drive.specs.declared.hooks.Call.TheVariants as call
+use Rattle.vdcp_laws.specs.TwoEnds.{AreJoined, begun, went_on, gave, asks, came_up, came_down, waited, passed, paused, shut, calls, resumed, restarted}
 use Rattle.vdcp_laws.specs.TwoEnds.{CanJoin, Ends, GoesOn, as_announced, as_noted, log_now}
 use Rattle.vdcp_laws.proofs.Commands.{hears_comes}
 use Rattle.vdcp_laws.proofs.Queues.{logged_behind}
@@ -86,8 +87,9 @@ are_reached plan port asked _ can (went_on {e} j waited) =
 are_reached plan port asked _ can (went_on {e} j passed) = are_reached plan port asked e can j
 are_reached plan port asked _ can (went_on {e} j paused) = are_reached plan port asked e can j
 are_reached plan port asked _ can (went_on {e} j shut) = are_reached plan port asked e can j
-are_reached plan port asked _ can (went_on {e} j (took on)) = called (are_reached plan port asked e can j) Take
-are_reached plan port asked _ can (went_on {e} j (halted on)) = called (are_reached plan port asked e can j) Stop
+are_reached plan port asked _ can (went_on {e} j (calls call.Take on)) = called (are_reached plan port asked e can j) Take
+are_reached plan port asked _ can (went_on {e} j (calls call.Stop on)) = called (are_reached plan port asked e can j) Stop
+are_reached plan port asked _ can (went_on {e} j (calls (call.List c) on)) = are_reached plan port asked e can j
 are_reached plan port asked _ can (went_on {e} j (resumed {on} goes)) =
     connects_reached plan on (goes_reached plan e on (are_reached plan port asked e can j) goes)
 are_reached plan port asked _ can (went_on {e} j (restarted {on} goes)) =

@@ -7,9 +7,9 @@ use Rattle.vdcp_auto.specs.declared.exchange.Exchange.{Exchange}
 use Rattle.vdcp_wire.specs.Wires.{bytes, silence, close}
 use Rattle.vdcp_drive.specs.Auto.{Event, arrives, calls}
 use Rattle.vdcp_laws.specs.Automation.{led}
-use Rattle.vdcp_laws.specs.OneConnection.{ends_by, hears_in, heeds_in}
+use Rattle.vdcp_laws.specs.OneConnection.{ends_by, hears_in}
 use Rattle.vdcp_laws.specs.TwoEnds as two
-use Rattle.vdcp_laws.specs.TwoEnds.{AreLed, Ends, with_command}
+use Rattle.vdcp_laws.specs.TwoEnds.{AreLed, Ends, with_call, with_command}
 
 pub automation_so : (plan : Plan) (unit : ℕ) (e : Ends) (events : List Event)
     → (ends_by plan unit e events).automation ≡ led plan unit e.automation events
@@ -20,7 +20,7 @@ automation_so plan unit e (arrives silence ∷ later) =
     automation_so plan unit (hears_in plan unit silence (with_command plan e)) later
 automation_so plan unit e (arrives close ∷ later) =
     automation_so plan unit (hears_in plan unit close (with_command plan e)) later
-automation_so plan unit e (calls c ∷ later) = automation_so plan unit (heeds_in c e) later
+automation_so plan unit e (calls c ∷ later) = automation_so plan unit (with_call c e) later
 
 -- what happens to the automation leaves these
 pub stays : {A : Type 0} (f : ClockedPort → List Exchange → List Item → A) (plan : Plan) (unit : ℕ) (e : Ends)
@@ -31,7 +31,7 @@ stays f plan unit e (arrives (bytes piece) ∷ later) =
     stays f plan unit (hears_in plan unit (bytes piece) (with_command plan e)) later
 stays f plan unit e (arrives silence ∷ later) = stays f plan unit (hears_in plan unit silence (with_command plan e)) later
 stays f plan unit e (arrives close ∷ later) = stays f plan unit (hears_in plan unit close (with_command plan e)) later
-stays f plan unit e (calls c ∷ later) = stays f plan unit (heeds_in c e) later
+stays f plan unit e (calls c ∷ later) = stays f plan unit (with_call c e) later
 
 pub led_on : (plan : Plan) (unit : ℕ) (first e e' : Ends) → AreLed plan unit first e → AreLed plan unit e e'
     → AreLed plan unit first e'

@@ -18,11 +18,12 @@ use Rattle.vdcp_drive.specs.Steps.{end_of, given_notes}
 use Rattle.vdcp_world.specs.LateLine.LateChannel.{LateChannel, after_late_event, after_late_events, command_bursts, oldest, without_oldest}
 use Rattle.vdcp_world.specs.LateLine.LateEvent as event
 use Rattle.vdcp_journal.specs.Thinned.{heard_after, heard_from, heard_last}
+use Rattle.vdcp_journal_file.specs.Recorded.{note_for}
 use Rattle.vdcp_laws.specs.Automation.{Prompt, end_notes, hears}
 use Rattle.vdcp_laws.specs.Below.{Spelt}
 use Rattle.vdcp_laws.specs.Kills as kills
 use Rattle.vdcp_laws.specs.Kills.{IsRun, happened, heard_notes, silence_notes}
-use Rattle.vdcp_laws.specs.TwoEnds.{note_for, notes_ended, notes_heard}
+use Rattle.vdcp_laws.specs.TwoEnds.{notes_ended, notes_heard}
 use Rattle.vdcp_laws.proofs.Commands.{hears_comes}
 use Rattle.vdcp_laws.proofs.Journaled.{asked}
 use Rattle.vdcp_laws.proofs.Noting.{heard_is, not_ready}

@@ -19,11 +19,11 @@ use Rattle.vdcp_drive.specs.Reading.{Held, completed, held_after}
 use Rattle.vdcp_laws.specs.Automation.{Prompt, gives, heeds, hears, hears_all, led, listens}
 use Rattle.vdcp_laws.specs.Carried.{driver_of}
 
-logged_so : (log : List Exchange) (o : Option Exchange) → logged log o ≡ log ++ option_to_list o
+pub logged_so : (log : List Exchange) (o : Option Exchange) → logged log o ≡ log ++ option_to_list o
 logged_so log None = sym (append-nil log)
 logged_so log (Some e) = refl
 
-abbrev heard_in : ℕ → List Content → List (Option Heard)
+abbrev pub heard_in : ℕ → List Content → List (Option Heard)
 heard_in unit ms = map Some (map (heard_as unit) ms)
 
 heard_state : (plan : Plan) (unit : ℕ) (ms : List Content) (p : Prompt)
@@ -31,7 +31,7 @@ heard_state : (plan : Plan) (unit : ℕ) (ms : List Content) (p : Prompt)
 heard_state plan unit [] p = refl
 heard_state plan unit (m ∷ ms) p = heard_state plan unit ms (hears plan unit m p)
 
-heard_log : (plan : Plan) (unit : ℕ) (ms : List Content) (p : Prompt)
+pub heard_log : (plan : Plan) (unit : ℕ) (ms : List Content) (p : Prompt)
     → (hears_all plan unit ms p).log ≡ p.log ++ auto.ended plan (heard_in unit ms) p.state
 heard_log plan unit [] p = sym (append-nil p.log)
 heard_log plan unit (m ∷ ms) p =

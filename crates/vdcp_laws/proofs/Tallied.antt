@@ -31,8 +31,8 @@ use Rattle.vdcp_drive.specs.declared.line.Ran.{Ran}
 use Rattle.vdcp_laws.specs.Automation.{gives, listens}
 use Rattle.vdcp_laws.specs.Below.{Completed}
 use Rattle.vdcp_laws.specs.Carried.{driver_of}
-use Rattle.vdcp_laws.specs.OneConnection.{ends_by, hears_in, heeds_in}
-use Rattle.vdcp_laws.specs.TwoEnds.{AreLed, Ends, bytes_in, sent_down, with_command}
+use Rattle.vdcp_laws.specs.OneConnection.{ends_by, hears_in}
+use Rattle.vdcp_laws.specs.TwoEnds.{AreLed, Ends, bytes_in, sent_down, with_call, with_command}
 use Rattle.vdcp_laws.proofs.Asked.{Steps, came_of_run, commands_both, ear_over, ear_so, ending}
 use Rattle.vdcp_laws.proofs.Carrying.{Side, acts_both, came_both, events_side, heard_ups, last_side}
 use Rattle.vdcp_laws.proofs.CarriedRun.{driver_so, leads_on}
@@ -237,7 +237,7 @@ RowsSo = (plan : Plan) (unit : ℕ) (a : Auto Held) (events : List Event)
     → awaited_notes plan a.state ++ exchanged (kept_in (steps_of at_once plan unit a events))
     ≡ kept_of (log_of at_once plan unit a events) ++ awaited_notes plan (after at_once plan unit a events).state
 
-module _ (rows : RowsSo) (law : Steps) (plan : Plan) (unit count : ℕ) (a a' : Auto Held) (answer : Result Ran BrokenOff)
+module _ (rows : RowsSo) (law : Steps at_once) (plan : Plan) (unit count : ℕ) (a a' : Auto Held) (answer : Result Ran BrokenOff)
     (run : IsRun at_once plan unit count a a' answer) (none : awaited plan a.state ≡ None) (free : awaited plan a'.state ≡ None) where
   abbrev steps : List Step
   steps = steps_of at_once plan unit a run.events
@@ -362,7 +362,7 @@ heard_sent plan unit what e = grind arith
 sent_by : (plan : Plan) (unit : ℕ) (e : Ends) (events : List Event) → (ends_by plan unit e events).sent
     ≡ e.sent ++ commands_kept (kept_in (steps_of at_once plan unit (driver_of e.automation) events))
 sent_by plan unit e [] = sym (append-nil e.sent)
-sent_by plan unit e (calls c ∷ later) = sent_by plan unit (heeds_in c e) later
+sent_by plan unit e (calls c ∷ later) = sent_by plan unit (with_call c e) later
 sent_by plan unit e (arrives what ∷ later) =
     let a : Auto Held = driver_of e.automation in
     let next : Ends = hears_in plan unit what (with_command plan e) in
@@ -381,12 +381,12 @@ sent_by plan unit e (arrives what ∷ later) =
 
 ups_by : (plan : Plan) (unit : ℕ) (e : Ends) (events : List Event) → (ends_by plan unit e events).ups ≡ e.ups ++ bytes_in (arrivals events)
 ups_by plan unit e [] = sym (append-nil e.ups)
-ups_by plan unit e (calls c ∷ later) = ups_by plan unit (heeds_in c e) later
+ups_by plan unit e (calls c ∷ later) = ups_by plan unit (with_call c e) later
 ups_by plan unit e (arrives what ∷ later) =
     ups_by plan unit (hears_in plan unit what (with_command plan e)) later
     ∙ heard_ups plan unit what (with_command plan e) (arrivals later)
 
-pub answers_by : (rows : RowsSo) (law : Steps) (plan : Plan) (unit count : ℕ) (e : Ends) (a' : Auto Held) (answer : Result Ran BrokenOff)
+pub answers_by : (rows : RowsSo) (law : Steps at_once) (plan : Plan) (unit count : ℕ) (e : Ends) (a' : Auto Held) (answer : Result Ran BrokenOff)
     (run : IsRun at_once plan unit count (driver_of e.automation) a' answer) → awaited plan e.automation.state ≡ None
     → awaited plan a'.state ≡ None → tally is_silent (kept_in (steps_in run)) ≡ 0
     → Answers unit e (ends_by plan unit e run.events) (acts_in (steps_in run))

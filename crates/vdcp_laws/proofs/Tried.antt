@@ -10,11 +10,13 @@ use Rattle.vdcp_auto.specs.Plan.{Plan}
 use Rattle.vdcp_auto.specs.State.{Stage, Ready, Awaiting, Ended, State}
 use Rattle.vdcp_auto.specs.Turn.{awaited, awaited_in}
 use Rattle.vdcp_auto.specs.declared.exchange.Exchange.{Exchange}
+use Rattle.vdcp_auto.specs.declared.outcome.Outcome.{Outcome}
 use Rattle.vdcp_auto.specs.declared.phase.Mode.{Mode}
 use Rattle.vdcp_auto.specs.declared.phase.Mode.TheVariants.{Plain, Confirming}
 use Rattle.vdcp_auto.specs.declared.phase.Phase.TheVariants as phase
 use Rattle.vdcp_wire.specs.Acts.{Act}
 use Rattle.vdcp_drive.specs.Auto.{AreMade, Auto, Event, after}
+use Rattle.vdcp_drive.specs.Ears.{Fold}
 use Rattle.vdcp_drive.specs.Hearing.{at_once}
 use Rattle.vdcp_drive.specs.Leaves.{HasRun, IsRun, steps_in}
 use Rattle.vdcp_drive.specs.Reading.{Held}
@@ -33,7 +35,7 @@ use Rattle.vdcp_laws.specs.OneConnection.{ends_by}
 use Rattle.vdcp_laws.specs.Sessions.{acts_ended, acts_held, acts_tried, ends_asked, ends_ended, ends_held, ends_left, ends_left_by, ends_tried, log_ended, log_held, log_tried, start_at, state_ended, state_tried, steps_asked, steps_first}
 use Rattle.vdcp_laws.specs.TwoEnds.{AreJoined, AreLed, CanJoin, Ends, aired_now, asked_first, bytes_in, log_now, sent_down}
 use Rattle.vdcp_laws.proofs.Asked.{IsAskedBy, Steps, asked_side, ear_of_run, ending, part_of_run}
-use Rattle.vdcp_laws.proofs.Asks.{MayAsk, opens, probes, waits}
+use Rattle.vdcp_laws.proofs.Asks.{MayAsk, awaits, opens, probes, waits}
 use Rattle.vdcp_laws.proofs.CarriedRun.{driver_so, leads_on, led_by, left_by_hooks, log_so, of_joined}
 use Rattle.vdcp_laws.proofs.Carrying.{Side, acts_both, events_side, no_act, side_of}
 use Rattle.vdcp_laws.proofs.Headline as headline
@@ -42,7 +44,8 @@ use Rattle.vdcp_laws.proofs.OneRun.{stays}
 use Rattle.vdcp_laws.proofs.Servers.{ServedSo}
 use Rattle.vdcp_laws.proofs.Tallied.{Answers, RowsSo, answered_in, answers_both, answers_by, free_side, none_answered}
 use Rattle.vdcp_laws.proofs.Unanswered.{asked_calm, asker_free, asker_ready, calm_asked, calm_by, ended_free}
-use Rattle.vdcp_run.specs.Asking.{AreAsked, Asker, HasAsked, Inquiring, IsAsked, Start, asker_of, asking, holding, line_of, opening, probing}
+use Rattle.vdcp_operator.specs.declared.on_list.OnList.{OnList}
+use Rattle.vdcp_run.specs.Asking.{AreAsked, Asker, HasAsked, Inquiring, IsAsked, Start, asker_of, asking, holding, line_of, opening, probing, waiting}
 use Rattle.vdcp_run.specs.Ends.{Reports, line_end_of}
 use Rattle.vdcp_run.specs.Run.{IsAtRest}
 use Rattle.vdcp_run.specs.Session.{HasEnded, HasHeld, HasTried, LeavesBefore, Onset, held, none, onset_of, played, signs_by, unbegun}
@@ -66,6 +69,7 @@ may_ask start cs (opening is asks) =
     (λ c q. subst (λ (stage : Stage). MayAsk start.plan stage c) (sym is) (opens start.plan c q)) cs asks
 may_ask start cs (probing k is asks) = states start cs (Ready (phase.Probe k)) is (probes start.plan k) asks
 may_ask start cs (holding k is asks) = states start cs (Ready (phase.Play k)) is (waits start.plan k) asks
+may_ask start cs (waiting k is asks) = states start cs (Ready (phase.Wait k)) is (awaits start.plan k) asks
 
 -- vdcp_run::laws::only_questions_are_asked, and vdcp_drive::laws::steps_are_exchanges
 pub record Laws {W : Type 0} (does : Act → W → W → Type 0) : Type 0 where
@@ -73,19 +77,27 @@ pub record Laws {W : Type 0} (does : Act → W → W → Type 0) : Type 0 where
       (answer : Result Ran BrokenOff) → asker_of ask is_held start ≡ Some asker → a.state ≡ asker.state
       → (h : HasRun (asking does asker.plan) at_once asker.plan unit count a a' old new answer)
       → AreAsked start (commands_kept (kept_in (steps_in h.run)))
-  pub steps : Steps
+  pub steps : Steps at_once
   pub rows : RowsSo
 
 -- these ends, with the automation as it is at a stretch's onset
 abbrev pub as_of : State → Held → Ends → Ends
 as_of state ear e = record e { automation = record e.automation { held = ear; state = state } }
 
+-- the wire works where the list is begun
+pub works : (last : Inquiring) (outcome : Option Outcome) (answer : Result Ran BrokenOff) → None ≡ line_of last answer outcome
+    → answer ≢ Err fault.Device
+works last outcome answer line failed =
+    let none_so : None ≡ Some line_end.Failed =
+    line ∙ ap (λ (r : Result Ran BrokenOff). line_of last r outcome) failed in
+    cc none_so
+
 -- What was asked is asked by these acts; and all of it went out, if the list is begun.
 asked_by : {W : Type 0} {does : Act → W → W → Type 0} (law : Laws does) (settings : RunSettings) (is_held : Bool) (start : Start)
     (e : Ends) (ear ear' : Held) (wire wire' : W) (left : ℕ) (signs signs' : Signs) (line : Option LineEnd) (asker : Option Asker)
     → asker_of settings.ask is_held start ≡ asker
     → (h : HasAsked asker does at_once settings ear ear' wire wire' left signs signs' line)
-    → (let steps : List Step = steps_asked does settings ear ear' wire wire' left signs signs' line asker h in
+    → (let steps : List Step = steps_asked does at_once settings ear ear' wire wire' left signs signs' line asker h in
     (a : IsAskedBy start.plan settings.unit (as_of start.state ear e) (commands_kept (kept_in steps)) ear' (acts_in steps))
     × (line ≡ None → a.unsent ≡ []))
 asked_by law settings is_held start e ear ear' wire wire' left signs signs' line None is h = (
@@ -104,13 +116,8 @@ asked_by law settings is_held start e ear ear' wire wire' left signs signs' line
         unsent = last.unsent;
         part = part_of_run law.steps asker.plan unit settings.listens a h.comes.auto h.answer runs.run;
       },
-      λ begun. last.all (works h.answer (sym begun ∙ h.line_is)),
-    ) where
-      works : (answer : Result Ran BrokenOff) → None ≡ line_of h.last answer h.outcome → answer ≢ Err fault.Device
-      works answer line failed =
-          let none_so : None ≡ Some line_end.Failed =
-          line ∙ ap (λ (r : Result Ran BrokenOff). line_of h.last r h.outcome) failed in
-          cc none_so
+      λ begun. last.all (works h.last h.outcome h.answer (sym begun ∙ h.line_is)),
+    )
 
 -- So much of it went out that was asked, and nothing more.
 pub asking_side : (plan : Plan) (unit : ℕ) (e : Ends) (cs : List Command) (ear : Held) (list : List Act)
@@ -129,7 +136,7 @@ asked_answers : {W : Type 0} {does : Act → W → W → Type 0} (law : Laws doe
     (e : Ends) (ear ear' : Held) (wire wire' : W) (left : ℕ) (signs signs' : Signs) (line : Option LineEnd) (asker : Option Asker)
     → (is : asker_of settings.ask is_held start ≡ asker)
     → (h : HasAsked asker does at_once settings ear ear' wire wire' left signs signs' line) → signs'.unanswered ≡ false
-    → (let steps : List Step = steps_asked does settings ear ear' wire wire' left signs signs' line asker h in
+    → (let steps : List Step = steps_asked does at_once settings ear ear' wire wire' left signs signs' line asker h in
     let first : Ends = as_of start.state ear e in
     (signs.unanswered ≡ false) × Answers settings.unit first (ends_asked steps ear' first) (acts_in steps))
 asked_answers {W} {does} law settings is_held start e ear ear' wire wire' left signs signs' line None is h calm = (
@@ -167,7 +174,7 @@ module _ {W : Type 0} {does : Act → W → W → Type 0} (law : Laws does) (set
   unit = settings.unit
 
   abbrev steps : List Step
-  steps = steps_asked does settings ear ear' wire wire' left signs signs' None (asker_of settings.ask is_held start) asked
+  steps = steps_asked does at_once settings ear ear' wire wire' left signs signs' None (asker_of settings.ask is_held start) asked
 
   abbrev first : Ends
   first = as_of start.state ear e
@@ -218,19 +225,19 @@ module _ {W : Type 0} {does : Act → W → W → Type 0} (law : Laws does) (set
             (answers_by law.rows law.steps plan unit left now auto answer run ready free c.0),
       )
 
--- ---- while PLAYs were held
+-- ---- while events were held back
 
 -- nothing is awaited where the line is left
-left_ready : (mode : Mode) (plan : Plan) (stage : Stage) → LeavesBefore mode stage next.Leave → awaited_in plan stage ≡ None
+pub left_ready : (mode : Mode) (plan : Plan) (stage : Stage) → LeavesBefore mode stage next.Leave → awaited_in plan stage ≡ None
 left_ready mode plan (Ready p) before = refl
 left_ready Plain plan (Awaiting p) (inl event) = absurd event
 left_ready Confirming plan (Awaiting p) (inl event) = absurd event
-left_ready mode plan (Awaiting p) (inr to_play) = cc to_play
+left_ready mode plan (Awaiting p) (inr cued) = cc cued
 left_ready mode plan (Ended outcome) before = refl
 
 -- the plan and the first event stay
-pub start_held : {W F : Type 0} {does : Act → W → W → Type 0} {safe : F → Option (List ℕ)} {settings : RunSettings}
-    {z x : Onset Held W F} → HasHeld does safe at_once settings z x → record x.start { state = z.start.state } ≡ z.start
+pub start_held : {E W F : Type 0} {does : Act → W → W → Type 0} {safe : F → Option (List ℕ)} {fold : Fold E} {settings : RunSettings}
+    {z x : Onset E W F} → HasHeld does safe fold settings z x → record x.start { state = z.start.state } ≡ z.start
 start_held none = refl
 start_held (held is_held ear wire count signs asks auto left runs is keep written turns later) = start_held later
 
@@ -262,7 +269,7 @@ held_on {W} {F} {does} law settings {z} {x} (held is_held ear wire count signs a
     let plan : Plan = x.start.plan in
     let unit : ℕ = settings.unit in
     let first : Ends = as_of x.start.state x.ear e in
-    let steps : List Step = steps_first does settings is_held x ear wire count signs None asks in
+    let steps : List Step = steps_first does at_once settings is_held x ear wire count signs None asks in
     let now : Ends = ends_asked steps ear first in
     let events : List Event = runs.run.events in
     let then : Ends = ends_by plan unit now events in
@@ -275,7 +282,7 @@ held_on {W} {F} {does} law settings {z} {x} (held is_held ear wire count signs a
     ∙ ap (λ (l : List Step). done ++ acts_in l) hooks.1 ∙ append-nil done in
     let same : as_of auto.state auto.ear then ≡ then =
     ap (λ (a : Auto Held). as_of a.state a.ear then) (hooks.0 ∙ sym (driver_so plan unit now events)) in
-    let r : HeldOn later then = subst (HeldOn later) same (held_on law settings later then (left_ready Confirming plan auto.state.stage (inr is))) in
+    let r : HeldOn later then = subst (HeldOn later) same (held_on law settings later then (left_ready Confirming plan auto.state.stage (inr is.cued))) in
     record {
       there = r.there;
       ready = r.ready;
@@ -292,7 +299,7 @@ held_on {W} {F} {does} law settings {z} {x} (held is_held ear wire count signs a
       answers = λ calm.
           let behind = r.answers calm in
           let a = stretch_answers law (record settings { listens = x.turns }) is_held x.start e x.ear ear x.world.wire wire count
-          x.signs signs asks auto (Err fault.Left) runs.run ready (left_ready Confirming plan auto.state.stage (inr is)) behind.0 in
+          x.signs signs asks auto (Err fault.Left) runs.run ready (left_ready Confirming plan auto.state.stage (inr is.cued)) behind.0 in
           (a.0, answers_both unit first then (ends_held later then) (acts_in steps ++ run) (acts_held later) a.1 behind.1);
     }
 
@@ -333,7 +340,7 @@ ended_on {W} {F} {does} law headlines settings port x last end e ready (played i
     let plan : Plan = x.start.plan in
     let unit : ℕ = port.state.unit in
     let first : Ends = as_of x.start.state x.ear e in
-    let now : Ends = ends_asked (steps_first does (record settings { unit = unit }) is_held x ear wire left signs None asks) ear first in
+    let now : Ends = ends_asked (steps_first does at_once (record settings { unit = unit }) is_held x ear wire left signs None asks) ear first in
     record {
       side = asked_on law (record settings { unit = unit; listens = x.turns }) is_held x.start e x.ear ear x.world.wire wire left
           x.signs signs asks _ (acts_in (steps_in plays.runs.run)) ready
@@ -352,7 +359,7 @@ ended_on {W} {F} {does} law headlines settings port x last end e ready (unbegun 
     let plan : Plan = x.start.plan in
     let unit : ℕ = port.state.unit in
     let first : Ends = as_of x.start.state x.ear e in
-    let steps : List Step = steps_first does (record settings { unit = unit }) is_held x ear last left signs (Some line) asks in
+    let steps : List Step = steps_first does at_once (record settings { unit = unit }) is_held x ear last left signs (Some line) asks in
     let side = asking_side plan unit first (commands_kept (kept_in steps)) ear (acts_in steps) ready
     (asked_by law (record settings { unit = unit; listens = x.turns }) is_held x.start e x.ear ear x.world.wire last left x.signs signs
     (Some line) (asker_of settings.ask is_held x.start) refl asks).0 in
@@ -369,16 +376,16 @@ ended_on {W} {F} {does} law headlines settings port x last end e ready (unbegun 
           (headline.of_ends headlines plan port asked (record (ends_asked steps ear first) { downs = downs }) can j);
     }
 
-ended_reports : {W F : Type 0} {does : Act → W → W → Type 0} {safe : F → Option (List ℕ)} {settings : RunSettings}
-    (x : Onset Held W F) (last : W) (end : RunEnd) → (h : HasEnded does safe at_once settings x last end)
+ended_reports : {E W F : Type 0} {does : Act → W → W → Type 0} {safe : F → Option (List ℕ)} {fold : Fold E} {settings : RunSettings}
+    (x : Onset E W F) (last : W) (end : RunEnd) → (h : HasEnded does safe fold settings x last end)
     → Reports x.start.from (state_ended h) end
 ended_reports x last end (played is_held ear wire left signs asks plays) = plays.reports
 ended_reports x last end (unbegun is_held ear left signs line asks is reports) = reports
 
 -- ---- all of it
 
-pub tried_reports : {W F : Type 0} {does : Act → W → W → Type 0} {safe : F → Option (List ℕ)} {settings : RunSettings}
-    (x : Onset Held W F) (last : W) (end : RunEnd) → (tried : HasTried does safe at_once settings x last end)
+pub tried_reports : {E W F : Type 0} {does : Act → W → W → Type 0} {safe : F → Option (List ℕ)} {fold : Fold E} {settings : RunSettings}
+    (x : Onset E W F) (last : W) (end : RunEnd) → (tried : HasTried does safe fold settings x last end)
     → Reports x.start.from (state_tried tried) end
 tried_reports x last end tried =
     subst (λ (n : ℕ). Reports n (state_tried tried) end) (sym (ap (λ (s : Start). s.from) (start_held tried.held)))
@@ -386,9 +393,9 @@ tried_reports x last end tried =
 
 module _ {W F : Type 0} {does : Act → W → W → Type 0} {safe : F → Option (List ℕ)} (law : Laws does) (headlines : headline.Laws)
     (plan : Plan) (from : ℕ) (settings : RunSettings) (port : ClockedPort) (e : Ends) (world : World W (Option (Recording F)))
-    (count : ℕ) (signs : Signs) (last : W) (end : RunEnd) (ready : awaited plan e.automation.state ≡ None)
+    (count : ℕ) (signs : Signs) (list : OnList) (last : W) (end : RunEnd) (ready : awaited plan e.automation.state ≡ None)
     (tried : HasTried does safe at_once (record settings { unit = port.state.unit })
-    (onset_of (start_at plan from e) e.automation.held world count signs) last end) where
+    (onset_of (start_at plan from e) e.automation.held world count signs list) last end) where
   before : HeldOn tried.held e
   before = held_on law (record settings { unit = port.state.unit }) tried.held e ready
 

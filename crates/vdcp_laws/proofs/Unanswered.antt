@@ -45,6 +45,7 @@ calm_by (kept.Silence ∷ rows) signs calm = absurd (cc (calm_by rows (signs_aft
 calm_by (kept.Called call.Take ∷ rows) signs calm = let r = calm_by rows signs calm in (omega (arith, r.0), r.1)
 calm_by (kept.Called call.Stop ∷ rows) signs calm =
     let r = calm_by rows (signs_after (kept.Called call.Stop) signs) calm in (omega (arith, r.0), r.1)
+calm_by (kept.Called (call.List c) ∷ rows) signs calm = let r = calm_by rows signs calm in (omega (arith, r.0), r.1)
 
 module _ {W : Type 0} (does : Act → W → W → Type 0) (plan : Plan) where
   abbrev Calm : World W Inquiring → Type 0
@@ -85,7 +86,7 @@ module _ {W : Type 0} (does : Act → W → W → Type 0) (plan : Plan) where
 -- an automation that asks awaits nothing at first
 pub asker_ready : (ask is_held : Bool) (start : Start) (asker : Asker) → asker_of ask is_held start ≡ Some asker
     → awaited asker.plan asker.state ≡ None
-asker_ready ask is_held start asker is = by (waits_in is_held start.state.stage) is where
+asker_ready ask is_held start asker is = by (waits_in start.plan.mode is_held start.state.stage) is where
   by : (waits : Option (Purpose × ℕ)) → asker_with ask start waits ≡ Some asker → awaited asker.plan asker.state ≡ None
   by (Some w) is = cc
   by None is = asked_first_by (ask && is_opening (given start.plan start.state)) is where

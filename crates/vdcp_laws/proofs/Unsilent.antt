@@ -43,7 +43,7 @@ among : (came rest : List Arrival) (a : Arrival) → All IsPiece (came ++ a ∷ 
 among [] rest a all = All-head IsPiece a rest all
 among (x ∷ came) rest a all = among came rest a (All-tail IsPiece x (came ++ a ∷ rest) all)
 
-pub never_silent : (law : Steps) (plan : Plan) (unit count : ℕ) (e : Ends) (answer : Result Ran BrokenOff) (a' : Auto Held)
+pub never_silent : (law : Steps at_once) (plan : Plan) (unit count : ℕ) (e : Ends) (answer : Result Ran BrokenOff) (a' : Auto Held)
     (turns : List Turn) (below : List Act) (aired : List Item)
     → (run : IsRun at_once plan unit count (driver_of e.automation) a' answer) → All IsPiece (arrivals run.events)
     → ServedSo e turns below aired → AreCarried unit e (acts_in (steps_in run)) below

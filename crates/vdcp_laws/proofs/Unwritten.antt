@@ -1,5 +1,5 @@
 -- What ended the last exchange waits for a later row. A killed run goes on as if that hadn't been heard.
-use Rattle.std.proofs.Common.{ℕ, ◌≡◌, Bool, true, false, List, [], ◌∷◌, ◌++◌, map, refl, sym, ap, subst, ◌∙◌, append_assoc, append-nil}
+use Rattle.std.proofs.Common.{ℕ, ◌≡◌, true, false, List, [], ◌∷◌, ◌++◌, map, refl, sym, ap, subst, ◌∙◌, append_assoc, append-nil}
 use Rattle.std.specs.Option.{option_map_or, option_to_list}
 use Rattle.std.specs.Prelude.{Option, None, Some}
 use Rattle.vdcp_words.specs.declared.command.Command.{Command}
@@ -22,11 +22,11 @@ use Rattle.vdcp_drive.specs.declared.hooks.Call.{Call}
 use Rattle.vdcp_drive.specs.declared.hooks.Call.TheVariants as call
 use Rattle.vdcp_drive.specs.declared.hooks.Kept.{Kept}
 use Rattle.vdcp_drive.specs.declared.hooks.Kept.TheVariants as kept
-use Rattle.vdcp_journal_file.specs.Recorded.{is_end}
+use Rattle.vdcp_journal_file.specs.Recorded.{is_end, note_for}
 use Rattle.vdcp_laws.specs.Automation.{gives}
 use Rattle.vdcp_laws.specs.Carried.{MayGive, driver_of, next}
-use Rattle.vdcp_laws.specs.OneConnection.{ends_by, hears_in, heeds_in}
-use Rattle.vdcp_laws.specs.TwoEnds.{Ends, note_for, with_command}
+use Rattle.vdcp_laws.specs.OneConnection.{ends_by, hears_in}
+use Rattle.vdcp_laws.specs.TwoEnds.{Ends, with_call, with_command}
 use Rattle.vdcp_laws.proofs.Carrying.{first_acts, round_so}
 use Rattle.vdcp_laws.proofs.Commands.{awaits_none_in, exchange_is}
 use Rattle.vdcp_laws.proofs.Noted.{ends_in, moved, round_rows}
@@ -129,19 +129,20 @@ gives_next plan unit now o is =
     (sends_all unit (given plan now.automation.state)))
 
 -- a command isn't what ends an exchange, nor is a call
+
+pub no_end : (k n : Kept) → is_end (note_for k) ≡ false → Some k ≡ Some n → is_end (note_for n) ≡ true → ⊥
+no_end k n other is ends = cc
+
 no_end_given : (o : Option Command) (n : Kept) → last_of (given_notes o ++ []) ≡ Some n → is_end (note_for n) ≡ true → ⊥
 no_end_given None n is ends = cc is
-no_end_given (Some c) n is ends =
-    let sent : Some false ≡ Some true = ap (λ (o : Option Kept). option_map_or (λ (k : Kept). Some (is_end (note_for k))) o None) is
-    ∙ ap (λ (b : Bool). Some b) ends in cc sent
+no_end_given (Some c) n is ends = no_end (kept.Sent c) n refl is ends
 
 no_end_called : (c : Call) (n : Kept) → Some (kept.Called c) ≡ Some n → is_end (note_for n) ≡ true → ⊥
-no_end_called call.Take n is ends =
-    let made : Some false ≡ Some true = ap (λ (o : Option Kept). option_map_or (λ (k : Kept). Some (is_end (note_for k))) o None) is
-    ∙ ap (λ (b : Bool). Some b) ends in cc made
-no_end_called call.Stop n is ends =
-    let made : Some false ≡ Some true = ap (λ (o : Option Kept). option_map_or (λ (k : Kept). Some (is_end (note_for k))) o None) is
-    ∙ ap (λ (b : Bool). Some b) ends in cc made
+no_end_called c n is ends = no_end (kept.Called c) n (call_ends c) is ends where
+  call_ends : (x : Call) → is_end (note_for (kept.Called x)) ≡ false
+  call_ends call.Take = refl
+  call_ends call.Stop = refl
+  call_ends (call.List l) = refl
 
 abbrev pub Sends : Type 0
 Sends = (plan : Plan) (unit : ℕ) (a : Auto Held) (events : List Event)
@@ -218,7 +219,7 @@ module _ (sends : Sends) (plan : Plan) (unit : ℕ) where
   -- and so after a call
   called_before : (a : Auto Held) (now : Ends) (c : Call) (later : List Event) (y : Kept) (ys : List Kept)
       → outcome_of a.state.stage ≡ None → kept_in (steps (auto.heeds c a) later) ≡ y ∷ ys
-      → Parts (auto.heeds c a) (heeds_in c now) later → Parts a now (calls c ∷ later)
+      → Parts (auto.heeds c a) (with_call c now) later → Parts a now (calls c ∷ later)
   called_before a now c later y ys on more u = record {
     before = calls c ∷ u.before;
     made = (on, u.made);
@@ -255,7 +256,7 @@ module _ (sends : Sends) (plan : Plan) (unit : ℕ) where
 
   call_unheard : (a : Auto Held) (now : Ends) (c : Call) (later : List Event) (n : Kept) (l : List Kept)
       → outcome_of a.state.stage ≡ None → kept_in (steps (auto.heeds c a) later) ≡ l
-      → (last_of (kept_in (steps (auto.heeds c a) later)) ≡ Some n → Parts (auto.heeds c a) (heeds_in c now) later)
+      → (last_of (kept_in (steps (auto.heeds c a) later)) ≡ Some n → Parts (auto.heeds c a) (with_call c now) later)
       → last_of (kept_in (steps a (calls c ∷ later))) ≡ Some n → is_end (note_for n) ≡ true → Parts a now (calls c ∷ later)
   call_unheard a now c later n [] runs empty on is ends =
       absurd (no_end_called c n (sym (ap (λ (l : List Kept). last_of (kept.Called c ∷ l)) empty) ∙ is) ends)
@@ -274,4 +275,4 @@ module _ (sends : Sends) (plan : Plan) (unit : ℕ) where
       ∙ ap (λ (x : Auto Held). then_at x what) same) made last ends) is ends
   unheard a now (calls c ∷ later) n same made is ends =
       call_unheard a now c later n (kept_in (steps (auto.heeds c a) later)) made.0 refl
-      (λ last. unheard (auto.heeds c a) (heeds_in c now) later n (ap (auto.heeds c) same) made.1 last ends) is ends
+      (λ last. unheard (auto.heeds c a) (with_call c now) later n (ap (auto.heeds c) same) made.1 last ends) is ends

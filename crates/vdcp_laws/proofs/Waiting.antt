@@ -1,5 +1,5 @@
 -- What waits for a later row is what rows may lack.
-use Rattle.std.proofs.Common.{◌≡◌, ℕ, arith, Bool, true, false, List, [], ◌∷◌, ◌++◌, Option, None, Some, append-nil, append_assoc, map, refl, sym, ap, ap₂, subst, ◌∙◌, if◌then◌else◌}
+use Rattle.std.proofs.Common.{◌≡◌, ℕ, arith, Bool, true, false, List, [], ◌∷◌, ◌++◌, Option, None, Some, append-nil, append_assoc, map, refl, sym, ap, subst, ◌∙◌, if◌then◌else◌}
 use Rattle.std.specs.Prelude.{IsTrue, ◌&&◌, bit_and}
 use Rattle.vdcp_port.specs.Clock.{ClockedPort}
 use Rattle.vdcp_words.specs.declared.command.Command.{Command}
@@ -20,15 +20,14 @@ use Rattle.vdcp_journal.specs.declared.row.Note.{Note}
 use Rattle.vdcp_journal.specs.declared.row.Note.TheVariants as note
 use Rattle.vdcp_journal.specs.declared.row.Row.{Row}
 use Rattle.vdcp_drive.specs.declared.hooks.Kept.{Kept}
-use Rattle.vdcp_journal_file.specs.Recorded as recorded
-use Rattle.vdcp_journal_file.specs.Recorded.{MayHold, WaitsSince, Waits, is_end}
+use Rattle.vdcp_journal_file.specs.Recorded.{WaitsSince, Waits, is_end, note_for}
 use Rattle.vdcp_journal_file.specs.Recording.{announces, notes_seen, rows_left, seen_before}
 use Rattle.vdcp_journal_file.specs.declared.pending.Pending.{Pending}
 use Rattle.vdcp_journal_file.specs.declared.pending.Pending.TheVariants as pending
 use Rattle.vdcp_journal_file.specs.declared.pending.Seen.{Seen}
 use Rattle.vdcp_laws.specs.Mended as safe
-use Rattle.vdcp_laws.specs.Mended.{AreSafe, AreUnkept, MayLack}
-use Rattle.vdcp_laws.specs.TwoEnds.{AreJoined, CanJoin, Ends, note_for}
+use Rattle.vdcp_laws.specs.Mended.{AreRejoined, AreSafe, AreUnkept, MayLack}
+use Rattle.vdcp_laws.specs.TwoEnds.{CanJoin, Ends}
 use Rattle.vdcp_laws.proofs.Announced.{thinned_more}
 use Rattle.vdcp_laws.proofs.Journaled.{AllTold, after_more, given_awaited, of_rows}
 use Rattle.vdcp_laws.proofs.Mended.{Below, made, noted_behind, still_announced, told_behind}
@@ -461,13 +460,6 @@ unkept_at plan e tell rows (pending.Over before asks hears plays row) part rest 
 
 -- All of it.
 
-note_is : (one : Kept) → recorded.note_for one ≡ note_for one
-note_is one = grind arith
-
-notes_are : (notes : List Kept) → map recorded.note_for notes ≡ map note_for notes
-notes_are [] = refl
-notes_are (one ∷ notes) = ap₂ (λ (n : Note) (l : List Note). n ∷ l) (note_is one) (notes_are notes)
-
 -- of these notes, and more behind them
 thinned_on : (all earlier some rows : List Note) → IsThinned all (earlier ++ some) → IsThinned some rows
     → IsThinned all (earlier ++ rows)
@@ -493,9 +485,7 @@ waits_behind before left earlier rows all notes thin none w =
     let waits : List Note = notes_in (rows_left left) in
     let mine : List Note = notes_in (rows_left before) in
     let since : Waits (mine ++ more) (notes_in rows) left =
-    subst (λ (l : List Note). Waits (mine ++ l) (notes_in rows) left) (notes_are notes)
-    (subst (λ (o : Option Seen). Waits (notes_seen o ++ (mine ++ map recorded.note_for notes)) (notes_seen o ++ notes_in rows) left)
-    none w) in
+    subst (λ (o : Option Seen). Waits (notes_seen o ++ (mine ++ more)) (notes_seen o ++ notes_in rows) left) none w in
     record {
       holds = since.holds;
       front = notes_in earlier ++ since.front;
@@ -512,7 +502,7 @@ waits_behind before left earlier rows all notes thin none w =
     }
 
 pub is_safe : Below → (plan : Plan) (port : ClockedPort) (asked : List Command) (e : Ends) (before left : Pending)
-    (earlier rows part rest : List Row) (all : List Note) (notes : List Kept) → CanJoin plan port asked → AreJoined plan port asked e
+    (earlier rows part rest : List Row) (all : List Note) (notes : List Kept) → CanJoin plan port asked → AreRejoined plan port asked e
     → IsThinned all (notes_in (earlier ++ rows_left before)) → seen_before before ≡ None → WaitsSince before notes rows left
     → rows_left left ≡ part ++ rest → e.notes ++ heard_since rest ≡ all ++ map note_for notes
     → AreSafe plan e ((earlier ++ rows) ++ part)

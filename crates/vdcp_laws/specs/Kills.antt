@@ -11,6 +11,7 @@ use Rattle.vdcp_auto.specs.Turn.{ended_by, given, outcome_of, taken, ticked}
 use Rattle.vdcp_auto.specs.declared.exchange.Exchange.{Exchange}
 use Rattle.vdcp_auto.specs.declared.exchange.Heard.{Heard}
 use Rattle.vdcp_auto.specs.declared.exchange.Heard.TheVariants as heard
+use Rattle.vdcp_auto.specs.declared.list_call.ListCall.{ListCall}
 use Rattle.vdcp_auto.specs.declared.phase.Mode.{Mode}
 use Rattle.vdcp_auto.specs.declared.phase.Mode.TheVariants.{Plain, Confirming}
 use Rattle.vdcp_journal.specs.declared.row.Note.{Note}
@@ -38,7 +39,7 @@ abbrev pub stray_notes : LateChannel → Mode → Reply → List Note
 stray_notes c Plain receipt = []
 stray_notes c Confirming receipt = heard_notes c (Some (heard.Reply receipt))
 
--- what the journal gets of an event: the command that is given out, what ended its exchange, the operator's calls
+-- what the journal gets of an event: the command that is given out, what ended its exchange, the operator's take and stop
 abbrev pub notes_of : LateChannel → LateEvent → List Note
 notes_of c event.Tick = option_to_list (option_map (λ command. note.Sent command) (given c.plan c.state))
 notes_of c event.Up = heard_notes c (heard_in c.port.state.unit (oldest c.up))
@@ -66,6 +67,9 @@ pub data IsRun : LateChannel → List Note → Type 0 where
       → IsRun (new_late_channel plan port down up) []
   happened : {c : LateChannel} {notes : List Note} → IsRun c notes → (e : LateEvent) → IsOfRun c e
       → IsRun (after_late_event c e) (notes ++ notes_of c e)
+  -- what the operator says of the list is no event
+  said : {c : LateChannel} {notes : List Note} → IsRun c notes → (call : ListCall) → outcome_of c.state.stage ≡ None
+      → IsRun c (notes ++ note.List call ∷ [])
 
 -- the next command is given and lost, and times out
 abbrev pub asked_in_vain : LateChannel → LateChannel

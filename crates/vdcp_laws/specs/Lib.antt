@@ -11,9 +11,11 @@ pub mod SeveralRuns
 pub mod TwoEnds
 pub mod InTime
 pub mod Untorn
+pub mod Bursts
 pub mod AsrunLaw
 pub mod LossyEvents
 pub mod Sessions
 pub mod Servers
 pub mod AsNew
 pub mod Stays
+pub mod Raised

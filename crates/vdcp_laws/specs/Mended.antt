@@ -1,12 +1,12 @@
 -- What a killed automation goes on as, whose rows are what is safe in its journal, and what going on writes behind them.
-use Rattle.std.specs.Prelude.{ℕ, ◌≡◌, ◌⊎◌, List, [], ◌∷◌, ◌++◌, Option, None, Some}
+use Rattle.std.specs.Prelude.{ℕ, ◌≡◌, List, [], ◌∷◌, ◌++◌, Option, None, Some}
 use Rattle.vdcp_value.specs.declared.part.Item.{Item}
 use Rattle.vdcp_words.specs.declared.command.Command.{Command}
 use Rattle.vdcp_words.specs.declared.command.Command.TheVariants as command
 use Rattle.vdcp_port.specs.Clock.{ClockedPort, after_frames}
 use Rattle.vdcp_auto.specs.Plan.{Plan}
 use Rattle.vdcp_auto.specs.State.{State}
-use Rattle.vdcp_auto.specs.Turn.{awaited, given, outcome_of, start}
+use Rattle.vdcp_auto.specs.Turn.{awaited, given, start}
 use Rattle.vdcp_auto.specs.declared.exchange.Exchange.{Exchange}
 use Rattle.vdcp_auto.specs.declared.exchange.Heard.{Heard}
 use Rattle.vdcp_auto.specs.declared.outcome.Outcome.TheVariants.{Lost}
@@ -16,7 +16,7 @@ use Rattle.vdcp_journal.specs.Thinned.{IsThinned, heard_last, notes_in}
 use Rattle.vdcp_journal.specs.declared.row.Note.{Note}
 use Rattle.vdcp_journal.specs.declared.row.Note.TheVariants as note
 use Rattle.vdcp_journal.specs.declared.row.Row.{Row}
-use Rattle.vdcp_journal_file.specs.Recording.{IsTimedOut, rows_left, seen_before}
+use Rattle.vdcp_journal_file.specs.Recording.{IsTimedOut, rows_left}
 use Rattle.vdcp_journal_file.specs.declared.pending.Pending.{Pending}
 use Rattle.vdcp_laws.specs.Automation.{new_prompt}
 use Rattle.vdcp_laws.specs.TwoEnds.{AreJoined, Ends, aired_now, new_ends, port_now}
@@ -46,23 +46,33 @@ pub record AreSafe (plan : Plan) (e : Ends) (rows : List Row) : Type 0 where
   pub may_lack : MayLack plan (after_rows plan start rows) (heard_last (notes_in rows)) unkept
   pub thinned : IsThinned e.notes (notes_in rows ++ unkept)
 
+-- notes, without those that say that the run was lost
+abbrev pub without_losses : List Note → List Note
+without_losses [] = []
+without_losses (note.End Lost ∷ notes) = without_losses notes
+without_losses (n ∷ notes) = n ∷ without_losses notes
+
+-- ends that are joined, but that their notes also say where the run was lost, and went on under a greater limit
+abbrev pub AreRejoined : Plan → ClockedPort → List Command → Ends → Type 0
+AreRejoined plan port asked e = AreJoined plan port asked (record e { notes = without_losses e.notes })
+
 -- and these ends are joined; their server has this port now, and these items aired
 pub record AreOfJoined (plan : Plan) (port : ClockedPort) (asked : List Command) (now : ClockedPort) (aired : List Item)
     (rows : List Row) : Type 0 where
   pub ends : Ends
-  pub joined : AreJoined plan port asked ends
+  pub joined : AreRejoined plan port asked ends
   pub port_is : port_now ends ≡ now
   pub aired_are : aired_now ends ≡ aired
   pub safe : AreSafe plan ends rows
 
 -- A session begins so: its ends are joined, and await nothing; a journal's rows, with what is still to be written behind them,
--- are one of theirs.
+-- are one of theirs: at most that what was open timed out.
 pub record IsSession (plan : Plan) (port : ClockedPort) (asked : List Command) (rows : List Row) (waits : Pending) (e : Ends)
     : Type 0 where
-  pub joined : AreJoined plan port asked e
+  pub joined : AreRejoined plan port asked e
   pub ready : awaited plan e.automation.state ≡ None
   pub thinned : IsThinned e.notes (notes_in (rows ++ rows_left waits))
-  pub unseen : seen_before waits ≡ None
+  pub unended : (command : Option Command) × IsTimedOut command waits
 
 -- what a new connection finds at a server whose port was left so: that port, after the frames since, or one that was made anew
 pub data Finds (left : ClockedPort) : ClockedPort → Type 0 where
@@ -81,13 +91,10 @@ anew port state = record (new_ends port []) { automation = record new_prompt { s
 abbrev pub behind : List Exchange → List Item → List Note → Ends → Ends
 behind log aired notes e = record e { log_before = log; aired_before = aired; notes = notes }
 
--- The controller of these rows goes on over a new connection to this port, behind what aired: both are joined, and a session
--- begins so, or the rows tell of a run that is lost.
+-- The controller of these rows goes on over a new connection to this port, behind what aired: a session begins so.
 pub record IsGoneOnWith (plan : Plan) (port : ClockedPort) (asked : List Command) (found : ClockedPort) (aired : List Item)
     (rows : List Row) : Type 0 where
   pub log : List Exchange
   pub notes : List Note
-  pub joined : AreJoined plan port asked (behind log aired notes (anew found (state_in plan rows)))
-  pub begins : (outcome_of (state_in plan rows).stage ≡ Some Lost)
-      ⊎ ((waits : Pending) → IsTimedOut (awaited plan (after_rows plan start rows)) waits
-      → IsSession plan port asked rows waits (behind log aired notes (anew found (state_in plan rows))))
+  pub begins : (waits : Pending) → IsTimedOut (awaited plan (after_rows plan start rows)) waits
+      → IsSession plan port asked rows waits (behind log aired notes (anew found (state_in plan rows)))

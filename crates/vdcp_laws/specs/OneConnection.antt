@@ -2,13 +2,11 @@
 use Rattle.std.specs.Prelude.{ℕ, List, [], ◌∷◌, None}
 use Rattle.vdcp_auto.specs.Plan.{Plan}
 use Rattle.vdcp_wire.specs.Wires.{Arrival, bytes, silence, close}
-use Rattle.vdcp_drive.specs.Auto.{Event, arrives, called, calls}
+use Rattle.vdcp_drive.specs.Auto.{Event, arrives, calls}
 use Rattle.vdcp_drive.specs.Reading.{completed}
-use Rattle.vdcp_drive.specs.declared.hooks.Call.{Call}
 use Rattle.vdcp_drive.specs.Turns.{Turn}
-use Rattle.vdcp_drive.specs.declared.hooks.Kept.TheVariants as kept
 use Rattle.vdcp_laws.specs.Automation.{listens}
-use Rattle.vdcp_laws.specs.TwoEnds.{Ends, note_for, notes_ended, notes_heard, wishing, with_automation, with_command, with_up}
+use Rattle.vdcp_laws.specs.TwoEnds.{Ends, notes_ended, notes_heard, with_automation, with_call, with_command, with_up}
 
 -- something came up to the automation
 abbrev pub hears_in : Plan → ℕ → Arrival → Ends → Ends
@@ -19,16 +17,11 @@ hears_in plan unit silence e =
 hears_in plan unit close e =
     with_automation (listens plan unit close e.automation) (notes_ended plan None e.automation.state) e
 
--- a call was made
-abbrev pub heeds_in : Call → Ends → Ends
-heeds_in c e =
-    with_automation (wishing (called c e.automation.state) e.automation) (note_for (kept.Called c) ∷ []) e
-
 -- all that happened to it: before each listen the next command is given
 abbrev pub ends_by : Plan → ℕ → Ends → List Event → Ends
 ends_by plan unit e [] = e
 ends_by plan unit e (arrives a ∷ later) = ends_by plan unit (hears_in plan unit a (with_command plan e)) later
-ends_by plan unit e (calls c ∷ later) = ends_by plan unit (heeds_in c e) later
+ends_by plan unit e (calls c ∷ later) = ends_by plan unit (with_call c e) later
 
 -- and these turns to the server; the next command is given
 abbrev pub ends_at : Plan → ℕ → Ends → List Event → List Turn → Ends

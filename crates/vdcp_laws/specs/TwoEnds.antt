@@ -10,20 +10,21 @@ use Rattle.vdcp_auto.specs.Course.{logged}
 use Rattle.vdcp_auto.specs.Plan.{Plan}
 use Rattle.vdcp_auto.specs.State.{State}
 use Rattle.vdcp_auto.specs.Heard.{heard_as}
-use Rattle.vdcp_auto.specs.Turn.{came_to, ended_by, given, outcome_of, stopped, taken}
+use Rattle.vdcp_auto.specs.Turn.{came_to, ended_by, given, outcome_of}
 use Rattle.vdcp_auto.specs.declared.exchange.Exchange.{Exchange}
 use Rattle.vdcp_auto.specs.declared.exchange.Heard.{Heard}
 use Rattle.vdcp_journal.specs.declared.row.Note.{Note}
-use Rattle.vdcp_journal.specs.declared.row.Note.TheVariants as note
+use Rattle.vdcp_journal_file.specs.Recorded.{note_for}
 use Rattle.vdcp_wire.specs.Wires.{Arrival, bytes, silence, close}
+use Rattle.vdcp_drive.specs.Auto.{called}
 use Rattle.vdcp_drive.specs.Steps.{given_notes}
 use Rattle.vdcp_laws.specs.Automation.{end_notes}
 use Rattle.vdcp_laws.specs.Automation.{Prompt, gives, hears, listens, new_prompt, receives}
 use Rattle.vdcp_laws.specs.Announced.{Announces}
 use Rattle.vdcp_laws.specs.Kills.{IsRun}
 use Rattle.vdcp_drive.specs.Reading.{Held, completed, holds}
-use Rattle.vdcp_drive.specs.declared.hooks.Call.TheVariants as call
-use Rattle.vdcp_drive.specs.declared.hooks.Kept.{Kept}
+use Rattle.vdcp_drive.specs.declared.hooks.Call.{Call}
+use Rattle.vdcp_drive.specs.declared.hooks.Call.TheVariants.{Take}
 use Rattle.vdcp_drive.specs.declared.hooks.Kept.TheVariants as kept
 use Rattle.vdcp_drive.specs.Serving.{Service, acts_of, begins, items_in, left_by, hook_steps}
 use Rattle.vdcp_drive.specs.Traces.{bytes_of, sent_in}
@@ -93,13 +94,6 @@ bytes_in (close ∷ later) = bytes_in later
 
 -- What the journal gets.
 
-abbrev pub note_for : Kept → Note
-note_for (kept.Sent command) = note.Sent command
-note_for (kept.Heard heard) = note.Heard heard
-note_for kept.Silence = note.Silence
-note_for (kept.Called call.Take) = note.Take
-note_for (kept.Called call.Stop) = note.Stop
-
 -- the command that is given next
 abbrev pub notes_given : Plan → State → List Note
 notes_given plan state = map note_for (given_notes (given plan state))
@@ -146,9 +140,10 @@ abbrev pub with_command : Plan → Ends → Ends
 with_command plan e = sending (option_to_list (given plan e.automation.state))
     (with_automation (gives e.automation) (notes_given plan e.automation.state) e)
 
--- the operator takes
-abbrev pub with_take : Ends → Ends
-with_take e = with_automation (wishing (taken e.automation.state) e.automation) (note.Take ∷ []) e
+-- the operator calls
+abbrev pub with_call : Call → Ends → Ends
+with_call c e =
+    with_automation (wishing (called c e.automation.state) e.automation) (note_for (kept.Called c) ∷ []) e
 
 -- this is heard
 abbrev pub with_heard : Plan → Heard → Ends → Ends
@@ -157,7 +152,7 @@ with_heard plan h e =
 
 -- the state is asked, if it wasn't; and what was heard last is heard once more, after a take
 abbrev pub heard_again : Plan → Heard → Ends → Ends
-heard_again plan h e = with_heard plan h (with_take (with_command plan e))
+heard_again plan h e = with_heard plan h (with_call Take (with_command plan e))
 
 -- What a killed automation goes on as: what its notes make it; or, if what was heard last announces a PLAY, which may
 -- have gone out without a note, what it is once that was given.
@@ -199,10 +194,8 @@ pub data Step (plan : Plan) (unit : ℕ) (e : Ends) : Ends → Type 0 where
   passed : Step plan unit e (with_down frame e)
   paused : Step plan unit e (with_down (listen silence) e)
   shut : Step plan unit e (with_down (listen close) e)
-  -- the operator's wishes, while it goes on
-  took : outcome_of e.automation.state.stage ≡ None → Step plan unit e (with_take e)
-  halted : outcome_of e.automation.state.stage ≡ None → Step plan unit e
-      (with_automation (wishing (stopped e.automation.state) e.automation) (note.Stop ∷ []) e)
+  -- the operator's calls, while it goes on
+  calls : (c : Call) → outcome_of e.automation.state.stage ≡ None → Step plan unit e (with_call c e)
   -- the automation is killed, and goes on from its journal over a new connection, once the server has left the old one
   resumed : {on : Ends} → GoesOn plan e on → Step plan unit e (connected_anew plan (port_now on) on)
   -- the same, to a server that was started anew

@@ -5,7 +5,7 @@ ghost use Rattle.vdcp_auto.specs.Plan.{Plan};
 ghost use Rattle.vdcp_auto.specs.declared.exchange.Heard.{Heard};
 ghost use Rattle.vdcp_auto.specs.Turn.{given, start};
 ghost use Rattle.vdcp_journal.specs.Mending.{mended, rows_at};
-ghost use Rattle.vdcp_journal.specs.Resume.{AreTold, after_rows};
+ghost use Rattle.vdcp_journal.specs.Resume.{AreTold, after_rows, plan_after};
 ghost use Rattle.vdcp_journal.specs.Runs.{last_run};
 ghost use Rattle.vdcp_journal.specs.Thinned.{AreThinned, IsThinned, asks_state, hears_done, hears_free, notes_in, takes};
 ghost use Rattle.vdcp_journal.specs.declared.moment.Moment.{Moment};
@@ -73,14 +73,16 @@ pub fn an_announced_play_may_go_out_unkept()
 
 /// A journal whose rows are safe of joined ends is gone on with, over a new connection to their server, or to one that was
 /// started anew: what going on adds (`mended`) may have gone out of them; taken for given, it makes the rows a journal of
-/// both ends again, joined behind what aired, and the controller that a session begins with; or the rows then say that the
-/// run was lost.
+/// both ends again, joined behind what aired, and the controller that a session begins with; under a limit that is greater
+/// wherever the rows say that the run was lost (`plan_after`).
 pub fn a_mended_journal_is_gone_on_with()
     ensures { (plan : Plan) (port now found : ClockedPort) (asked : List Command) (aired : List Item) (journal : List Row)
-        (time : Moment) → CanJoin plan port asked → AreOfJoined plan port asked now aired (last_run journal).rows →
-        Finds now found → IsGoneOnWith plan port asked found aired ((last_run journal).rows
-        ++ rows_at time (mended plan journal (last_run journal).rows)) }
+        (time : Moment) → CanJoin plan port asked → let run : List Row = (last_run journal).rows in
+        AreOfJoined (plan_after plan run) port asked now aired run → Finds now found →
+        let rows : List Row = run ++ rows_at time (mended (plan_after plan run) journal run) in
+        IsGoneOnWith (plan_after plan rows) port asked found aired rows }
 {
     vdcp_journal::laws::an_announced_play_comes_next();
+    vdcp_journal::laws::a_thinned_journal_makes_the_same();
     crate::two_ends::a_journal_makes_the_automation();
 }

@@ -19,6 +19,7 @@ ghost use Rattle.vdcp_drive.specs.Traces.{acts_in, bytes_of, came_in, kept_in, s
 ghost use Rattle.vdcp_drive.specs.Turns.{Turn};
 ghost use Rattle.vdcp_drive.specs.declared.hooks.Kept.{Kept};
 ghost use Rattle.vdcp_journal.specs.Mending.{mended, rows_at};
+ghost use Rattle.vdcp_journal.specs.Resume.{losses, plan_after};
 ghost use Rattle.vdcp_journal.specs.Runs.{last_run};
 ghost use Rattle.vdcp_journal.specs.declared.moment.Moment.{Moment};
 ghost use Rattle.vdcp_journal.specs.declared.row.Row.{Row};
@@ -35,6 +36,7 @@ ghost use Rattle.vdcp_laws.specs.OneConnection.{ends_by};
 ghost use Rattle.vdcp_laws.specs.Servers.{IsServed};
 ghost use Rattle.vdcp_laws.specs.Sessions.{AsksAt, IsHeldOn, acts_tried, asked_at, ends_left, ends_tried, log_tried, questions_at, start_at, state_tried};
 ghost use Rattle.vdcp_laws.specs.TwoEnds.{AreJoined, CanJoin, Ends, aired_now, asked_first, bytes_in, connected_anew, log_now, new_ends, port_now};
+ghost use Rattle.vdcp_operator.specs.declared.on_list.OnList.{OnList};
 ghost use Rattle.vdcp_run.specs.Asking.{AreAsked, Start, over};
 ghost use Rattle.vdcp_run.specs.Ends.{Reports};
 ghost use Rattle.vdcp_run.specs.Run.{IsAtRest, reported_text};
@@ -54,55 +56,55 @@ use vdcp_port::Catalogue;
 use vdcp_wire::Wire;
 
 /// The headline holds of what `vdcp run` does over a connection with an ear that hears at once (`HasTried`, which
-/// `play_over` gives with a new ear), its first questions and any number of held PLAYs included, if the wires carry to each
+/// `play_over` gives with a new ear), its first questions and any number of events held back included, if the wires carry to each
 /// end, in order, a beginning of what the other sent by then. The controller is new, or goes on from its journal over a
 /// new connection; the server hears at once, or at silences none of which tears a command.
 pub fn a_session_keeps_the_headline<C: Catalogue, A: Wire, D: Disk, B: Wire, H: ServerHooks<C>>()
     ensures headline { (plan : Plan) (from : ℕ) (settings : RunSettings) (port : ClockedPort) (asked : List Command) (e : Ends)
-        (wire last : A) (recorder : Option (Recording D)) (count : ℕ) (signs : Signs) (end : RunEnd) (turns : List Turn)
-        (below : List Act) (aired : List Item) →
+        (wire last : A) (recorder : Option (Recording D)) (count : ℕ) (signs : Signs) (list : OnList) (end : RunEnd)
+        (turns : List Turn) (below : List Act) (aired : List Item) →
         CanJoin plan port asked → AreJoined plan port asked e → awaited plan e.automation.state ≡ None →
         (tried : HasTried A.does D.safe at_once (record settings { unit = port.state.unit })
-        (onset_of (start_at plan from e) e.automation.held (over wire recorder) count signs) last end) →
+        (onset_of (start_at plan from e) e.automation.held (over wire recorder) count signs list) last end) →
         IsServed B.does H.can_act H.does e turns below aired →
         AreCarried port.state.unit e (acts_tried tried) below →
         EndsHeadline plan port.clips (state_tried tried) (log_now e ++ log_tried tried) aired }
     ensures joined { (plan : Plan) (from : ℕ) (settings : RunSettings) (port : ClockedPort) (asked : List Command) (e : Ends)
-        (wire last : A) (recorder : Option (Recording D)) (count : ℕ) (signs : Signs) (end : RunEnd) (turns : List Turn)
-        (below : List Act) (aired : List Item) →
+        (wire last : A) (recorder : Option (Recording D)) (count : ℕ) (signs : Signs) (list : OnList) (end : RunEnd)
+        (turns : List Turn) (below : List Act) (aired : List Item) →
         AreJoined plan port asked e → awaited plan e.automation.state ≡ None →
         (tried : HasTried A.does D.safe at_once (record settings { unit = port.state.unit })
-        (onset_of (start_at plan from e) e.automation.held (over wire recorder) count signs) last end) →
+        (onset_of (start_at plan from e) e.automation.held (over wire recorder) count signs list) last end) →
         IsServed B.does H.can_act H.does e turns below aired →
         AreCarried port.state.unit e (acts_tried tried) below →
         AreJoined plan port asked (ends_tried tried e (e.downs ++ turns)) }
     // A session that leaves its line at rest, with each command answered, leaves nothing on its way.
     ensures answered { (plan : Plan) (from : ℕ) (settings : RunSettings) (port : ClockedPort) (asked : List Command) (e : Ends)
-        (wire last : A) (recorder : Option (Recording D)) (count : ℕ) (signs : Signs) (end : RunEnd) (turns : List Turn)
-        (below : List Act) (aired : List Item) →
+        (wire last : A) (recorder : Option (Recording D)) (count : ℕ) (signs : Signs) (list : OnList) (end : RunEnd)
+        (turns : List Turn) (below : List Act) (aired : List Item) →
         CanJoin plan port asked → AreJoined plan port asked e → AreAnswered e → awaited plan e.automation.state ≡ None →
         (tried : HasTried A.does D.safe at_once (record settings { unit = port.state.unit })
-        (onset_of (start_at plan from e) e.automation.held (over wire recorder) count signs) last end) →
+        (onset_of (start_at plan from e) e.automation.held (over wire recorder) count signs list) last end) →
         end.signs.unanswered ≡ false → IsAtRest end.line →
         IsServed B.does H.can_act H.does e turns below aired →
         AreCarried port.state.unit e (acts_tried tried) below → let now : Ends = ends_left tried e (e.downs ++ turns) in
         AreJoined plan port asked now × AreAnswered now }
     // If nothing is on its way, the headline holds of the next one over the same wire, of whatever list, and of what airs then.
     ensures follows { (plan next : Plan) (from : ℕ) (settings : RunSettings) (port : ClockedPort) (asked : List Command) (e : Ends)
-        (wire last : A) (recorder : Option (Recording D)) (count : ℕ) (signs : Signs) (end : RunEnd) (turns : List Turn)
-        (below : List Act) (since : List Item) →
+        (wire last : A) (recorder : Option (Recording D)) (count : ℕ) (signs : Signs) (list : OnList) (end : RunEnd)
+        (turns : List Turn) (below : List Act) (since : List Item) →
         CanJoin plan port asked → AreJoined plan port asked e → AreAnswered e →
         let now : ClockedPort = port_now e in let new : Ends = new_ends now [] in CanJoin next now [] →
         (tried : HasTried A.does D.safe at_once (record settings { unit = now.state.unit })
-        (onset_of (start_at next from new) (holds []) (over wire recorder) count signs) last end) →
+        (onset_of (start_at next from new) (holds []) (over wire recorder) count signs list) last end) →
         IsServed B.does H.can_act H.does e turns below (aired_now e ++ since) →
         AreCarried now.state.unit e (acts_tried tried) below →
         EndsHeadline next now.clips (state_tried tried) (log_tried tried) since
         × AreJoined next now [] (ends_tried tried new turns) }
     // What it reports is that of the headline.
     ensures reported { (plan : Plan) (from : ℕ) (settings : RunSettings) (e : Ends) (wire last : A) (recorder : Option (Recording D))
-        (count : ℕ) (signs : Signs) (end : RunEnd) → (tried : HasTried A.does D.safe at_once settings
-        (onset_of (start_at plan from e) e.automation.held (over wire recorder) count signs) last end) →
+        (count : ℕ) (signs : Signs) (list : OnList) (end : RunEnd) → (tried : HasTried A.does D.safe at_once settings
+        (onset_of (start_at plan from e) e.automation.held (over wire recorder) count signs list) last end) →
         Reports from (state_tried tried) end }
     // If it began with the first event, the text that is written of what it reports has a row for each item that aired, in
     // order, but for the last at most.
@@ -110,10 +112,11 @@ pub fn a_session_keeps_the_headline<C: Catalogue, A: Wire, D: Disk, B: Wire, H: 
         (aired : List Item) (end : RunEnd) → EndsHeadline plan clips state log aired → Reports 0 state end →
         IsOfAired rate plan.list aired end.reported
         × (reported_text rate plan.list 0 end.reported ≡ asrun_text rate plan.list end.reported) }
-    ensures given { (settings : RunSettings) (start : Start) (wire last : A) (recorder : Option (Recording D)) (end : RunEnd) →
-        TriesOver A.does D.safe (record settings { hearing = Hearing.AtOnce }) start wire last recorder end →
+    ensures given { (settings : RunSettings) (start : Start) (list : OnList) (wire last : A) (recorder : Option (Recording D))
+        (end : RunEnd) →
+        TriesOver A.does D.safe (record settings { hearing = Hearing.AtOnce }) start list wire last recorder end →
         HasTried A.does D.safe at_once (record settings { hearing = Hearing.AtOnce })
-        (onset_of start (holds []) (over wire recorder) settings.listens signs_at_first) last end }
+        (onset_of start (holds []) (over wire recorder) settings.listens signs_at_first list) last end }
 {
     what_is_below();
     two_ends_are_a_late_channel();
@@ -126,8 +129,8 @@ pub fn a_session_keeps_the_headline<C: Catalogue, A: Wire, D: Disk, B: Wire, H: 
 }
 
 /// A session that is killed at any moment, whatever its recorder had written by then, leaves a journal whose rows are safe of
-/// joined ends, with the server's port and all that aired. So the journal is gone on with
-/// (`a_mended_journal_is_gone_on_with`).
+/// joined ends, with the server's port and all that aired; it writes of no loss. So the journal is gone on with
+/// (`a_mended_journal_is_gone_on_with`), also if the run is then lost (`a_greater_limit_joins_the_same`).
 pub fn a_killed_session_is_safe<C: Catalogue, A: Wire, B: Wire, H: ServerHooks<C>>()
     ensures safe { (plan : Plan) (from : ℕ) (port : ClockedPort) (asked : List Command) (e on last : Ends)
         (events : List Event) (rows : List Kept) (so_far out since : List Act) (turns : List Turn) (below : List Act)
@@ -142,8 +145,9 @@ pub fn a_killed_session_is_safe<C: Catalogue, A: Wire, B: Wire, H: ServerHooks<C
         IsServed B.does H.can_act H.does e turns below aired →
         AreCarried port.state.unit e (so_far ++ (acts_in (questions_at asks) ++ (acts_in steps ++ (out ++ since)))) below →
         kept_in steps ++ rows ≡ one ∷ more → WaitsSince before (one ∷ more) written waits →
-        rows_left waits ≡ part ++ rest → AreOfJoined plan port asked (port_now (record e { downs = e.downs ++ turns })) aired
-        ((earlier ++ written) ++ part) }
+        rows_left waits ≡ part ++ rest → let left : List Row = (earlier ++ written) ++ part in
+        AreOfJoined plan port asked (port_now (record e { downs = e.downs ++ turns })) aired left
+        × (losses left ≡ losses first) }
     // One that asked before it kept anything more, whatever of that went out, is one with the rows that it had then.
     ensures asking { (plan : Plan) (from : ℕ) (port : ClockedPort) (asked questions : List Command) (e on : Ends)
         (so_far acts : List Act) (unsent : List ℕ) (turns : List Turn) (below : List Act) (aired : List Item)
@@ -165,23 +169,25 @@ pub fn a_killed_session_is_safe<C: Catalogue, A: Wire, B: Wire, H: ServerHooks<C
     vdcp_drive::laws::steps_are_exchanges::<AtOnce>();
     vdcp_run::laws::only_questions_are_asked::<AtOnce, A>();
     vdcp_journal::laws::an_announced_play_comes_next();
+    vdcp_journal::laws::a_thinned_journal_makes_the_same();
     a_journal_makes_the_automation();
 }
 
-/// The headline holds over a kill: what aired before it, and what airs since in the session that goes on, are together a
-/// beginning of the playlist, and the report lacks one event at most.
+/// The headline holds over a kill, and over a loss: what aired before it, and what airs since in the session that goes on, are
+/// together a beginning of the playlist, and the report lacks one event at most.
 pub fn sessions_keep_the_headline<C: Catalogue, A: Wire, D: Disk, B: Wire, H: ServerHooks<C>>()
     ensures { (plan : Plan) (from : ℕ) (settings : RunSettings) (port now found : ClockedPort) (asked : List Command)
         (journal : List Row) (time : Moment) (wire last : A) (recorder : Option (Recording D)) (count : ℕ) (signs : Signs)
-        (end : RunEnd) (turns : List Turn) (below : List Act) (before since : List Item) →
-        CanJoin plan port asked → AreOfJoined plan port asked now before (last_run journal).rows → Finds now found →
-        let rows : List Row = rows_at time (mended plan journal (last_run journal).rows) in
-        let state : State = state_in plan ((last_run journal).rows ++ rows) in
+        (list : OnList) (end : RunEnd) (turns : List Turn) (below : List Act) (before since : List Item) →
+        CanJoin plan port asked → let run : List Row = (last_run journal).rows in
+        AreOfJoined (plan_after plan run) port asked now before run → Finds now found →
+        let rows : List Row = run ++ rows_at time (mended (plan_after plan run) journal run) in
+        let on : Plan = plan_after plan rows in let state : State = state_in on rows in
         (tried : HasTried A.does D.safe at_once (record settings { unit = port.state.unit })
-        (onset_of (start_at plan from (anew found state)) (holds []) (over wire recorder) count signs) last end) →
+        (onset_of (start_at on from (anew found state)) (holds []) (over wire recorder) count signs list) last end) →
         IsServed B.does H.can_act H.does (anew found state) turns below since →
         AreCarried port.state.unit (anew found state) (acts_tried tried) below → (log : List Exchange) ×
-        EndsHeadline plan port.clips (state_tried tried) (log ++ log_tried tried) (before ++ since) }
+        EndsHeadline on port.clips (state_tried tried) (log ++ log_tried tried) (before ++ since) }
 {
     a_mended_journal_is_gone_on_with();
     a_session_keeps_the_headline::<C, A, D, B, H>();

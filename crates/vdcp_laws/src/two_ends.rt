@@ -33,6 +33,7 @@ ghost use Rattle.vdcp_drive.specs.declared.line.Ran.{Ran};
 ghost use Rattle.vdcp_drive.specs.Serving.{acts_of, begins, items_in, left_by, hook_steps};
 ghost use Rattle.vdcp_drive.specs.Turns.{Turn};
 ghost use Rattle.vdcp_world.specs.LateLine.LateHeadline.{is_late_complete};
+ghost use Rattle.vdcp_journal_file.specs.Recorded.{note_for};
 ghost use Rattle.vdcp_laws.specs.AsNew.{AreAnswered, IsAsNew};
 ghost use Rattle.vdcp_laws.specs.Automation.{new_prompt};
 ghost use Rattle.vdcp_laws.specs.Announced.{Announces, played_notes};
@@ -42,7 +43,7 @@ ghost use Rattle.vdcp_laws.specs.EndsHeadline.{EndsHeadline};
 ghost use Rattle.vdcp_laws.specs.OneConnection.{ends_at};
 ghost use Rattle.vdcp_laws.specs.Servers.{IsServed};
 ghost use Rattle.vdcp_laws.specs.SeveralRuns.{AiredEvent, AsksAtMost, HaveAired, IsEvent, aired_from};
-ghost use Rattle.vdcp_laws.specs.TwoEnds.{AreJoined, AreLed, CanJoin, Ends, IsLateChannel, IsSince, Step, aired_now, connected_anew, heard_again, log_now, new_ends, note_for, notes_given, port_now, with_command, with_kept};
+ghost use Rattle.vdcp_laws.specs.TwoEnds.{AreJoined, AreLed, CanJoin, Ends, IsLateChannel, IsSince, Step, aired_now, connected_anew, heard_again, log_now, new_ends, notes_given, port_now, with_command, with_kept};
 ghost use Rattle.vdcp_laws.specs.Untorn.{AreUntorn, at_once_for, server_at_silences};
 ghost use Rattle.vdcp_laws.specs.InTime.{AreChannel, AreNewInTime, CutsShort, IsInTime, IsNoStopNote, IsNoTakeNote, IsPiece};
 
@@ -159,10 +160,10 @@ pub fn several_runs_air_each_event_once()
     vdcp_auto::laws::a_log_grows();
 }
 
-/// A new automation and a server in time, of which nothing awaited times out before all that was sent has come, are a
-/// channel that loses nothing, and so keep its headline, whatever state the port was in. A playable list that isn't stopped
-/// airs whole (`plays`: `docs/PROOFS.md` has the number of exchanges), and without a take no clip is cut short (`uncut`), also
-/// behind an event that was left out while it was cued.
+/// If nothing awaited times out before all that was sent has come (`AreNewInTime`), a new automation and a server, its port
+/// in any state, are a channel that loses nothing, and keep its headline. A playable list that isn't stopped airs whole
+/// (`plays`: `docs/PROOFS.md` has the number of exchanges), and without a take no clip is cut short (`uncut`), also behind an
+/// event that was left out while it was cued.
 pub fn ends_in_time_are_a_channel()
     ensures channel { (plan : Plan) (port : ClockedPort) (e : Ends) → CanRun plan port → AreNewInTime plan port e →
         AreChannel plan port e }
@@ -196,9 +197,9 @@ pub fn what_is_never_silent_is_in_time<C: Catalogue, B: Wire, H: ServerHooks<C>>
     vdcp_drive::laws::steps_are_exchanges::<AtOnce>();
 }
 
-/// An automation that is killed goes on as of its last safe note, if it gave no command since: what came since is lost, the
-/// server is as it is now, and a new connection may follow, also with the PLAY that the notes announce. Its next command,
-/// which may have gone out without its row, may be taken for given, too.
+/// A killed automation goes on from its last safe note, if it gave no command since: what came since is lost, and the
+/// server stays as it is. A new connection may follow. The next command, or a PLAY that the notes announce, may have gone
+/// out without its row: going on may take it for given.
 pub fn a_kill_loses_what_came_since()
     ensures joined { (plan : Plan) (port : ClockedPort) (asked : List Command) (kept now : Ends) →
         AreJoined plan port asked kept → IsSince plan port.state.unit kept now → AreJoined plan port asked (with_kept kept now) }

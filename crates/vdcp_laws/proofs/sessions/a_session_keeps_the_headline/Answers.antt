@@ -35,55 +35,55 @@ headlines g c =
     record { ends = c.two_ends_are_a_late_channel.ensures.ends; headline = c.a_late_line_keeps_the_headline.ensures }
 
 pub returns-clause-joined : goal.returns-clause-joined
-returns-clause-joined g c plan from settings port asked e wire last recorder count signs end turns below aired j ready tried served
+returns-clause-joined g c plan from settings port asked e wire last recorder count signs list end turns below aired j ready tried served
     carried =
     led_on plan port.state.unit (new_ends port asked) e _ j
-    (tried_led (tried_laws g c) (headlines g c) plan from settings port e (over wire recorder) count signs last end ready tried turns
+    (tried_led (tried_laws g c) (headlines g c) plan from settings port e (over wire recorder) count signs list last end ready tried turns
     below aired (served_so (laws g c) e turns below aired served) carried)
 
 pub returns-clause-headline : goal.returns-clause-headline
-returns-clause-headline g c plan from settings port asked e wire last recorder count signs end turns below aired can j ready tried
+returns-clause-headline g c plan from settings port asked e wire last recorder count signs list end turns below aired can j ready tried
     served carried =
     subst (EndsHeadline plan port.clips (state_tried tried) (log_now e ++ log_tried tried))
     (served_so (laws g c) e turns below aired served).aired_is
-    (tried_headline (tried_laws g c) (headlines g c) plan from settings port e (over wire recorder) count signs last end ready tried
+    (tried_headline (tried_laws g c) (headlines g c) plan from settings port e (over wire recorder) count signs list last end ready tried
     asked (e.downs ++ turns) can
-    (returns-clause-joined g c plan from settings port asked e wire last recorder count signs end turns below aired j ready tried served
+    (returns-clause-joined g c plan from settings port asked e wire last recorder count signs list end turns below aired j ready tried served
     carried))
 
 pub returns-clause-answered : goal.returns-clause-answered
-returns-clause-answered g c plan from settings port asked e wire last recorder count signs end turns below aired can j answered ready
+returns-clause-answered g c plan from settings port asked e wire last recorder count signs list end turns below aired can j answered ready
     tried calm rest served carried =
     let law = tried_laws g c in
     let begun = over wire recorder in
-    let free = tried_rests law (headlines g c) plan from settings port e begun count signs last end ready tried rest in
+    let free = tried_rests law (headlines g c) plan from settings port e begun count signs list last end ready tried rest in
     let now = ends_left_by tried.ended (ends_held tried.held e) in
     let joined = led_on plan port.state.unit (new_ends port asked) e _ j
-    (tried_left law (headlines g c) plan from settings port e begun count signs last end ready tried turns below aired free
+    (tried_left law (headlines g c) plan from settings port e begun count signs list last end ready tried turns below aired free
     (served_so (laws g c) e turns below aired served) carried) in (
       joined,
       still_answered c.what_is_below.ensures plan port asked e now (acts_tried tried) (e.downs ++ turns) can j joined answered
-          (tried_answers law (headlines g c) plan from settings port e begun count signs last end ready tried calm free),
+          (tried_answers law (headlines g c) plan from settings port e begun count signs list last end ready tried calm free),
     )
 
 pub returns-clause-follows : goal.returns-clause-follows
-returns-clause-follows g c plan next from settings port asked e wire last recorder count signs end turns below since can j answered
+returns-clause-follows g c plan next from settings port asked e wire last recorder count signs list end turns below since can j answered
     can_next tried served carried =
     let new = as_new c.what_is_below.ensures plan port asked e can j answered in
     let now = port_now e in
     let served_now = servers.went_on since (sym new.server_is) served in
     let carried_now = carried_since e new.come carried in (
-      returns-clause-headline g c next from settings now [] (new_ends now []) wire last recorder count signs end turns below since can_next
+      returns-clause-headline g c next from settings now [] (new_ends now []) wire last recorder count signs list end turns below since can_next
           begun refl tried served_now carried_now,
-      returns-clause-joined g c next from settings now [] (new_ends now []) wire last recorder count signs end turns below since begun refl
+      returns-clause-joined g c next from settings now [] (new_ends now []) wire last recorder count signs list end turns below since begun refl
           tried served_now carried_now,
     )
 
 pub returns-clause-given : goal.returns-clause-given
-returns-clause-given g c settings start wire last recorder end tried = tried
+returns-clause-given g c settings start list wire last recorder end tried = tried
 
 pub returns-clause-reported : goal.returns-clause-reported
-returns-clause-reported g c plan from settings e wire last recorder count signs end tried =
+returns-clause-reported g c plan from settings e wire last recorder count signs list end tried =
     tried_reports _ last end tried
 
 pub returns-clause-asrun : goal.returns-clause-asrun
