@@ -156,8 +156,8 @@ fn hold<C: Catalogue, R: Clock + AllocGlobal, W: Wire>(
     Ok(hold_answer(asker.alloc(), burst, came.as_slice(), follower)?)
 }
 
-/// Holds what came for a burst against what the follower may answer. If it may, the follower has got the burst, too; else
-/// the answer is the difference.
+/// Compares what came for a burst with all that a right port may answer. If it is one of these, the follower goes on
+/// behind the burst; else the difference is returned.
 pub fn hold_answer<C: Catalogue>(
     alloc: Global,
     burst: &[u8],

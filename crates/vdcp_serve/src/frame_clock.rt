@@ -24,7 +24,7 @@ impl FrameClock {
         }
     }
 
-    /// Counts a frame if one more is over: so the count is never ahead of the clock, and where it stays none is over.
+    /// Counts one frame if the clock is ahead of the count, and says whether it did.
     pub fn count(&mut self, now: u64) -> bool
         ensures over { result ≡ is_frame_over now self.old }
         ensures counts { self.new ≡ counted result self.old }

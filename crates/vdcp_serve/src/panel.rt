@@ -83,7 +83,7 @@ impl<'a, R: Clock + AllocGlobal> PortPanel<'a, R> {
         self.seen.from = from;
     }
 
-    /// Notes what went to air, as this number, counted from 0.
+    /// An item has gone to air: `number` counts these from 0 over all connections.
     pub fn note(&mut self, number: u64, item: Item)
         ensures { (at : ℕ) × (self.new ≡ noting (record { number = number; item = item; at = at }) self.old) }
     {

@@ -56,7 +56,7 @@ impl<'e, S: Source> Found<'e, S> {
         Ok(())
     }
 
-    /// A command that has heard nothing by the end of the capture went unanswered.
+    /// The capture is over: the last command went unanswered if it has heard nothing. Gives all that is to be told.
     pub fn end(self) -> Result<Told<'e, S>, AllocError>
         ensures { (settings : JudgeSettings) (items : List Item) (pieces : List Piece)
             → HasFound S.items settings items pieces self.entry → IfOk result (λ told. (findings : List Finding)
