@@ -25,15 +25,12 @@ def any_of(number, limit):
 
 
 def lists(rows):
-    """A catalogue in no order, and lists of its clips: whole ones, whole ones and parts, parts of a single frame."""
+    """A catalogue in no order, and lists of its clips: whole ones, and parts of a single frame."""
     lengths = [1 + any_of(number, 3000) for number in range(rows)]
     played = [any_of(number + 7, rows) for number in range(rows)]
-    starts = [any_of(place, lengths[number]) for place, number in enumerate(played)]
-    parts = [f"{time_of(start)},{time_of(1 + any_of(start, lengths[number] - start))}" if start % 2 else "," for start, number in zip(starts, played)]
     return {
         "catalogue.csv": [f"{id_of(number)},{time_of(lengths[number])}" for number in sorted(range(rows), key=lambda it: any_of(it, 104729))],
         "list.csv": [id_of(number) for number in played],
-        "parts.csv": [f"{id_of(number)},{part}" for number, part in zip(played, parts)],
         "frames.csv": [f"{id_of(number)},{time_of(0)},{time_of(1)}" for number in played],
     }
 
@@ -41,23 +38,22 @@ def lists(rows):
 # What a command and an answer are damaged into: other messages, bursts that are cut, bytes that begin nothing.
 DAMAGED = "04 0404 05 0501 058004 02 0202 02021001 02021001ee 04020210 00 9c 0200 03".split()
 
-# What befalls an exchange in plain mode, and events between two exchanges; {} is damage. And what befalls one in confirm mode besides.
+# What befalls an exchange in plain mode, and events between two exchanges; {} is damage.
 MISHAPS = (
     "tick lose-down timeout", "tick down lose-up timeout", "tick down-copy down up", "tick down up-copy up",
     "tick down-copy down-copy lose-down timeout", "tick alter-down={} down up", "tick down-copy alter-down={} down up",
     "tick down alter-up={} up", "tick down alter-up={} up timeout", "round", "round=3", "timeout", "ready", "end",
     "take", "frame", "frame=30",
 )
-FORGERIES = ("tick stray-ack down up", "tick stray-nak=01 lose-down timeout", "stray-nak=80")
 
 # How many events a line of this name stands for, for each 1 of its number.
 EVENTS_OF = {"round": 3, "good": 6, "frame": 1}
 
 
-def script(rows, mishaps):
+def script(rows):
     """Good rounds, a mishap after some of them: ten events for each row of the list that it plays."""
     lines, left, damaged = [], rows * 10, cycle(DAMAGED)
-    for mishap in cycle(mishaps):
+    for mishap in cycle(MISHAPS):
         for entry in ["good=3", "good=4", "good=6", *mishap.format(next(damaged)).split()]:
             name, _, number = entry.partition("=")
             left -= EVENTS_OF[name] * int(number or 1) if name in EVENTS_OF else 1
@@ -120,7 +116,7 @@ def journal(rows):
 
 def write_inputs(folder, rows):
     """Writes them all into a folder, each line with its end."""
-    files = {**lists(rows), "script.txt": script(rows, MISHAPS), "confirm.txt": script(rows, MISHAPS + FORGERIES), "bursts.csv": vectors(rows)}
+    files = {**lists(rows), "script.txt": script(rows), "bursts.csv": vectors(rows)}
     files["whole.csv"], files["journal.csv"], files["capture.csv"] = journal(rows)
     folder.mkdir()
     for name, lines in files.items():

@@ -29,17 +29,13 @@ static size_t frame(uint8_t *o, unsigned data) {
     return n;
 }
 
-/* Bursts of all kinds of messages, some damaged or cut; or of the largest messages. */
+/* Bursts of all kinds of messages, some damaged or cut. */
 static uint8_t bytes[1 << 20];
 static size_t ends[1 << 19], bursts;
-static void make(int largest) {
+static void make(void) {
     size_t n = 0;
     for (bursts = 0; n + 6000 < sizeof bytes; ends[bursts++] = n) {
         size_t begun = n;
-        if (largest) {
-            while (n - begun + 258 <= 4096) n += frame(bytes + n, 253);
-            continue;
-        }
         for (unsigned k = 1 + any() % 6; k; k--) {
             unsigned kind = any() % 8;
             if (kind < 2) bytes[n++] = 4;
@@ -106,8 +102,7 @@ static double turns_of_controller(size_t turns) {
 
 int main(int argc, char **argv) {
     static const struct { const char *name; double (*run)(size_t); size_t of; } rows[] = {
-        {"mixed bursts", reading, 1 << 20}, {"mixed, by sevens", reading, 7}, {"mixed, byte by byte", reading, 1}, {"largest messages", reading, 1 << 20},
-        {"port, 10 clips, an answer", exchanges, 10}, {"port, 100 clips, an answer", exchanges, 100}, {"port, 1000 clips, an answer", exchanges, 1000},
+        {"reader, a byte of bursts", reading, 1 << 20}, {"byte by byte", reading, 1}, {"port, 10 clips, an answer", exchanges, 10},
         {"port, 10000 clips, an answer", exchanges, 10000}, {"controller, an exchange", turns_of_controller, 20000},
     };
     int rounds = argc > 1 ? atoi(argv[1]) : 20, failed = 0;
@@ -118,10 +113,10 @@ int main(int argc, char **argv) {
         clips[k].length[1] = 0x10;
     }
     memcpy(list[0].id, "CLIP0001", 8);
+    make();
     for (size_t i = 0; i < sizeof rows / sizeof *rows; i++) {
         double least = 1e300, t;
         if (argc > 2 && strcmp(argv[2], rows[i].name)) continue;
-        make(!strncmp(rows[i].name, "largest", 7));
         for (int k = 0; k < rounds; k++)
             if ((t = rows[i].run(rows[i].of)) < least) least = t;
         failed |= least < 0;

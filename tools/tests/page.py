@@ -176,7 +176,7 @@ def leaves_out(page):
     must(column(page, 2)[2] == "", "one press leaves out an event")
     skips(page)["Skip: once more, event 2"].click()
     awaits(page, "the call", told="skip 2: made")
-    comes(lambda: column(page, 2) == ["on air", "cued", "left out"], lambda: f"the event isn't left out: {column(page, 2)}")
+    comes(lambda: column(page, 2) == ["on air", "cued", "left out: by hand"], lambda: f"the event isn't left out: {column(page, 2)}")
     must(skips(page) == {}, f"what is left out can be left out again, or all can be: {list(skips(page))}")
     can_be_read(page)
 
@@ -220,7 +220,7 @@ def follow_list(page):
 def before(page):
     page.get(URL)
     awaits(page, "what plays", air_item="CLIP0001", count=begins_with("five: 1 of 2 reported, from 3 on in this run"))
-    must(column(page, 2) == ["aired", "may have aired", "left out", "on air", "cued"], f"what the journal says: {column(page, 2)}")
+    must(column(page, 2) == ["aired", "may have aired", "left out: by hand", "on air", "cued"], f"what the journal says: {column(page, 2)}")
     at = column(page, 3)
     must(re.fullmatch(WORDS[0][11:19] + r" to ([01]\d|2[0-3]):[0-5]\d:[0-5]\d", at[0]) and at[1:3] == ["", ""], f"when it aired: {at}")
 
@@ -253,13 +253,13 @@ def lost(page):
 
 def down(page):
     page.get(URL)
-    awaits(page, "the first one", air_item="CLIP0001", health="runs")
+    awaits(page, "the first one", air_item="CLIP0001", health="runs", alarm="none")
     leaves_out(page)
     os.kill(int(WORDS[0]), signal.SIGTERM)
     awaits(
         page, "since when it is down",
         health=lambda it: re.fullmatch(r"line down since ([01]\d|2[0-3]):[0-5]\d:[0-5]\d: tried again each second", it),
-        air_item="CLIP0001", air_time=lambda it: re.fullmatch(r"for 00:00:\d\d, until ([01]\d|2[0-3]):[0-5]\d:[0-5]\d by its length", it),
+        alarm=begins_with("line down: "), air_item="CLIP0001", air_time=lambda it: re.fullmatch(r"for 00:00:\d\d, until ([01]\d|2[0-3]):[0-5]\d:[0-5]\d by its length", it),
     )  # fmt: skip
     must((class_of(page, "health"), page.find_element(By.TAG_NAME, "body").get_attribute("class")) == ("gone", "stale"), "that isn't told in red, or the rest isn't dim")
     types(page, "h")

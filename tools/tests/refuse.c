@@ -9,7 +9,8 @@
 // safe and renamed, and when something is sent: 'write FILE', 'sync FILE', 'rename FILE TO', without folders, and 'send TYPE', with a
 // message's type and command, in hexadecimal digits. With SLOW_SYNCS=N each sync of data takes so many milliseconds more. With KILL_AT=N it
 // kills the program at the act of this number: what it writes, makes safe, cuts off, sends or receives, and its connecting; KILL_HOW is 'before'
-// the act, 'after' it, or 'torn': half of what was to be written or sent is.
+// the act, 'after' it, or 'torn': half of what was to be written or sent is. With KILL_ROW=TEXT it does so at the first write to a file that has this
+// text, or, if KILL_HOW is 'safe', once that is made safe.
 #define _GNU_SOURCE
 #include <dlfcn.h>
 #include <errno.h>
@@ -41,17 +42,26 @@ static void die(void) {
     kill(getpid(), SIGKILL);
     for (;;) pause();
 }
-static int is_last(void) {
+static int row_is_written;
+static int is_last(int is_row) {
     static long acts;
-    int last = turn_of("KILL_AT", &acts) == 1;
+    int last = turn_of("KILL_AT", &acts) == 1 || is_row;
+    row_is_written |= is_row;
     if (last && is_killed("before")) die();
-    return last;
+    return last && !is_killed("safe");
 }
-#define ACT(type, call, ...) \
+#define ACT_OF(is_row, type, call, ...) \
     do { \
-        int last = is_last(); \
+        int last = is_last(is_row); \
         type result = NEXT(call)(__VA_ARGS__); \
         if (last) die(); \
+        return result; \
+    } while (0)
+#define ACT(type, call, ...) ACT_OF(0, type, call, __VA_ARGS__)
+#define MAKES_SAFE(call, file) \
+    do { \
+        int last = is_last(0), result = NEXT(call)(file); \
+        if (last || (row_is_written && is_killed("safe"))) die(); \
         return result; \
     } while (0)
 #define SOME(count) (last && is_killed("torn") ? (count + 1) / 2 : count)
@@ -92,7 +102,8 @@ ssize_t write(int file, const void *bytes, size_t count) {
     if (*path == '/' && getenv("INTERRUPTED") && ++files % 2) return refused(EINTR, "interrupted\n");
     if (*path == '/') TELL("write %s\n", last_part(path));
     if (!strncmp(path, "socket:", 7)) tell_of_sending(bytes, count);
-    ACT(ssize_t, write, file, bytes, SOME(count));
+    const char *row = getenv("KILL_ROW");
+    ACT_OF(*path == '/' && row && memmem(bytes, count, row, strlen(row)), ssize_t, write, file, bytes, SOME(count));
 }
 
 ssize_t read(int file, void *bytes, size_t count) {
@@ -119,14 +130,14 @@ int ftruncate(int file, off_t size) { ACT(int, ftruncate, file, size); }
 
 int fsync(int file) {
     TELL("sync %s\n", last_part(open_at(file)));
-    ACT(int, fsync, file);
+    MAKES_SAFE(fsync, file);
 }
 
 int fdatasync(int file) {
     const char *slow = getenv("SLOW_SYNCS");
     TELL("sync %s\n", last_part(open_at(file)));
     if (slow) usleep(1000 * atoi(slow));
-    ACT(int, fdatasync, file);
+    MAKES_SAFE(fdatasync, file);
 }
 
 int rename(const char *file, const char *to) {
