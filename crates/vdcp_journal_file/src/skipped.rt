@@ -83,7 +83,7 @@ pub(crate) fn why_skipped(unsure: Option<usize>, said: bool, outcome: Option<Out
     }
 }
 
-/// Why each of so many events in a row was left out: the first one for this reason, the others by hand.
+/// Gives a reason for each of `count` events that were left out in a row: `first` for the first one, by hand for the others.
 pub(crate) fn reasons(
     alloc: Global,
     count: usize,

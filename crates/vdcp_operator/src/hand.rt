@@ -596,14 +596,14 @@ fn until_for(is_held: bool, command: Option<Command>, start: Option<Duration>) -
     }
 }
 
-// While an answer is awaited a call on the list isn't given.
-// Behind its row no state is heard that was asked for before, and could announce a PLAY.
+// A state that was asked for before a call on the list, and is heard behind its row, could announce a PLAY.
 fn awaits_state<S: Source>(controller: &Controller<Rest<S>>) -> bool
     ensures { result ≡ asks_state (awaited (plan_of (items_left S.items) controller.now) controller.now.state) }
 {
     matches!(controller.awaited(), Some(Command::Status(_)))
 }
 
+// While a state is awaited a call on the list isn't given.
 fn ender_while(awaiting: bool) -> Ender
     ensures { result ≡ ender_while awaiting }
 {

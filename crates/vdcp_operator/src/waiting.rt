@@ -9,7 +9,7 @@ use arrayvec::ArrayVec;
 use vdcp_auto::ListCall;
 use vdcp_drive::Call;
 
-// So many calls can wait.
+// The most calls that can wait.
 const MOST_WAITING: usize = 16;
 
 /// In the order in which they are given.

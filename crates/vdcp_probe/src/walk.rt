@@ -157,7 +157,7 @@ fn hold<C: Catalogue, R: Clock + AllocGlobal, W: Wire>(
 }
 
 /// Compares what came for a burst with all that a right port may answer. If it is one of these, the follower goes on
-/// behind the burst; else the difference is returned.
+/// behind the burst; if not, this gives the difference.
 pub fn hold_answer<C: Catalogue>(
     alloc: Global,
     burst: &[u8],
